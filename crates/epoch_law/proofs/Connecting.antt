@@ -1,12 +1,18 @@
 -- Two ends of a link are connected.
 use Rattle.std.proofs.Common.{ℕ, ◌≤◌, List, [], ◌∷◌, length, map, subst}
 use Rattle.std.specs.List.{AllByRecursion}
+use Rattle.realtime_flags.specs.Bits.{IsBalanced}
+use Rattle.run_law.proofs.Changing.{words_were_raised}
+use Rattle.run_law.proofs.Resetting.{taken_were_raised}
 use Rattle.run_rules.specs.declared.State.{State}
 use Rattle.run_rules.specs.Lines.{ended}
 use Rattle.status_report.specs.Answering.{receive_room}
 use Rattle.step_line.specs.Logs.{NewestFirst}
 use Rattle.stream_host.specs.Conduct.{Conducted}
+use Rattle.stream_host.specs.Raises.{raises_in}
 use Rattle.stream_host.specs.Steps as hosts
+use Rattle.board_rules.specs.Ports as ports
+use Rattle.board_rules.specs.Takes.{takes_in}
 use Rattle.board_epochs.specs.Epochs.{Closed, Epochs, AreEpochs, log_of}
 use Rattle.epoch_effects.specs.Words.{words_taken}
 use Rattle.epoch_links.specs.Drops.{AreAnsweredOver, DropFew, closed_of, dropped_by}
@@ -25,4 +31,13 @@ connected host state r c are linked answered raised = record {
   link = subst (λ (bytes : List ℕ). AreLinked (host_did host).stored (host_did host).marks (host_did host).at_got (host_did host).shut bytes (board_did r).loaded (board_did r).at_answers (board_did r).closed) (ends_epochs state r are).whole linked;
   flags = raised;
   few = each_few (closed_of r) (drops_few host state r c are linked answered);
+}
+
+-- ---- words of flags
+
+pub words_raised : (words : List ℕ) (host : hosts.HostLog) (board : ports.BoardLog) → IsBalanced words (raises_in host) (takes_in board) → AreRaisedFor (hosts.bytes_raised_in host) (words_taken board)
+words_raised words host board balanced = record {
+  reset = ports.has_reset_in board;
+  taken = taken_were_raised words host board balanced;
+  changes = words_were_raised words host board balanced;
 }

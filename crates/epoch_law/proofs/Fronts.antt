@@ -75,7 +75,7 @@ module _ (form : Form) (job_was job_is : SourceState) (was is : Sinks) (end : Ho
       (as_front b.published p.got passed.pieces)
 
   all_passed : ArePassed b p
-  all_passed = record { pieces = same_pieces; halts = passed.halts; known = passed.known }
+  all_passed = record { pieces = same_pieces; halts = passed.halts }
 
   same_records : records ≡ p.put
   same_records =

@@ -31,7 +31,6 @@ pulse_ran p h k fits end =
       put = done_over p h k fits end;
       before = reverse d.1.0;
       ends = ap reverse d.1.1 ∙ reverse-append (pieces.End ∷ []) d.1.0;
-      ticks = d.3;
     }
 
 -- ---- the host

@@ -18,12 +18,11 @@ pub record AreRaisedFor (raised : List ℕ) (w : WordsTaken) : Type 0 where
   pub taken : AreTaken raised w.held w.slowed w.changed reset w.asked w.cancels
   pub changes : AreAskedIn raised w.changes
 
--- The pieces of a ring: those published are those that the pulse got or dropped; the halts that it stored are those that were seen, but for
--- one at no pieces, at which none is stored; and no more ticks were found done than it counted.
+-- The pieces of a ring: those published are those that the pulse got or dropped; and the halts that it stored are those that were seen, but
+-- for one at no pieces, at which none is stored.
 pub record ArePassed (b : BoardDid) (p : PulseDid) : Type 0 where
   pub pieces : p.got ≡ b.published
   pub halts : p.halts ≡ but_none b.halts
-  pub known : b.known ≤ p.counted
 
 -- Host and board by their link and the flags: what goes over the link goes together; what was taken of flags was raised; and the lines that
 -- each reset leaves without an answer take 128 bytes at most, each with its LF.
@@ -36,4 +35,3 @@ pub record AreConnected (h : HostDid) (b : BoardDid) : Type 0 where
 pub record ArePassedSome (b : BoardDid) (p : PulseDid) : Type 0 where
   pub pieces : BeginsWith b.published p.got
   pub halts : p.halts ≡ but_none b.halts
-  pub known : b.known ≤ p.counted

@@ -2,14 +2,14 @@
 use Rattle.std.specs.Prelude.{map, reverse}
 use Rattle.serial_ring.specs.Logs.{marked_in, taken_at_banners}
 use Rattle.stream_host.specs.Steps as hosts
-use Rattle.board_rules.specs.Ports.{has_closed_in, known_in, link_steps, sent_in}
+use Rattle.board_rules.specs.Ports.{has_closed_in, link_steps, sent_in}
 use Rattle.board_epochs.specs.Epochs.{Epochs, log_of}
 use Rattle.epoch_courses.specs.Told.{answered_by}
 use Rattle.epoch_effects.specs.Words.{words_taken}
 use Rattle.epoch_links.specs.Drops.{closed_of, dropped_by}
 use Rattle.epoch_links.specs.Taken.{taken_by}
 use Rattle.epoch_runs.specs.Epochs.{halts_seen, pieces_sent}
-use Rattle.pulse_engine.specs.Logs.{PieceLog, RecordLog, pieces_of, halts_of, counted, records_put}
+use Rattle.pulse_engine.specs.Logs.{PieceLog, RecordLog, pieces_of, halts_of, records_put}
 use Rattle.epoch_law.specs.Ran.{HostDid, BoardDid, PulseDid}
 
 abbrev pub host_did : hosts.Journal → HostDid
@@ -32,7 +32,6 @@ board_did es = record {
   answered = answered_by es;
   published = pieces_sent (sent_in (log_of es));
   halts = halts_seen (sent_in (log_of es));
-  known = known_in (log_of es);
   dropped = map dropped_by (closed_of es);
 }
 
@@ -40,6 +39,5 @@ abbrev pub pulse_did : PieceLog → RecordLog → PulseDid
 pulse_did h k = record {
   got = reverse (pieces_of h);
   halts = halts_of h;
-  counted = counted h;
   put = records_put k;
 }

@@ -5,7 +5,6 @@ use Rattle.flight.specs.Halts.{Stretch}
 use Rattle.flight.specs.Places.{origin}
 use Rattle.outside.specs.Causes.{SourceState, SinkState}
 use Rattle.planner_runs.specs.Runs.{fresh_plan}
-use Rattle.pulse_engine.specs.Logs.{ticks_in}
 use Rattle.run_rules.specs.Lines.{CutsInto, ended, lines_of}
 use Rattle.run_rules.specs.States.{IsOpening}
 use Rattle.run_rules.specs.declared.State.{State}
@@ -75,8 +74,8 @@ pub record HasSent (job_was job_is : SourceState) (console_was console_is : Sink
 
 -- What a board has done at its port: the bytes that it took, epoch by epoch; the marks that it loaded; how many bytes were taken when each
 -- Banner was answered, the latest first; whether it found the link closed; the words of flags that it took; the replies that it answered;
--- the pieces that it published; the halts that it has seen, the latest first; how many ticks it found done; and of each epoch that it has
--- ended the lines that it took and has not answered.
+-- the pieces that it published; the halts that it has seen, the latest first; and of each epoch that it has ended the lines that it
+-- took and has not answered.
 pub record BoardDid : Type 0 where
   pub taken : Pieces
   pub loaded : List Mark
@@ -86,7 +85,6 @@ pub record BoardDid : Type 0 where
   pub answered : List Reply
   pub published : List Piece
   pub halts : NewestFirst (ℕ × ℕ)
-  pub known : ℕ
   pub dropped : List (List (List ℕ))
 
 -- the ticks that reports are judged by were recorded: they are those that were made in the epoch
@@ -136,16 +134,15 @@ pub record BoardRan (d : BoardDid) : Type 0 where
 
 -- ---- the pulse
 
--- What a pulse has done at its ports: the pieces that it got or dropped; the halts that it stored, the latest first; how many ticks it
--- counted; and the records that it put.
+-- What a pulse has done at its ports: the pieces that it got or dropped; the halts that it stored, the latest first; and the records that
+-- it put.
 pub record PulseDid : Type 0 where
   pub got : List Piece
   pub halts : NewestFirst (ℕ × ℕ)
-  pub counted : ℕ
   pub put : List Record
 
 -- A pulse has run. Halts part what it got or dropped into stretches; of each it put the first records, up to the ticks that it counted,
--- and all records of what it got behind the last halt, of which the last is the end. It has counted each tick that it put.
+-- and all records of what it got behind the last halt, of which the last is the end.
 pub record PulseRan (d : PulseDid) : Type 0 where
   pub stretches : List Stretch
   pub last : List Piece
@@ -154,4 +151,3 @@ pub record PulseRan (d : PulseDid) : Type 0 where
   pub put : ArePutOver stretches last d.put
   pub before : List Piece
   pub ends : last ≡ before ++ pieces_as.End ∷ []
-  pub ticks : ticks_in d.put ≡ d.counted

@@ -1,10 +1,11 @@
 //! Laws of runs over epochs.
 
-ghost use Rattle.std.specs.Prelude.{◌≡◌, Bool, true, List, ◌∷◌};
+ghost use Rattle.std.specs.Prelude.{◌≡◌, ℕ, Bool, true, List, ◌∷◌};
 ghost use Rattle.outside.specs.Causes.{SourceState, SinkState};
 ghost use Rattle.pulse_engine.specs.Logs.{PieceLog, RecordLog, end_is_put};
 ghost use Rattle.pulse_engine.specs.Steps.{Pulsing};
 ghost use Rattle.pulse_engine.specs.Turns.{PulseFits};
+ghost use Rattle.realtime_flags.specs.Bits.{IsBalanced};
 ghost use Rattle.run_law.specs.Ran.{RecorderRan};
 ghost use Rattle.run_law.specs.Runs.{Sinks, run_end, slows_in};
 ghost use Rattle.run_rules.specs.States.{IsOpening};
@@ -19,9 +20,12 @@ ghost use Rattle.step_record.specs.declared.forms.Form.{Form};
 ghost use Rattle.stream_host.specs.Conduct.{Conducted as HostConducted};
 ghost use Rattle.stream_host.specs.Hosts.{TellsJob};
 ghost use Rattle.stream_host.specs.Ran.{HostEnd, HasFinished, TellsConsole, end_of};
-ghost use Rattle.stream_host.specs.Steps.{Journal as HostJournal, scanned_of, raises_of};
+ghost use Rattle.stream_host.specs.Raises.{raises_in};
+ghost use Rattle.stream_host.specs.Steps.{Journal as HostJournal, HostLog, bytes_raised_in, scanned_of, raises_of};
 ghost use Rattle.board_rules.specs.Conduct.{IsFinished};
+ghost use Rattle.board_rules.specs.Ports.{BoardLog};
 ghost use Rattle.board_rules.specs.Steps.{Journal};
+ghost use Rattle.board_rules.specs.Takes.{takes_in};
 ghost use Rattle.board_epochs.specs.Epochs.{Closed, Epochs, AreEpochs, log_of, opening_behind};
 ghost use Rattle.board_epochs.specs.Epochs.Epochs.{goes};
 ghost use Rattle.epoch_courses.specs.Told.{answered_by, without_byes};
@@ -63,6 +67,12 @@ pub fn actors_that_end_make_a_run()
 pub fn linked_ends_are_connected()
     ensures { (host : HostJournal) (state : State) (r : Epochs) → HostConducted host → AreEpochs state r → AreLinkedOver host r → AreAnsweredOver host r →
         AreRaisedFor (raises_of host) (words_taken (log_of r)) → AreConnected (host_did host) (board_did r) }
+{}
+
+/// What a board has taken of words of flags was raised, by the logs of host and board, if each flag was found down by as many raises as
+/// there are takes that had it, and by one more if it is up.
+pub fn words_that_are_taken_were_raised()
+    ensures { (words : List ℕ) (host : HostLog) (board : BoardLog) → IsBalanced words (raises_in host) (takes_in board) → AreRaisedFor (bytes_raised_in host) (words_taken board) }
 {}
 
 /// A board that keeps to its rules over epochs, has closed its run and has nothing left to do, has run, if what it has answered begins with
