@@ -63,7 +63,7 @@ use Rattle.epoch_law.proofs.Dropping.{drops_closed, none_dropped, none_passed}
 
 -- ---- what was taken
 
-closed_items : (es : NewestFirst Closed) → closed_texts es ≡ items_closed (taken_before es)
+pub closed_items : (es : NewestFirst Closed) → closed_texts es ≡ items_closed (taken_before es)
 closed_items [] = refl
 closed_items (e ∷ es) = ap (λ (ss : List Sent). ss ++ (texts_in (bytes_with e.journal e.work) ++ a_stop ∷ [])) (closed_items es) ∙ sym (items_more e es)
 

@@ -13,3 +13,5 @@ pub mod Published
 pub mod Boarding
 pub mod Fronts
 pub mod Connecting
+pub mod SoFar
+pub mod BoardingSoFar

@@ -2,3 +2,4 @@ pub mod Ran
 pub mod Joined
 pub mod Runs
 pub mod Journals
+pub mod SoFar

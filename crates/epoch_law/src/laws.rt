@@ -1,6 +1,7 @@
 //! Laws of runs over epochs.
 
-ghost use Rattle.std.specs.Prelude.{◌≡◌, ℕ, Bool, true, List, ◌∷◌};
+ghost use Rattle.std.specs.Prelude.{◌≡◌, ℕ, ◌≤◌, Bool, true, List, ◌∷◌};
+ghost use Rattle.flight.specs.Places.{origin};
 ghost use Rattle.outside.specs.Causes.{SourceState, SinkState};
 ghost use Rattle.pulse_engine.specs.Logs.{PieceLog, RecordLog, end_is_put};
 ghost use Rattle.pulse_engine.specs.Steps.{Pulsing};
@@ -12,7 +13,9 @@ ghost use Rattle.run_rules.specs.States.{IsOpening};
 ghost use Rattle.run_rules.specs.declared.State.{State};
 ghost use Rattle.run_texts.specs.Fits.{FitsTexts};
 ghost use Rattle.run_texts.specs.Fronts.{BeginsWith};
+ghost use Rattle.run_texts.specs.Parts.{parts_of};
 ghost use Rattle.run_texts.specs.Sent.{sent_of};
+ghost use Rattle.run_texts.specs.SoFar.{AreMadeSoFar, FitsSoFar};
 ghost use Rattle.status_report.specs.declared.Reply.{Reply as AnyReply};
 ghost use Rattle.step_line.specs.Logs.{NewestFirst};
 ghost use Rattle.step_line.specs.declared.Record.{Record as AnyRecord};
@@ -24,10 +27,11 @@ ghost use Rattle.stream_host.specs.Raises.{raises_in};
 ghost use Rattle.stream_host.specs.Steps.{Journal as HostJournal, HostLog, bytes_raised_in, scanned_of, raises_of};
 ghost use Rattle.board_rules.specs.Conduct.{IsFinished};
 ghost use Rattle.board_rules.specs.Ports.{BoardLog};
-ghost use Rattle.board_rules.specs.Steps.{Journal};
+ghost use Rattle.board_rules.specs.Steps.{Journal, known_of};
 ghost use Rattle.board_rules.specs.Takes.{takes_in};
 ghost use Rattle.board_epochs.specs.Epochs.{Closed, Epochs, AreEpochs, log_of, opening_behind};
 ghost use Rattle.board_epochs.specs.Epochs.Epochs.{goes};
+ghost use Rattle.epoch_courses.specs.Course.{open_journal};
 ghost use Rattle.epoch_courses.specs.Told.{answered_by, without_byes};
 ghost use Rattle.epoch_effects.specs.Words.{words_taken};
 ghost use Rattle.epoch_links.specs.Drops.{AreAnsweredOver};
@@ -36,6 +40,7 @@ ghost use Rattle.epoch_law.specs.Joined.{AreConnected, ArePassed, ArePassedSome,
 ghost use Rattle.epoch_law.specs.Journals.{host_did, board_did, pulse_did};
 ghost use Rattle.epoch_law.specs.Ran.{HostDid, HasSent, BoardDid, BoardRan, PulseDid, PulseRan};
 ghost use Rattle.epoch_law.specs.Runs.{IsRun};
+ghost use Rattle.epoch_law.specs.SoFar.{Sending, BeginWithBanner, BoardRuns};
 
 /// Where a host, a board and a pulse have run over epochs, the board has taken what the host has stored, the host has got what the board
 /// has answered, and the pulse has got or dropped what the board has published, the texts fit: the lines and resets that came of the job,
@@ -91,4 +96,17 @@ pub fn pulses_have_run()
 pub fn hosts_have_sent()
     ensures { (h : HostJournal) (job_was job_is : SourceState) (console_was console_is : SinkState) → HostConducted h → HasFinished h → TellsJob h job_was job_is → TellsConsole h console_was console_is →
         (sent : HasSent job_was job_is console_was console_is (host_did h) (end_of h)) × (sent.ran.scanned ≡ scanned_of h) }
+{}
+
+/// Before they end, what a host and a board have done fits so far, where what was recorded is made of the parts of the board's course.
+pub fn actors_make_texts_that_fit_so_far()
+    ensures { (job_was job_is : SourceState) (console_was console_is : SinkState) (h : HostDid) (b : BoardDid) (records : List AnyRecord) →
+        (host : Sending job_was job_is console_was console_is h) → (board : BoardRuns b) → AreConnected h b → BeginsWith b.answered h.got → AreMadeSoFar origin (parts_of board.course) records →
+        FitsSoFar (sent_of host.runs.lines host.rest) (slows_in host.runs.scanned) (without_byes h.got) records }
+{}
+
+/// A board that keeps to its rules over epochs runs, at any time, if what it has answered begins with the banner. So many ticks of its open
+/// epoch are made, at least those that it knows of.
+pub fn boards_run()
+    ensures { (state : State) (made : ℕ) (es : Epochs) → IsOpening state → AreEpochs state es → known_of (open_journal es) ≤ made → BeginWithBanner (without_byes (answered_by es)) → BoardRuns (board_did es) }
 {}
