@@ -32,7 +32,7 @@ use Rattle.board_rules.specs.Cuts.{has_cut}
 use Rattle.board_rules.specs.Conduct.{IsStopped}
 use Rattle.board_rules.proofs.Jogging.{OneMove, one_move, cancel_is_jog}
 use Rattle.board_rules.proofs.Keeping.{hand_is}
-use Rattle.board_rules.proofs.Limits.{few_lines}
+use Rattle.board_rules.proofs.Limits.{lines_in_bytes}
 use Rattle.board_turns.specs.declared.board.Board.{Board}
 use Rattle.board_machine.specs.declared.machine.Machine.{Machine}
 use Rattle.board_machine.specs.Machines.{Runs}
@@ -206,7 +206,7 @@ cut_made first c m i k at h keeps uncut found number place left same state runs 
       stopped = found.stopped;
       load = found.load;
       number = number;
-      mark = (let few = few_lines first h keeps.conducted in let short = keeps.short in omega (arith, few, short, number));
+      mark = (let few = lines_in_bytes first h keeps.conducted in let short = keeps.short in omega (arith, few, short, number));
     },
     keeps.conducted,
   );

@@ -56,7 +56,7 @@ pub record IsFlown (first : Opening) (f : Flying) (h : Journal) : Type 0 where
 pub record Keeps (first : Opening) (board : Board) (h : Journal) : Type 0 where
   pub placed : IsPlaced first
   pub free : is_limited first.motion ≡ false
-  pub short : first.lines + 2 < 2 ^ 31
+  pub short : first.lines + length (taken_of h) ≤ 2 ^ 31
   pub conducted : Conducted first h
   pub machine : Runs board.machine (plan_of h) (motion_of first h) (hand_of h) (given_of h)
   pub lines : Works board.lines (left_of first h) (before_of first h)
@@ -79,7 +79,7 @@ pub record Keeps (first : Opening) (board : Board) (h : Journal) : Type 0 where
 pub record KeepsBetween (first : Opening) (board : Board) (h : Journal) : Type 0 where
   pub placed : IsPlaced first
   pub free : is_limited first.motion ≡ false
-  pub short : first.lines + 2 < 2 ^ 31
+  pub short : first.lines + length (taken_of h) ≤ 2 ^ 31
   pub conducted : Conducted first h
   pub machine : Runs board.machine (plan_of h) (motion_of first h) (hand_of h) (given_of h)
   pub lines : Works board.lines (left_of first h) (before_of first h)

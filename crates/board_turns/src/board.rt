@@ -1,6 +1,6 @@
 //! The board.
 
-ghost use Rattle.std.specs.Prelude.{◌^◌, ◌≡◌, ◌≢◌, ◌↔◌, ◌<◌, [], ◌∷◌, length, ◌||◌, true, false, None, IfSome, IfNone};
+ghost use Rattle.std.specs.Prelude.{◌+◌, ◌^◌, ◌≡◌, ◌≢◌, ◌↔◌, ◌<◌, [], ◌∷◌, length, ◌||◌, true, false, None, IfSome, IfNone};
 ghost use Rattle.std.specs.List.{list_any};
 ghost use Rattle.feed_hold.specs.declared.Motion.TheVariants.{Idle};
 ghost use Rattle.outside.specs.declared.Turn.TheVariants.{Done};
@@ -13,7 +13,7 @@ ghost use Rattle.board_rules.specs.Ports.PortStep.{took};
 ghost use Rattle.run_rules.specs.declared.State.{State};
 ghost use Rattle.run_rules.specs.States.{IsOpening};
 ghost use Rattle.board_epochs.specs.Resets.{MayReset};
-ghost use Rattle.board_rules.specs.Steps.{Journal, port_log, left_of, motion_of, has_closed};
+ghost use Rattle.board_rules.specs.Steps.{Journal, port_log, taken_of, left_of, motion_of, has_closed};
 ghost use Rattle.board_rules.specs.Openings.{Opening, first_opening};
 ghost use Rattle.board_rules.specs.Steps.Step.{at_port};
 ghost use Rattle.board_rules.specs.Turns.{this_turn, tells_next, awaits_motion, begins_in, machine_in, needs_motion, flags_taken, found_nothing, has_blocks, is_full};
@@ -225,7 +225,7 @@ impl Board {
     fn keep(&mut self, byte: u8)
         requires flags { self.old.flags ≡ Flags.None }
         requires few { self.old.taken < 2 ^ 31 }
-        ensures kept { (first : Opening) (h : Journal) → Keeps first self.old h → MayTake first h → Keeps first self.new (at_port (took byte) ∷ h) }
+        ensures kept { (first : Opening) (h : Journal) → Keeps first self.old h → MayTake first h → first.lines + length (taken_of h) < 2 ^ 31 → Keeps first self.new (at_port (took byte) ∷ h) }
         ensures flags { (first : Opening) (h : Journal) → IsFree h → TakesFlags self.new.flags (at_port (took byte) ∷ h) }
         ensures same { self.new ≡ record self.old { input = self.new.input; flags = self.new.flags; taken = self.new.taken } }
     {

@@ -1,5 +1,5 @@
 -- What an epoch does at its port is what the port, which counts on, may be asked for; and what the port promises holds of the epoch.
-use Rattle.std.proofs.Common.{◌≡◌, ◌⊎◌, inl, inr, ℕ, ◌+◌, true, ◌∷◌, sym, ap, ◌∙◌, subst}
+use Rattle.std.proofs.Common.{◌≡◌, ◌⊎◌, inl, inr, ℕ, ◌+◌, ◌^◌, ◌<◌, true, List, [], ◌∷◌, length, length-append, sym, ap, ◌∙◌, subst, arith}
 use Rattle.run_rules.specs.Work.Task.{tell}
 use Rattle.status_report.specs.Answering.{is_report}
 use Rattle.status_report.specs.Replies.{IsReply}
@@ -9,19 +9,18 @@ use Rattle.step_line.specs.Logs.{NewestFirst}
 use Rattle.step_line.specs.declared.Piece.{Piece}
 use Rattle.board_rules.specs.Conduct.{Conducted, IsNextTask}
 use Rattle.board_rules.specs.Openings.{Opening}
-use Rattle.board_rules.specs.Ports.{BoardLog, MayAnswer, MayPublish, MayBeDone, LacksPieceRoom, HasTakenFew, HasFewReports, said}
+use Rattle.board_rules.specs.Ports.{BoardLog, MayAnswer, MayPublish, MayBeDone, LacksPieceRoom, HasTakenFew, HasFewReports, said, taken_in}
 use Rattle.board_rules.specs.Ports.PortStep.{published, no_piece_room, loaded}
 use Rattle.board_rules.specs.Steps.{Journal, port_log}
 use Rattle.board_rules.proofs.Unstopped.{journals_never_stop}
 use Rattle.board_epochs.specs.Epochs.{Closed, closed_log, opening_behind, ticks_made}
-use Rattle.board_epochs.proofs.Asking.{publish_there}
+use Rattle.board_epochs.proofs.Asking.{number_there, publish_there}
 use Rattle.board_epochs.proofs.Chaining.{begins_behind}
-use Rattle.board_epochs.proofs.Seam.{done_behind, room_behind, bytes_behind, reports_behind}
+use Rattle.board_epochs.proofs.Onto.{taken_on}
+use Rattle.board_epochs.proofs.Opening.{opens}
+use Rattle.board_epochs.proofs.Seam.{done_behind, room_behind, reports_behind}
 use Rattle.board_epochs.proofs.Telling.{answer_there, report_there}
 use Rattle.epoch_ports.specs.Serving.{Since, Serves, MayTellNow, MayPublishNow, all_since}
-
-pub few_taken : (es : NewestFirst Closed) (l : BoardLog) → HasTakenFew (all_since es l) → HasTakenFew l
-few_taken es l few = bytes_behind (ticks_made es) (closed_log es) l few
 
 pub few_reports : (es : NewestFirst Closed) (l : BoardLog) → HasFewReports (all_since es l) → HasFewReports l
 few_reports es l few = reports_behind (ticks_made es) (closed_log es) l few
@@ -53,6 +52,17 @@ module _ (R : Type 0) (port : R → BoardLog → Type 0) (base : ℕ) (since : S
   room_here k c may =
       let r = room_behind (closed_log since.closed) (port_log h) k (begins_behind since.state since.closed s.closed) (journals_never_stop first h c) may in
       (r.0, r.1 ∙ ap (λ (b : ℕ). b + r.0) (sym s.ticks), r.2)
+
+-- with a byte of an epoch before for each line before this one
+pub few_taken : (R : Type 0) (port : R → BoardLog → Type 0) (base : ℕ) (since : Since R) (first : Opening) (l : BoardLog) → Serves R port base since first l → HasTakenFew (all_since since.closed l)
+    → first.lines + length (taken_in l) < 2 ^ 31
+few_taken R port base since first l s few =
+    let es = since.closed in
+    let lines = number_there since.state es [] s.closed (opens since.state es) in
+    let same = ap (λ (o : Opening). o.lines) s.opens in
+    let all = ap (λ (bs : List ℕ). length bs) (taken_on (ticks_made es) l (closed_log es)) in
+    let both = length-append (taken_in (closed_log es)) (taken_in l) in
+    omega (arith, lines, same, all, both, few)
 
 -- ---- steps
 

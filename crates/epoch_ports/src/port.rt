@@ -1,10 +1,10 @@
 //! The port of a board within one epoch.
 
-ghost use Rattle.std.specs.Prelude.{◌≡◌, ℕ, ◌∷◌, ◌≤◌, true, OnOk, OnErr, IfErr};
+ghost use Rattle.std.specs.Prelude.{◌≡◌, ℕ, ◌+◌, ◌^◌, ◌∷◌, ◌≤◌, ◌<◌, length, true, OnOk, OnErr, IfErr};
 ghost use Rattle.status_report.specs.Answering.{receive_room};
 ghost use Rattle.board_rules.specs.Conduct.{Conducted};
 ghost use Rattle.board_rules.specs.Openings.{Opening};
-ghost use Rattle.board_rules.specs.Ports.{BoardLog, MayBeDone, HasTakenFew, HasFewReports, LacksPieceRoom, asks_report, said};
+ghost use Rattle.board_rules.specs.Ports.{BoardLog, MayBeDone, HasFewReports, LacksPieceRoom, asks_report, said, taken_in};
 ghost use Rattle.board_rules.specs.Ports.PortStep.{took, found_empty, found_closed, found_free, no_reply_room, took_exec, took_ovr, published, no_piece_room, loaded};
 ghost use Rattle.board_rules.specs.Steps.{Journal, port_log};
 ghost use Rattle.epoch_ports.specs.Serving.{MayTellNow, MayPublishNow};
@@ -23,10 +23,10 @@ pub trait EpochPort {
     /// This side of the port serves an epoch with this opening, in which it has done what the log says, the latest first.
     ghost stands: { Self → Rest → Opening → BoardLog → Type 0 };
 
-    /// The next byte, if one is there. Fewer than 2^31 bytes were taken before any byte.
+    /// The next byte, if one is there. Fewer than 2^31 bytes were taken before any byte, with one for each line before the epoch.
     fn byte(&mut self) -> ByteIn
         ensures byte { (b : ℕ) → result ≡ ByteIn.Byte b → (rest : Rest) (first : Opening) (l : BoardLog) → stands self.old rest first l → stands self.new rest first (took b ∷ l) }
-        ensures few { (b : ℕ) → result ≡ ByteIn.Byte b → (rest : Rest) (first : Opening) (l : BoardLog) → stands self.old rest first l → HasTakenFew l }
+        ensures few { (b : ℕ) → result ≡ ByteIn.Byte b → (rest : Rest) (first : Opening) (l : BoardLog) → stands self.old rest first l → first.lines + length (taken_in l) < 2 ^ 31 }
         ensures empty { result ≡ ByteIn.Empty → (rest : Rest) (first : Opening) (l : BoardLog) → stands self.old rest first l → stands self.new rest first (found_empty ∷ l) }
         ensures closed { result ≡ ByteIn.Closed → (rest : Rest) (first : Opening) (l : BoardLog) → stands self.old rest first l → stands self.new rest first (found_closed ∷ l) };
 

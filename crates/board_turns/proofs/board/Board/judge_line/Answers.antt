@@ -8,7 +8,7 @@ use Rattle.line_interpreter.specs.Since.{Since, before_line}
 use Rattle.line_interpreter.specs.Interpreting.{stands_before}
 use Rattle.board_rules.specs.Steps.{open_of, before_of, motion_of}
 use Rattle.board_rules.specs.Turns.{machine_in}
-use Rattle.board_rules.proofs.Limits.{few_lines}
+use Rattle.board_rules.proofs.Limits.{lines_in_bytes}
 use Rattle.board_rules.proofs.Facts.{number_is}
 use Rattle.board_turns.proofs.board.Board.judge_line.Goals as goal
 
@@ -20,7 +20,7 @@ judge-accepted-requires c =
     let short = k.short in
     let l = k.lines.number_is in
     let n = number_is first h k.conducted in
-    let few = few_lines first h k.conducted in
+    let few = lines_in_bytes first h k.conducted in
     record { few = omega (arith, l, n, few, short) }
 
 pub returns-clause-judged : goal.returns-clause-judged

@@ -1,4 +1,4 @@
-use Rattle.std.proofs.Common.{[], ◌∷◌, ◌+◌, length, length-append, ◌≡◌, ℕ, Bool, false, nat_eq, refl, arith, subst}
+use Rattle.std.proofs.Common.{[], ◌∷◌, ◌+◌, ◌^◌, ◌≤◌, ◌<◌, length, length-append, ◌≡◌, ℕ, Bool, false, nat_eq, refl, arith, subst}
 use Rattle.std.proofs.lemmas.Bool.Decides.{nat_tests}
 use Rattle.board_rules.specs.Ports.PortStep.{took}
 use Rattle.board_rules.specs.Steps.{Journal, taken_of, open_of, whole_of}
@@ -9,14 +9,17 @@ use Rattle.board_turns.proofs.board.Board.keep.Goals as goal
 taken_more : (b : ℕ) (h : Journal) (n : ℕ) → n ≡ length (taken_of h) → n + 1 ≡ length (taken_of (at_port (took b) ∷ h))
 taken_more b h n e = let a = length-append (taken_of h) (b ∷ []) in omega (arith, a, e)
 
+few_more : (lines b : ℕ) (h : Journal) → lines + length (taken_of h) < 2 ^ 31 → lines + length (taken_of (at_port (took b) ∷ h)) ≤ 2 ^ 31
+few_more lines b h few = let a = length-append (taken_of h) (b ∷ []) in omega (arith, a, few)
+
 other : (b : ℕ) → (b ≡ 10 → ⊥) → nat_eq b 10 ≡ false
 other b differs = grind (arith, nat_tests, differs)
 
 pub returns-then-byte-eq10-clause-kept : goal.returns-then-byte-eq10-clause-kept
-returns-then-byte-eq10-clause-kept c = λ first h k may. record {
+returns-then-byte-eq10-clause-kept c = λ first h k may room. record {
   placed = k.placed;
   free = k.free;
-  short = k.short;
+  short = few_more first.lines c.args.byte h room;
   conducted = (may, k.conducted);
   machine = k.machine;
   lines = k.lines;
@@ -37,10 +40,10 @@ returns-then-byte-eq10-clause-kept c = λ first h k may. record {
 }
 
 pub returns-else-byte-eq10-clause-kept : goal.returns-else-byte-eq10-clause-kept
-returns-else-byte-eq10-clause-kept c = λ first h k may. record {
+returns-else-byte-eq10-clause-kept c = λ first h k may room. record {
   placed = k.placed;
   free = k.free;
-  short = k.short;
+  short = few_more first.lines c.args.byte h room;
   conducted = (may, k.conducted);
   machine = k.machine;
   lines = k.lines;

@@ -21,7 +21,8 @@ close-requires-clause-stands g c =
 pub returns-in-Byte-clause-goes_on : goal.returns-in-Byte-clause-goes_on
 returns-in-Byte-clause-goes_on g c = λ rest first h stands keeps ready may.
     let b = c.in-Byte.byte in
-    let kept = c.keep.ensures.kept first h keeps (record { polls = may; few = c.byte.ensures.few b c.in-Byte.is rest first (port_log h) stands }) in
+    let few = c.byte.ensures.few b c.in-Byte.is rest first (port_log h) stands in
+    let kept = c.keep.ensures.kept first h keeps (record { polls = may; few = omega (arith, few) }) few in
     let takes = c.keep.ensures.flags first h (free_of h ready.quiet) in
     let beat = ap (λ (s : Board). s.beat) c.keep.ensures.same ∙ c.requires.beat in
     (at_port (took b) ∷ h, c.byte.ensures.byte b c.in-Byte.is rest first (port_log h) stands, took_worked first c.args.self.now.flags _ b h kept takes ready may beat)
