@@ -56,7 +56,6 @@ pub mod Asking
 pub mod Marks
 pub mod HaltWorks
 pub mod Lasts
-pub mod Stages
 pub mod Facts
 pub mod Speeds
 pub mod Uncut

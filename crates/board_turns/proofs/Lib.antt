@@ -3,6 +3,7 @@ pub mod Known
 pub mod Turns
 pub mod Steps
 pub mod Requests
+pub mod Stages
 pub mod Standing
 pub mod Settling
 pub mod Pausing

@@ -36,6 +36,7 @@ takes_word first c owes reset resetting word h k may is resets asks = record {
   reset_is = resets;
   resetting_is = asks;
   taken_is = k.taken_is;
+  answered_is = k.answered_is;
   prompt = (record { further = λ e. refl; waits = k.unready }, k.prompt);
   unready = λ may. absurd (let e = may.between in cc);
   jogged_is = k.jogged_is;
@@ -63,6 +64,7 @@ obeys first c m word h k may runs = record {
   reset_is = k.reset_is;
   resetting_is = k.resetting_is;
   taken_is = k.taken_is;
+  answered_is = k.answered_is;
   prompt = (record { further = λ e. refl; waits = k.unready }, k.prompt);
   unready = λ may. absurd (let e = may.between in cc);
   jogged_is = k.jogged_is;
@@ -88,6 +90,7 @@ takes_changes first c word h k = record {
   reset_is = k.reset_is;
   resetting_is = k.resetting_is;
   taken_is = k.taken_is;
+  answered_is = k.answered_is;
   prompt = (record { further = λ e. refl; waits = k.unready }, k.prompt);
   unready = λ may. absurd (let e = may.between in cc);
   jogged_is = k.jogged_is;
@@ -118,6 +121,7 @@ changes first c m word h k some range runs = record {
   reset_is = k.reset_is;
   resetting_is = k.resetting_is;
   taken_is = k.taken_is;
+  answered_is = k.answered_is;
   prompt = (record { further = λ e. refl; waits = λ may. absurd (let e = may.between in cc) }, (record { further = λ e. refl; waits = k.unready }, k.prompt));
   unready = λ may. absurd (let e = may.between in cc);
   jogged_is = k.jogged_is;

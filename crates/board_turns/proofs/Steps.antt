@@ -1,15 +1,16 @@
 -- One lemma a step: a board keeps on what its fields say of what it has done.
-use Rattle.std.proofs.Common.{◌≡◌, ℕ, ◌⊎◌, inl, inr, List, [], ◌∷◌, ◌++◌, drop, Bool, true, false, not, ◌&&◌, ◌||◌, Some, None, sym, refl, ap, ◌∙◌, subst, arith, append-nil}
+use Rattle.std.proofs.Common.{◌≡◌, ℕ, ◌⊎◌, inl, inr, List, [], ◌∷◌, ◌++◌, drop, Bool, true, false, cond, not, ◌&&◌, ◌||◌, Some, None, sym, refl, ap, ◌∙◌, subst, arith, append-nil}
 use Rattle.feed_hold.specs.declared.Motion.{Motion}
 use Rattle.feed_hold.specs.declared.Motion.TheVariants as motions
 use Rattle.feed_hold.specs.Motions.{after, is_limited, is_stopping}
 use Rattle.feed_hold.specs.Motions.Call.{on_start, on_pause, on_drained}
 use Rattle.board_rules.specs.Openings.{Opening}
+use Rattle.run_rules.specs.declared.State.{State}
 use Rattle.run_rules.specs.Work.{Task}
 use Rattle.run_rules.specs.Work.Task.{ask, tell, pause, normal, finish}
 use Rattle.status_report.specs.declared.Reply.{Reply}
 use Rattle.status_report.specs.declared.Reply.TheVariants.{Bye}
-use Rattle.status_report.specs.Answering.{is_report}
+use Rattle.status_report.specs.Answering.{is_answer, is_report}
 use Rattle.status_report.specs.declared.reports.Report.{Report}
 use Rattle.flight.specs.Flights.{Flying, Flies}
 use Rattle.step_line.specs.declared.Mark.{Mark as AnyMark}
@@ -66,6 +67,7 @@ sent first c m f p h k is timely runs flies = record {
   reset_is = k.reset_is;
   resetting_is = k.resetting_is;
   taken_is = k.taken_is;
+  answered_is = k.answered_is;
   prompt = (record { further = λ e. refl; waits = k.unready }, k.prompt);
   unready = λ may. absurd (let e = may.between in cc);
   jogged_is = k.jogged_is;
@@ -91,6 +93,7 @@ not_sent first c done h k some full = record {
   reset_is = k.reset_is;
   resetting_is = k.resetting_is;
   taken_is = k.taken_is;
+  answered_is = k.answered_is;
   prompt = (record { further = λ e. refl; waits = k.unready }, k.prompt);
   unready = λ may. absurd (let e = may.between in cc);
   jogged_is = k.jogged_is;
@@ -116,6 +119,7 @@ looked first c done h k may = record {
   reset_is = k.reset_is;
   resetting_is = k.resetting_is;
   taken_is = k.taken_is;
+  answered_is = k.answered_is;
   prompt = (record { further = λ e. refl; waits = k.unready }, k.prompt);
   unready = λ may. absurd (let e = may.between in cc);
   jogged_is = k.jogged_is;
@@ -154,9 +158,9 @@ awaits_none : (first : Opening) (h : Journal) → is_limited first.motion ≡ fa
 awaits_none first h free c = none_awaited first h (motion_of first h) refl (λ is. (limit_alarms first free h c is).0)
 
 -- a reply is told
-pub told : (first : Opening) (c : Board) (i : Interpreting) (r : Reply) (h : Journal) → Keeps first c h → IsNextTask first (tell r) h → is_report r ≡ false → owes_report h ≡ false → (r ≡ Bye → hand_of h ≡ []) → i ≡ record c.lines { left = drop 1 c.lines.left }
-    → Keeps first (record c { lines = i }) (at_port (answered r) ∷ h)
-told first c i r h k next plain unowed empty is = record {
+pub told : (first : Opening) (c : Board) (i : Interpreting) (s : State) (r : Reply) (h : Journal) → Keeps first c h → IsNextTask first (tell r) h → is_report r ≡ false → owes_report h ≡ false → (r ≡ Bye → hand_of h ≡ []) → i ≡ record c.lines { left = drop 1 c.lines.left }
+    → s ≡ cond (is_answer r) c.lines.state c.answered → Keeps first (record c { lines = i; answered = s }) (at_port (answered r) ∷ h)
+told first c i s r h k next plain unowed empty is state = record {
   placed = k.placed;
   free = k.free;
   short = k.short;
@@ -169,6 +173,7 @@ told first c i r h k next plain unowed empty is = record {
   reset_is = k.reset_is;
   resetting_is = k.resetting_is;
   taken_is = k.taken_is;
+  answered_is = state ∙ ap (λ (x : State). cond (is_answer r) x c.answered) k.lines.state_is ∙ ap (cond (is_answer r) (before_of first h).state) k.answered_is;
   prompt = (record { further = λ e. refl; waits = k.unready }, k.prompt);
   unready = λ may. absurd (let e = may.between in cc);
   jogged_is = k.jogged_is;
@@ -194,6 +199,7 @@ not_told first c h k next = record {
   reset_is = k.reset_is;
   resetting_is = k.resetting_is;
   taken_is = k.taken_is;
+  answered_is = k.answered_is;
   prompt = (record { further = λ e. refl; waits = k.unready }, k.prompt);
   unready = λ may. absurd (let e = may.between in cc);
   jogged_is = k.jogged_is;
@@ -219,6 +225,7 @@ report_told first c r h k may = record {
   reset_is = k.reset_is;
   resetting_is = k.resetting_is;
   taken_is = k.taken_is;
+  answered_is = k.answered_is;
   prompt = (record { further = λ e. refl; waits = k.unready }, k.prompt);
   unready = λ may. absurd (let e = may.between in cc);
   jogged_is = k.jogged_is;
@@ -248,6 +255,7 @@ report_kept first c h k owed = record {
   reset_is = k.reset_is;
   resetting_is = k.resetting_is;
   taken_is = k.taken_is;
+  answered_is = k.answered_is;
   prompt = (record { further = λ e. refl; waits = k.unready }, k.prompt);
   unready = λ may. absurd (let e = may.between in cc);
   jogged_is = k.jogged_is;
@@ -273,6 +281,7 @@ polled_empty first c h k may = record {
   reset_is = k.reset_is;
   resetting_is = k.resetting_is;
   taken_is = k.taken_is;
+  answered_is = k.answered_is;
   prompt = (record { further = λ e. refl; waits = k.unready }, k.prompt);
   unready = λ may. absurd (let e = may.between in cc);
   jogged_is = k.jogged_is;
@@ -298,6 +307,7 @@ polled_closed first c h k may = record {
   reset_is = k.reset_is;
   resetting_is = k.resetting_is;
   taken_is = k.taken_is;
+  answered_is = k.answered_is;
   prompt = (record { further = λ e. refl; waits = k.unready }, k.prompt);
   unready = λ may. absurd (let e = may.between in cc);
   jogged_is = k.jogged_is;
@@ -326,6 +336,7 @@ added_move first c m i mv h k next planned room runs is = record {
   reset_is = k.reset_is;
   resetting_is = k.resetting_is;
   taken_is = k.taken_is;
+  answered_is = k.answered_is;
   prompt = (record { further = λ e. refl; waits = k.unready }, k.prompt);
   unready = λ may. absurd (let e = may.between in cc);
   jogged_is = k.jogged_is;
@@ -370,6 +381,7 @@ took_segment first c m s h k moves empty next runs = record {
   reset_is = k.reset_is;
   resetting_is = k.resetting_is;
   taken_is = k.taken_is;
+  answered_is = k.answered_is;
   prompt = (record { further = λ e. refl; waits = k.unready }, k.prompt);
   unready = λ may. absurd (let e = may.between in cc);
   jogged_is = k.jogged_is;
@@ -408,6 +420,7 @@ marked first c m i mark h k next good empty rest runs is = record {
   reset_is = k.reset_is;
   resetting_is = k.resetting_is;
   taken_is = k.taken_is;
+  answered_is = k.answered_is;
   prompt = (record { further = λ e. refl; waits = k.unready }, k.prompt);
   unready = λ may. absurd (let e = may.between in cc);
   jogged_is = k.jogged_is;
@@ -434,6 +447,7 @@ rested first c i h k next drained stands is = record {
   reset_is = k.reset_is;
   resetting_is = k.resetting_is;
   taken_is = k.taken_is;
+  answered_is = k.answered_is;
   prompt = (record { further = λ e. refl; waits = k.unready }, k.prompt);
   unready = λ may. absurd (let e = may.between in cc);
   jogged_is = k.jogged_is;
@@ -461,6 +475,7 @@ evens first c m i h k next drained stands runs is = record {
   reset_is = k.reset_is;
   resetting_is = k.resetting_is;
   taken_is = k.taken_is;
+  answered_is = k.answered_is;
   prompt = (record { further = λ e. refl; waits = k.unready }, k.prompt);
   unready = λ may. absurd (let e = may.between in cc);
   jogged_is = k.jogged_is;
@@ -487,6 +502,7 @@ held_for_pause first c m i h k next drained stands runs is = record {
   reset_is = k.reset_is;
   resetting_is = k.resetting_is;
   taken_is = k.taken_is;
+  answered_is = k.answered_is;
   prompt = (record { further = λ e. refl; waits = k.unready }, k.prompt);
   unready = λ may. absurd (let e = may.between in cc);
   jogged_is = k.jogged_is;
@@ -514,6 +530,7 @@ ended first c m i h k next drained stands closes runs is = record {
   reset_is = k.reset_is;
   resetting_is = k.resetting_is;
   taken_is = k.taken_is;
+  answered_is = k.answered_is;
   prompt = (record { further = λ e. refl; waits = k.unready }, k.prompt);
   unready = λ may. absurd (let e = may.between in cc);
   jogged_is = k.jogged_is;
@@ -546,6 +563,7 @@ started first c m jog h k stands may runs = record {
   reset_is = k.reset_is;
   resetting_is = k.resetting_is;
   taken_is = k.taken_is;
+  answered_is = k.answered_is;
   prompt = (record { further = λ e. refl; waits = k.unready }, k.prompt);
   unready = λ may. absurd (let e = may.between in cc);
   jogged_is = k.jogged_is;
@@ -582,6 +600,7 @@ drained first c m h k was may runs = record {
   reset_is = k.reset_is;
   resetting_is = k.resetting_is;
   taken_is = k.taken_is;
+  answered_is = k.answered_is;
   prompt = (record { further = λ e. refl; waits = k.unready }, k.prompt);
   unready = λ may. absurd (let e = may.between in cc);
   jogged_is = k.jogged_is;

@@ -61,6 +61,7 @@ stops first c m h k slows stopped runs = record {
   reset_is = k.reset_is;
   resetting_is = k.resetting_is;
   taken_is = k.taken_is;
+  answered_is = k.answered_is;
   prompt = (record { further = λ e. refl; waits = k.unready }, k.prompt);
   unready = λ may. absurd (let e = may.between in cc);
   jogged_is = k.jogged_is;
@@ -90,6 +91,7 @@ locks first c m h k slows stopped runs = record {
   reset_is = k.reset_is;
   resetting_is = k.resetting_is;
   taken_is = k.taken_is;
+  answered_is = k.answered_is;
   prompt = (record { further = λ e. refl; waits = k.unready }, k.prompt);
   unready = λ may. absurd (let e = may.between in cc);
   jogged_is = k.jogged_is;
@@ -119,6 +121,7 @@ cancel_over first c m h k cancelled was found runs = record {
   reset_is = k.reset_is;
   resetting_is = k.resetting_is;
   taken_is = k.taken_is;
+  answered_is = k.answered_is;
   prompt = (record { further = λ e. refl; waits = k.unready }, k.prompt);
   unready = λ may. absurd (let e = may.between in cc);
   jogged_is = k.jogged_is;
@@ -222,6 +225,7 @@ cut_made first c m i k at h keeps uncut found number place left same state runs 
   reset_is = keeps.reset_is;
   resetting_is = keeps.resetting_is;
   taken_is = keeps.taken_is;
+  answered_is = keeps.answered_is;
   prompt = (record { further = λ e. refl; waits = keeps.unready }, keeps.prompt);
   unready = λ may. absurd (let e = may.between in cc);
   jogged_is = keeps.jogged_is;

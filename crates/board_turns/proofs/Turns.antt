@@ -39,6 +39,7 @@ closes first c i h k unreset may is = record {
   reset_is = k.reset_is;
   resetting_is = k.resetting_is;
   taken_is = k.taken_is;
+  answered_is = k.answered_is;
   prompt = (record { further = λ e. absurd (let f = sym e ∙ unreset in cc); waits = k.unready }, k.prompt);
   unready = λ may. absurd (let e = may.between in cc);
   jogged_is = k.jogged_is;
@@ -64,6 +65,7 @@ ends first c f t h k may = record {
   reset_is = k.reset_is;
   resetting_is = k.resetting_is;
   taken_is = k.taken_is;
+  answered_is = k.answered_is;
   prompt = (record { further = λ e. refl; waits = k.unready }, k.prompt);
   jogged_is = k.jogged_is;
   cut_is = k.cut_is;
@@ -88,6 +90,7 @@ begins_turn first c h k unready = record {
   reset_is = k.reset_is;
   resetting_is = k.resetting_is;
   taken_is = k.taken_is;
+  answered_is = k.answered_is;
   prompt = k.prompt;
   unready = unready;
   jogged_is = k.jogged_is;
@@ -113,6 +116,7 @@ room_found first c bytes h k = record {
   reset_is = k.reset_is;
   resetting_is = k.resetting_is;
   taken_is = k.taken_is;
+  answered_is = k.answered_is;
   prompt = (record { further = λ e. refl; waits = k.unready }, k.prompt);
   unready = λ may. absurd (let e = may.between in cc);
   jogged_is = k.jogged_is;
@@ -138,6 +142,7 @@ other_beat first c b h k = record {
   reset_is = k.reset_is;
   resetting_is = k.resetting_is;
   taken_is = k.taken_is;
+  answered_is = k.answered_is;
   prompt = k.prompt;
   unready = k.unready;
   jogged_is = k.jogged_is;
@@ -162,6 +167,7 @@ other_flags first c f h k = record {
   reset_is = k.reset_is;
   resetting_is = k.resetting_is;
   taken_is = k.taken_is;
+  answered_is = k.answered_is;
   prompt = k.prompt;
   unready = k.unready;
   jogged_is = k.jogged_is;
@@ -187,6 +193,7 @@ other_flight first c f h k flown = record {
   reset_is = k.reset_is;
   resetting_is = k.resetting_is;
   taken_is = k.taken_is;
+  answered_is = k.answered_is;
   prompt = k.prompt;
   unready = k.unready;
   jogged_is = k.jogged_is;

@@ -20,6 +20,7 @@ use Rattle.board_rules.specs.Turns.{this_turn, unobeyed_of, owes_report, moving,
 use Rattle.board_rules.specs.Conduct.{Conducted, AreWaiting}
 use Rattle.board_rules.specs.Cuts.{has_cut}
 pub use Rattle.board_rules.specs.Within.{changes_left}
+use Rattle.board_epochs.specs.Epochs.{answered_state}
 use Rattle.board_epochs.specs.Resets.{IsPrompt, MayReset, has_reset}
 use Rattle.units.specs.Truths.{one_if}
 use Rattle.board_turns.specs.declared.board.Board.{Board}
@@ -66,6 +67,7 @@ pub record Keeps (first : Opening) (board : Board) (h : Journal) : Type 0 where
   pub reset_is : board.reset ≡ has_reset_in (port_log h)
   pub resetting_is : board.resetting ≡ has_reset h
   pub taken_is : board.taken ≡ length (taken_of h)
+  pub answered_is : board.answered ≡ answered_state first h
   pub prompt : IsPrompt first h
   pub unready : MayReset first h → ⊥
   pub jogged_is : board.jogged ≡ has_jogged h
@@ -89,6 +91,7 @@ pub record KeepsBetween (first : Opening) (board : Board) (h : Journal) : Type 0
   pub reset_is : board.reset ≡ has_reset_in (port_log h)
   pub resetting_is : board.resetting ≡ has_reset h
   pub taken_is : board.taken ≡ length (taken_of h)
+  pub answered_is : board.answered ≡ answered_state first h
   pub prompt : IsPrompt first h
   pub jogged_is : board.jogged ≡ has_jogged h
   pub cut_is : board.cut ≡ has_cut h

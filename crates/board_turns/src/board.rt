@@ -10,7 +10,7 @@ ghost use Rattle.line_interpreter.specs.Desks.{kind_told};
 ghost use Rattle.run_rules.specs.Work.Task.{ask, tell, pause, normal, finish};
 ghost use Rattle.step_line.specs.Asking.Asked.{a_rest};
 ghost use Rattle.board_rules.specs.Ports.PortStep.{took};
-ghost use Rattle.run_rules.specs.declared.State.{State};
+ghost use Rattle.run_rules.specs.declared.State.{State as AnyState};
 ghost use Rattle.run_rules.specs.States.{IsOpening};
 ghost use Rattle.board_epochs.specs.Resets.{MayReset};
 ghost use Rattle.board_rules.specs.Steps.{Journal, port_log, taken_of, left_of, motion_of, has_closed};
@@ -29,7 +29,7 @@ use feed_hold::Motion;
 use flight::Flight;
 use line_interpreter::{Accepted, Interpreter, Todo};
 use outside::{On, Turn};
-use run_rules::Machine as Found;
+use run_rules::{Machine as Found, State};
 use serial_ring::ByteIn;
 use step_line::Mark;
 
@@ -69,6 +69,8 @@ pub struct Board {
     pub(crate) resetting: bool,
     /// How many bytes were taken.
     pub(crate) taken: u32,
+    /// The state behind the answered lines.
+    pub(crate) answered: State,
     pub(crate) beat: Beat,
     pub(crate) closing: bool,
     /// The last that was accepted of G-code and jogs is a jog.
@@ -103,18 +105,21 @@ fn jogs_behind(accepted: Accepted, was: bool) -> bool
 impl Board {
     /// A board that has done nothing. The banner is to be told.
     pub fn new() -> Board
-        ensures { (state : State) × IsOpening state × EpochFits (first_opening state) result [] }
+        ensures { (state : AnyState) × IsOpening state × EpochFits (first_opening state) result [] }
     {
+        let lines = Interpreter::new();
+        let answered = lines.state();
         Board {
             machine: Machine::new(),
             flight: Flight::new(),
-            lines: Interpreter::new(),
+            lines,
             input: Input::new(),
             flags: Flags::None,
             owes: false,
             reset: false,
             resetting: false,
             taken: 0,
+            answered,
             beat: Beat::Motion,
             closing: false,
             jogged: false,
@@ -154,8 +159,7 @@ impl Board {
         }
     }
 
-    /// Waits until nothing is left to run, and each tick is done; then the cycle is over. Answers what the turn answers where
-    /// that is not so yet.
+    /// Waits until nothing is left to run, and each tick is done; then the cycle is over. Until then it answers what the turn answers.
     #[inline(never)]
     fn await_motion<P: EpochPort>(&mut self, port: &mut P) -> Option<Turn>
         requires stands { (rest : P.Rest) × (first : Opening) × (h : Journal) × P.stands port.old rest first (port_log h) × Keeps first self.old h × MayAwait first h }
@@ -358,8 +362,7 @@ impl Board {
         }
     }
 
-    /// Begins the line that was taken whole, and tells its first reply where that is what is next. Where it begins with `$`,
-    /// queued blocks start before.
+    /// Begins the line that was taken whole, and tells its first reply where that is next. Queued blocks start before a `$` line.
     #[inline(never)]
     fn begin<P: EpochPort>(&mut self, port: &mut P) -> Turn
         requires stands { (rest : P.Rest) × (first : Opening) × (h : Journal) × P.stands port.old rest first (port_log h) × Keeps first self.old h × IsReady first h × IsWholeLine first h }
@@ -445,8 +448,7 @@ impl Board {
         self.do_next(port)
     }
 
-    /// Does what is next. Where that is held up, it is waited until it goes on; and where a soft limit stops the machine, or has
-    /// stopped it, the run is ended.
+    /// Does what is next, or waits where that is held up. Where a soft limit stops the machine, or has stopped it, the run is ended.
     #[inline(always)]
     fn main<P: EpochPort>(&mut self, port: &mut P) -> Turn
         requires stands { (rest : P.Rest) × (first : Opening) × (h : Journal) × P.stands port.old rest first (port_log h) × Keeps first self.old h × IsReady first h }
@@ -473,14 +475,10 @@ impl Board {
         ensures yes { (first : Opening) (h : Journal) → Keeps first self.now h → result ≡ true → (self.now.beat ≡ Beat.Motion) × HasPiece first h }
         ensures no { (first : Opening) (h : Journal) → Keeps first self.now h → result ≡ false → self.now.beat ≡ Beat.Motion → HasPiece first h → ⊥ }
     {
-        match self.beat {
-            Beat::Motion => self.has_piece(),
-            Beat::Main => false,
-        }
+        matches!(self.beat, Beat::Motion) && self.has_piece()
     }
 
-    /// Publishes what is in hand or due, and where there is no room for it tells the report that is owed, or does what
-    /// is next.
+    /// Publishes what is in hand or due, and where there is no room for it tells the report that is owed, or does what is next.
     fn publish_first<P: EpochPort>(&mut self, port: &mut P) -> Turn
         requires stands { (rest : P.Rest) × (first : Opening) × (h : Journal) × P.stands port.old rest first (port_log h) × GoingFits first self.old h × GoingBetween h × HasPiece first h }
         requires open { self.old.lines.left ≡ [] → self.old.closing ≡ false }
@@ -564,7 +562,7 @@ impl Board {
     /// Takes a turn: takes a word of flags behind a line feed and behind each wait, and does what that asks for; else publishes
     /// a piece; else, or where there was no room for it, does the next thing. At most one thing is published. It answers what it
     /// waits for where the rules allow nothing, and is done once Bye was told. A turn that answers Did and moves nothing lowers
-    /// the board's number, which is less than 64.
+    /// the board's number, which is less than 16.
     ///
     /// No reset may be worked now. One that was asked for, and not dropped, lets no line begin, and the run isn't closed, until
     /// it may be.
@@ -575,7 +573,7 @@ impl Board {
             → (next : Journal) × P.stands port.new rest first (port_log next) × EpochFits first self.new next × GoingBetween next × GoingTurned first result self.old self.new h next }
         ensures done { (result ≡ Done) ↔ BoardIsOver self.old }
         ensures still { BoardIsOver self.old → (self.new ≡ self.old) × (port.new ≡ port.old) }
-        ensures few { (first : Opening) (h : Journal) → EpochFits first self.old h → board_number first self.old h < 64 }
+        ensures few { (first : Opening) (h : Journal) → EpochFits first self.old h → board_number first self.old h < 16 }
     {
         let turn = self.work(port);
         if let Turn::Wait(_) = turn {

@@ -4,7 +4,6 @@
 mod board;
 mod flags;
 mod input;
-mod limits;
 mod pieces;
 mod reports;
 mod resets;

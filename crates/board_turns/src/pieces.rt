@@ -1,14 +1,17 @@
 //! How a board tells replies, adds moves, and publishes what is in hand or due.
 
-ghost use Rattle.std.specs.Prelude.{◌≡◌, ◌≢◌, ◌↔◌, ◌<◌, ◌||◌, length, true, false, None, Some};
+ghost use Rattle.std.specs.Prelude.{◌≡◌, ◌≢◌, ◌↔◌, ◌<◌, ◌||◌, [], ◌∷◌, cond, length, true, false, None, Some};
 ghost use Rattle.feed_hold.specs.declared.Motion.TheVariants.{Idle};
 ghost use Rattle.outside.specs.declared.Turn.TheVariants.{Done};
 ghost use Rattle.run_rules.specs.Work.Task.{ask, tell, finish};
+ghost use Rattle.status_report.specs.Answering.{is_answer, is_report};
 ghost use Rattle.status_report.specs.declared.Reply.{Reply as AnyReply};
 ghost use Rattle.step_line.specs.Asking.Asked.{a_mark};
 ghost use Rattle.step_line.specs.Records.{IsMark};
 ghost use Rattle.line_interpreter.specs.Lefts.{IsNextOf};
-ghost use Rattle.board_rules.specs.Steps.{Journal, port_log};
+ghost use Rattle.board_rules.specs.Ports.PortStep.{answered};
+ghost use Rattle.board_rules.specs.Steps.{Journal, port_log, hand_of};
+ghost use Rattle.board_rules.specs.Steps.Step.{at_port};
 ghost use Rattle.board_rules.specs.Openings.{Opening};
 ghost use Rattle.board_rules.specs.Turns.{awaits_motion, has_blocks, is_full, owes_report};
 ghost use Rattle.board_rules.specs.Conduct.{IsNextTask, IsTimely};
@@ -22,6 +25,7 @@ use board_machine::is_cut;
 use epoch_ports::EpochPort;
 use line_interpreter::Todo;
 use outside::{On, Turn};
+use run_rules::State;
 use status_report::Reply;
 use step_line::{Mark, Piece};
 
@@ -60,8 +64,7 @@ impl Board {
             && (self.machine.is_full() || (self.awaits_motion() || self.jogged))
     }
 
-    /// Adds the moves that are next, as far as they have room, and starts queued blocks where no other has room, what is
-    /// next waits for the motion, or they are of a jog.
+    /// Adds the moves that are next, as far as they have room, and starts queued blocks where that is called for.
     pub(crate) fn fill(&mut self)
         requires { (first : Opening) × (h : Journal) × Keeps first self.old h }
         ensures filled { (first : Opening) (h : Journal) → Keeps first self.old h → (next : Journal) × Keeps first self.new next × HasFilled first h next }
@@ -73,8 +76,7 @@ impl Board {
         }
     }
 
-    /// Whether it is looked how many ticks are done before a piece is published: it marks a cut, or the flight has no room
-    /// for it.
+    /// Whether it is looked how many ticks are done before a piece is published: a cut, or one for which the flight has no room.
     fn needs_look(&self, piece: Piece) -> bool
         ensures { result ≡ false → (length self.now.flight.kept < flight_room) × (marks_cut piece ≡ false) }
     {
@@ -116,8 +118,7 @@ impl Board {
         true
     }
 
-    /// Tries to publish the piece in hand, or else the segment that is due, which comes into the hand before. Answers whether
-    /// it is published.
+    /// Tries to publish the piece in hand, or else the segment that is due. Answers whether it is published.
     pub(crate) fn publish_next<P: EpochPort>(&mut self, port: &mut P) -> bool
         requires stands { (rest : P.Rest) × (first : Opening) × (h : Journal) × P.stands port.old rest first (port_log h) × Keeps first self.old h × HasPiece first h }
         ensures goes_on { (rest : P.Rest) (first : Opening) (h : Journal) → P.stands port.old rest first (port_log h) → Keeps first self.old h → HasPiece first h
@@ -159,6 +160,27 @@ impl Board {
         reply == Reply::Bye && self.machine.hand.is_some()
     }
 
+    /// The state behind the answered lines, once this reply is told.
+    fn answered_behind(&self, reply: Reply) -> State
+        ensures { result ≡ cond (is_answer reply) self.now.lines.state self.now.answered }
+    {
+        match reply {
+            Reply::Ok | Reply::Error(_) => self.lines.state(),
+            _ => self.answered,
+        }
+    }
+
+    /// The reply that was next is told. Where it answers a line, the state behind that is one of answered lines.
+    fn told(&mut self, reply: Reply)
+        requires { self.old.lines.left ≢ [] }
+        ensures told { (first : Opening) (h : Journal) → Keeps first self.old h → IsNextTask first (tell reply) h → is_report reply ≡ false → owes_report h ≡ false
+            → (reply ≡ Reply.Bye → hand_of h ≡ []) → Keeps first self.new (at_port (answered reply) ∷ h) }
+        ensures same { self.new ≡ record self.old { lines = self.new.lines; answered = self.new.answered } }
+    {
+        self.answered = self.answered_behind(reply);
+        self.lines.done();
+    }
+
     /// Tells the reply that is next.
     pub(crate) fn tell<P: EpochPort>(&mut self, port: &mut P) -> Turn
         requires stands { (rest : P.Rest) × (first : Opening) × (h : Journal) × P.stands port.old rest first (port_log h) × Keeps first self.old h × IsReady first h }
@@ -176,18 +198,17 @@ impl Board {
         let Ok(()) = port.answer(reply) else {
             return Turn::Wait(On::ReplyRoom);
         };
-        self.lines.done();
+        self.told(reply);
         self.fill();
         Turn::Did
     }
 
-    /// Tells the first reply of a line that was begun in this turn, where that is what is next, and has room. Else it has a turn
-    /// of its own.
+    /// Tells the first reply of a line that was begun in this turn, where that is next and has room. Else it has a turn of its own.
     pub(crate) fn tell_first<P: EpochPort>(&mut self, port: &mut P)
         requires stands { (rest : P.Rest) × (first : Opening) × (h : Journal) × P.stands port.old rest first (port_log h) × Keeps first self.old h × (owes_report h ≡ false) }
         ensures goes_on { (rest : P.Rest) (first : Opening) (h : Journal) → P.stands port.old rest first (port_log h) → Keeps first self.old h → owes_report h ≡ false
             → (next : Journal) × P.stands port.new rest first (port_log next) × Keeps first self.new next × MayHaveTold h next }
-        ensures same { self.new ≡ record self.old { lines = self.new.lines } }
+        ensures same { self.new ≡ record self.old { lines = self.new.lines; answered = self.new.answered } }
     {
         if self.lines.todo() != Todo::Tell {
             return;
@@ -199,7 +220,7 @@ impl Board {
         let Ok(()) = port.answer(reply) else {
             return;
         };
-        self.lines.done();
+        self.told(reply);
     }
 
     /// Adds the moves that are next, or runs what is planned where they have no room.

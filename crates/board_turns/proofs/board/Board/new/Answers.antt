@@ -5,22 +5,23 @@ use Rattle.board_turns.proofs.board.Board.new.Goals as goal
 
 pub returns : goal.returns
 returns c = (
-  c.new-3.result.state,
-  c.new-3.ensures.opening,
+  c.new-lines.result.state,
+  c.new-lines.ensures.opening,
   record {
     keeps = record {
-      placed = sym (ap (λ (p : Parser). p.pos_steps) c.new-3.ensures.opening.parser);
+      placed = sym (ap (λ (p : Parser). p.pos_steps) c.new-lines.ensures.opening.parser);
       free = refl;
       short = omega arith;
-      conducted = opens c.new-3.result.state;
+      conducted = opens c.new-lines.result.state;
       machine = c.new.ensures;
-      lines = record { left_is = c.new-3.ensures.left; state_is = refl; number_is = c.new-3.ensures.number };
-      input = c.new-4.ensures;
+      lines = record { left_is = c.new-lines.ensures.left; state_is = refl; number_is = c.new-lines.ensures.number };
+      input = c.new-3.ensures;
       flight = record { known = 0; found = omega arith; flies = c.new-2.ensures };
       owes_is = refl;
       reset_is = refl;
       resetting_is = refl;
       taken_is = refl;
+      answered_is = c.state-answered.ensures;
       prompt = tt;
       jogged_is = refl;
       cut_is = refl;

@@ -5,7 +5,7 @@ use Rattle.board_rules.specs.Turns.{this_turn}
 use Rattle.board_rules.specs.Steps.Step.{at_port}
 use Rattle.board_rules.specs.Ports.PortStep.{answered, no_reply_room}
 use Rattle.board_turns.specs.declared.board.Board.{Board}
-use Rattle.board_turns.proofs.Steps.{is_next, may_answer, told, hand_empty, hand_left}
+use Rattle.board_turns.proofs.Steps.{is_next, may_answer, hand_empty, hand_left}
 use Rattle.board_rules.proofs.Tries.{publishes_one, worked_behind}
 use Rattle.board_turns.specs.Boards.{IsFree}
 use Rattle.board_turns.proofs.Known.{said_plain}
@@ -54,7 +54,7 @@ fill-requires g c =
     let s = c.args.self.now in
     let reply = c.reply-reply.result in
     let next = is_next first s r.2 (tell reply) r.4 c.reply-reply.ensures.next in
-    (first, at_port (answered reply) ∷ r.2, told first s _ reply r.2 r.4 next c.reply-reply.ensures.plain r.5.quiet.unowed (λ bye. (hand_empty first) s r.2 r.4 (c.if-holds_back.ensures.no refl bye)) c.done.ensures)
+    (first, at_port (answered reply) ∷ r.2, c.told.ensures.told first r.2 r.4 next c.reply-reply.ensures.plain r.5.quiet.unowed (λ bye. (hand_empty first) s r.2 r.4 (c.if-holds_back.ensures.no refl bye)))
 
 pub returns-clause-goes_on : goal.returns-clause-goes_on
 returns-clause-goes_on g c = λ rest first h stands keeps ready.
@@ -62,7 +62,7 @@ returns-clause-goes_on g c = λ rest first h stands keeps ready.
     let r = c.reply-reply.result in
     let next = is_next first s h (tell r) keeps c.reply-reply.ensures.next in
     let mid = at_port (answered r) ∷ h in
-    let now = told first s _ r h keeps next c.reply-reply.ensures.plain ready.quiet.unowed (λ bye. (hand_empty first) s h keeps (c.if-holds_back.ensures.no refl bye)) c.done.ensures in
+    let now = c.told.ensures.told first h keeps next c.reply-reply.ensures.plain ready.quiet.unowed (λ bye. (hand_empty first) s h keeps (c.if-holds_back.ensures.no refl bye)) in
     let said_is = said_plain r c.reply-reply.ensures.plain in
     let stood = c.in-Ok.ensures.ok rest first h stands (may_answer first s h r keeps next c.reply-reply.ensures.valid) in
     let free = free_of h ready.quiet in
@@ -72,7 +72,7 @@ returns-clause-goes_on g c = λ rest first h stands keeps ready.
     let one = publishes_one (at_port (answered r)) (this_turn h) refl in
     let quiet = ready.quiet.quiet in
     let worked = worked_behind (at_port (answered r)) h mid refl (record { no_changes = refl; none_planned = refl }) refl refl ready.quiet.worked in
-    let beat = ap (λ (b : Board). b.beat) c.fill.ensures.same ∙ c.requires.beat in
-    let none = ap (λ (b : Board). b.flags) c.fill.ensures.same ∙ c.requires.flags in
+    let beat = ap (λ (b : Board). b.beat) c.fill.ensures.same ∙ ap (λ (b : Board). b.beat) c.told.ensures.same ∙ c.requires.beat in
+    let none = ap (λ (b : Board). b.flags) c.fill.ensures.same ∙ ap (λ (b : Board). b.flags) c.told.ensures.same ∙ c.requires.flags in
     let taken = takes_none c.fill.new.self n.0 none (free_passed first mid n.0 n.2.alone.passes freed) in
     (n.0, rw (n.2.alone.port, sym said_is) stood, did_filled first _ _ h mid n.0 (at_port (answered r) ∷ []) refl n.1 beat taken n.2 worked (omega (arith, one, quiet)) ready.unpolled few (inl (n.2.alone.passes.moves refl)))

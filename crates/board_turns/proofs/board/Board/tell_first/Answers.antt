@@ -5,7 +5,7 @@ use Rattle.board_rules.specs.Turns.{tells_next}
 use Rattle.board_rules.specs.Steps.Step.{at_port}
 use Rattle.board_rules.specs.Ports.PortStep.{answered, no_reply_room}
 use Rattle.board_turns.specs.Turning.MayHaveTold.{handed_back, was_told}
-use Rattle.board_turns.proofs.Steps.{is_next, may_answer, told, not_told, hand_empty}
+use Rattle.board_turns.proofs.Steps.{is_next, may_answer, not_told, hand_empty}
 use Rattle.line_interpreter.specs.declared.tasks.Todo.TheVariants as todos
 use Rattle.board_turns.proofs.Known.{said_plain}
 use Rattle.board_turns.proofs.Over.{a_reply_next}
@@ -30,7 +30,7 @@ returns-clause-goes_on g c = λ rest first h stands keeps unowed.
     let s = c.args.self.now in
     let r = c.reply-reply.result in
     let next = is_next first s h (tell r) keeps c.reply-reply.ensures.next in
-    let now = told first s _ r h keeps next c.reply-reply.ensures.plain unowed (λ bye. (hand_empty first) s h keeps (c.if-holds_back.ensures.no refl bye)) c.done.ensures in
+    let now = c.told.ensures.told first h keeps next c.reply-reply.ensures.plain unowed (λ bye. (hand_empty first) s h keeps (c.if-holds_back.ensures.no refl bye)) in
     let stood = c.in-Ok.ensures.ok rest first h stands (may_answer first s h r keeps next c.reply-reply.ensures.valid) in
     (at_port (answered r) ∷ h, rw (sym (said_plain r c.reply-reply.ensures.plain)) stood, now, was_told r refl)
 

@@ -21,12 +21,13 @@ use Rattle.run_rules.specs.Work.Task.{ask, tell, pause, normal, finish, halt}
 use Rattle.run_rules.specs.Finding.{Found}
 use Rattle.board_rules.specs.Ports.{MayBeDone}
 use Rattle.board_rules.specs.Ports.PortStep.{took, answered, published, loaded, found_halt}
-use Rattle.board_rules.specs.Steps.{Journal, port_log, has_limited, open_of, lines_of, before_of, left_of, whole_of, closed_tells, known_of, given_of, hand_of, plan_of, motion_of, plan_after}
+use Rattle.board_rules.specs.Steps.{Journal, port_log, has_limited, open_of, before_of, left_of, whole_of, closed_tells, known_of, given_of, hand_of, plan_of, motion_of, plan_after}
 use Rattle.board_rules.specs.Steps.Step.{at_port, began, did, made_end, evened, paused, became, cut, halted, closing}
 use Rattle.board_rules.specs.Turns.{begins_in, machine_in, is_going, is_limited, is_locked, halts_next, stands_still}
-use Rattle.run_rules.specs.Locking.{locked_behind}
-use Rattle.board_rules.proofs.Locking.{or_false}
-use Rattle.board_rules.specs.Conduct.{Conducted, Gives, IsDrained, IsNextTask, MayBegin, MayDo, MayHappen, MayTell, ticks_given}
+use Rattle.board_rules.proofs.Alarms.{still_locked}
+use Rattle.board_rules.proofs.Locking.{locked_stands, or_false}
+use Rattle.board_rules.proofs.Opening.{opens_still}
+use Rattle.board_rules.specs.Conduct.{Conducted, Gives, IsDrained, IsNextTask, MayBegin, MayDo, MayHappen, MayOpen, MayTell, ticks_given}
 use Rattle.board_rules.proofs.Beginning.{caused, of_begun}
 use Rattle.board_rules.proofs.Given.{all_known}
 use Rattle.board_rules.proofs.Tasks.{none_next, none_given, head_is}
@@ -109,7 +110,8 @@ not_halt ts t next other is = absurd (other (head_is ts t halt _ next is))
 -- ---- how far it is
 
 -- No line has raised an alarm. One has, and the motion is not stopped for that yet; or it is, and the machine is to be halted.
--- It was halted, and stands with nothing to run. The end is made.
+-- It was halted, and stands with nothing to run. The end is made. Or the machine is locked since the opening, with nothing to run; and then
+-- the end may be made, too.
 pub data Halting (first : Opening) (h : Journal) : Type 0 where
   calm : has_limited h ≡ false → is_limited (motion_of first h) ≡ false → no_halts (left_of first h) ≡ true → limit_pending h ≡ false → Halting first h
   pending : has_limited h ≡ true → limit_pending h ≡ true → left_of first h ≡ halting_work → whole_of h ≡ false → (motion_of first h ≡ Idle) ⊎ (motion_of first h ≡ Run) → Halting first h
@@ -117,6 +119,8 @@ pub data Halting (first : Opening) (h : Journal) : Type 0 where
   to_tell : has_limited h ≡ true → limit_pending h ≡ false → only_ends (left_of first h) ≡ true → whole_of h ≡ false → motion_of first h ≡ Alarm → IsDrained h → Halting first h
   ended : has_limited h ≡ true → limit_pending h ≡ false → (left_of first h ≡ tell Bye ∷ []) ⊎ ((left_of first h ≡ []) × (hand_of h ≡ [])) → whole_of h ≡ false → motion_of first h ≡ Alarm
       → (closed_tells h ≡ [] → ⊥) → Halting first h
+  locked : has_limited h ≡ false → limit_pending h ≡ false → only_ends (left_of first h) ≡ true → motion_of first h ≡ Alarm → IsDrained h → Halting first h
+  locked_end : has_limited h ≡ false → limit_pending h ≡ false → (left_of first h ≡ tell Bye ∷ []) ⊎ ((left_of first h ≡ []) × (hand_of h ≡ [])) → motion_of first h ≡ Alarm → (closed_tells h ≡ [] → ⊥) → Halting first h
 
 -- a step that changes nothing of that
 record StaysHalting (first : Opening) (h next : Journal) : Type 0 where
@@ -136,6 +140,9 @@ on_same first h next s (to_halt a p l w m) = to_halt (s.alarmed ∙ a) (s.limite
 on_same first h next s (to_tell a p l w m d) = to_tell (s.alarmed ∙ a) (s.limited ∙ p) (ap only_ends s.left ∙ l) (s.whole ∙ w) (s.motion ∙ m) (s.drained d)
 on_same first h next s (ended a p (inl l) w m e) = ended (s.alarmed ∙ a) (s.limited ∙ p) (inl (s.left ∙ l)) (s.whole ∙ w) (s.motion ∙ m) (λ none. e (sym s.closed ∙ none))
 on_same first h next s (ended a p (inr (l, d)) w m e) = ended (s.alarmed ∙ a) (s.limited ∙ p) (inr (s.left ∙ l, s.hand ∙ d)) (s.whole ∙ w) (s.motion ∙ m) (λ none. e (sym s.closed ∙ none))
+on_same first h next s (locked a p l m d) = locked (s.alarmed ∙ a) (s.limited ∙ p) (ap only_ends s.left ∙ l) (s.motion ∙ m) (s.drained d)
+on_same first h next s (locked_end a p (inl l) m e) = locked_end (s.alarmed ∙ a) (s.limited ∙ p) (inl (s.left ∙ l)) (s.motion ∙ m) (λ none. e (sym s.closed ∙ none))
+on_same first h next s (locked_end a p (inr (l, d)) m e) = locked_end (s.alarmed ∙ a) (s.limited ∙ p) (inr (s.left ∙ l, s.hand ∙ d)) (s.motion ∙ m) (λ none. e (sym s.closed ∙ none))
 
 -- ---- at the port
 
@@ -145,6 +152,8 @@ on_took first h b none (pending a p l w m) = opposite (has_limited h) a none
 on_took first h b none (to_halt a p l w m) = opposite (has_limited h) a none
 on_took first h b none (to_tell a p l w m d) = opposite (has_limited h) a none
 on_took first h b none (ended a p l w m e) = opposite (has_limited h) a none
+on_took first h b none (locked a p l m d) = locked a p l m (record { plan = d.plan; hand = d.hand; done = d.done })
+on_took first h b none (locked_end a p l m e) = locked_end a p l m e
 
 same_reply : (r s : Reply) → tell r ≡ tell s → r ≡ s
 same_reply r s e = cc
@@ -157,6 +166,10 @@ on_answer first h r may (to_tell a p l w m d) = to_tell a p (ends_behind (left_o
 on_answer first h r may (ended a p (inl l) w m e) =
     ended a p (inr (ap (λ (ts : List Task). drop 1 ts) l, may.empty (same_reply r Bye (head_is (left_of first h) (tell r) (tell Bye) [] may.next l)))) w m e
 on_answer first h r may (ended a p (inr (l, d)) w m e) = absurd (none_next (left_of first h) (tell r) l may.next)
+on_answer first h r may (locked a p l m d) = locked a p (ends_behind (left_of first h) l) m (record { plan = d.plan; hand = d.hand; done = d.done })
+on_answer first h r may (locked_end a p (inl l) m e) =
+    locked_end a p (inr (ap (λ (ts : List Task). drop 1 ts) l, may.empty (same_reply r Bye (head_is (left_of first h) (tell r) (tell Bye) [] may.next l)))) m e
+on_answer first h r may (locked_end a p (inr (l, d)) m e) = absurd (none_next (left_of first h) (tell r) l may.next)
 
 on_publish : (first : Opening) (h : Journal) (p : Piece) → hand_of h ≡ p ∷ drop 1 (hand_of h) → Halting first h → Halting first (at_port (published p) ∷ h)
 on_publish first h q next (calm a m l p) = calm a m l p
@@ -165,6 +178,9 @@ on_publish first h q next (to_halt a p l w m) = to_halt a p l w m
 on_publish first h q next (to_tell a p l w m d) = absurd (none_next (hand_of h) q d.hand next)
 on_publish first h q next (ended a p (inl l) w m e) = ended a p (inl l) w m e
 on_publish first h q next (ended a p (inr (l, d)) w m e) = absurd (none_next (hand_of h) q d next)
+on_publish first h q next (locked a p l m d) = absurd (none_next (hand_of h) q d.hand next)
+on_publish first h q next (locked_end a p (inl l) m e) = locked_end a p (inl l) m e
+on_publish first h q next (locked_end a p (inr (l, d)) m e) = absurd (none_next (hand_of h) q d next)
 
 on_load : (first : Opening) (h : Journal) (n : ℕ) → Conducted first h → MayBeDone n (port_log h) → Halting first h → Halting first (at_port (loaded n) ∷ h)
 on_load first h n c may (calm a m l p) = calm a m l p
@@ -172,6 +188,8 @@ on_load first h n c may (pending a p l w m) = pending a p l w m
 on_load first h n c may (to_halt a p l w m) = to_halt a p l w m
 on_load first h n c may (to_tell a p l w m d) = to_tell a p l w m (record { plan = d.plan; hand = d.hand; done = all_known first h n c may d.done })
 on_load first h n c may (ended a p l w m e) = ended a p l w m e
+on_load first h n c may (locked a p l m d) = locked a p l m (record { plan = d.plan; hand = d.hand; done = all_known first h n c may d.done })
+on_load first h n c may (locked_end a p l m e) = locked_end a p l m e
 
 -- ---- the lines
 
@@ -186,13 +204,34 @@ pub alarm_stands : (first : Opening) (h : Journal) (o : Outcome) → begins_in (
 alarm_stands first h o begins found one = not_jog (motion_of first h) begins (λ jog.
     opposite (is_limit o.answer) one (calm_in_jog (before_of first h) (open_of h) o (subst (λ (m : Motion). Found (machine_in m) (before_of first h) (open_of h) o) jog found)))
 
-on_line : (first : Opening) → is_limited first.motion ≡ false → (h : Journal) (o : Outcome) → MayBegin first o h → HaltsOrNot o → Halting first h → Halting first (began o ∷ h)
-on_line first free h o may (inl (one, work)) (calm a m l p) = pending one (ap halts_next work) work refl (alarm_stands first h o (or_false (begins_in (motion_of first h)) (is_locked first h) may.begins (ap (λ (t : Bool). locked_behind t (lines_of h)) free)) may.becomes one)
-on_line first free h o may (inr (none, work)) (calm a m l p) = calm none m work (none_halts_next o.work work)
-on_line first free h o may how (pending a p l w m) = opposite (has_limited h) a may.calm
-on_line first free h o may how (to_halt a p l w m) = opposite (has_limited h) a may.calm
-on_line first free h o may how (to_tell a p l w m d) = opposite (has_limited h) a may.calm
-on_line first free h o may how (ended a p l w m e) = opposite (has_limited h) a may.calm
+by_truth : {A : Type 0} (b : Bool) → (b ≡ true → A) → (b ≡ false → A) → A
+by_truth true f g = f refl
+by_truth false f g = g refl
+
+-- what is only told halts no machine
+told_halts : (rs : List Reply) → halts_next (telling rs) ≡ false
+told_halts [] = refl
+told_halts (r ∷ rs) = refl
+
+told_ends : (rs : List Reply) → only_ends (telling rs) ≡ true
+told_ends [] = refl
+told_ends (r ∷ rs) = told_ends rs
+
+-- a machine that no soft limit stops is not locked
+unlocked : (first : Opening) (h : Journal) → Conducted first h → is_limited (motion_of first h) ≡ false → is_locked first h ≡ false
+unlocked first h c none = by_truth (is_locked first h) (λ is. opposite (is_limited (motion_of first h)) (ap is_limited (locked_stands first h c is)) none) (λ is. is)
+
+on_line : (first : Opening) (h : Journal) (o : Outcome) → Conducted first h → MayBegin first o h → HaltsOrNot o → Halting first h → Halting first (began o ∷ h)
+on_line first h o c may (inl (one, work)) (calm a m l p) =
+    pending one (ap halts_next work) work refl (alarm_stands first h o (or_false (begins_in (motion_of first h)) (is_locked first h) may.begins (unlocked first h c m)) may.becomes one)
+on_line first h o c may (inr (none, work)) (calm a m l p) = calm none m work (none_halts_next o.work work)
+on_line first h o c may how (pending a p l w m) = opposite (has_limited h) a may.calm
+on_line first h o c may how (to_halt a p l w m) = opposite (has_limited h) a may.calm
+on_line first h o c may how (to_tell a p l w m d) = opposite (has_limited h) a may.calm
+on_line first h o c may how (ended a p l w m e) = opposite (has_limited h) a may.calm
+on_line first h o c may how (locked a p l m d) =
+    let s = still_locked first h o (may, c) m in locked s.calm (ap halts_next s.work ∙ told_halts s.said) (ap only_ends s.work ∙ told_ends s.said) m (record { plan = d.plan; hand = d.hand; done = d.done })
+on_line first h o c may how (locked_end a p l m e) = absurd (e may.going)
 
 -- ---- the plan
 
@@ -205,6 +244,9 @@ on_asked first h next t is other none no_bye alarmed left motion same (to_halt a
 on_asked first h next t is other none no_bye alarmed left motion same (to_tell a p l w m d) = not_of_end (left_of first h) t is none l
 on_asked first h next t is other none no_bye alarmed left motion same (ended a p (inl l) w m e) = absurd (no_bye (head_is (left_of first h) t (tell Bye) [] is l))
 on_asked first h next t is other none no_bye alarmed left motion same (ended a p (inr (l, d)) w m e) = absurd (none_next (left_of first h) t l is)
+on_asked first h next t is other none no_bye alarmed left motion same (locked a p l m d) = not_of_end (left_of first h) t is none l
+on_asked first h next t is other none no_bye alarmed left motion same (locked_end a p (inl l) m e) = absurd (no_bye (head_is (left_of first h) t (tell Bye) [] is l))
+on_asked first h next t is other none no_bye alarmed left motion same (locked_end a p (inr (l, d)) m e) = absurd (none_next (left_of first h) t l is)
 
 -- no segment is taken of a machine that was halted
 on_take : (first : Opening) (h next : Journal) → (motion_of first h ≡ Alarm → ⊥) → has_limited next ≡ has_limited h → limit_pending next ≡ limit_pending h → left_of first next ≡ left_of first h → whole_of next ≡ whole_of h → motion_of first next ≡ motion_of first h → Halting first h → Halting first next
@@ -213,6 +255,8 @@ on_take first h next other alarmed same left whole motion (pending a p l w m) = 
 on_take first h next other alarmed same left whole motion (to_halt a p l w m) = to_halt (alarmed ∙ a) (same ∙ p) (left ∙ l) (whole ∙ w) (ap is_limited motion ∙ m)
 on_take first h next other alarmed same left whole motion (to_tell a p l w m d) = absurd (other m)
 on_take first h next other alarmed same left whole motion (ended a p l w m e) = absurd (other m)
+on_take first h next other alarmed same left whole motion (locked a p l m d) = absurd (other m)
+on_take first h next other alarmed same left whole motion (locked_end a p l m e) = absurd (other m)
 
 on_override : (first : Opening) (h : Journal) (o : Overrides) (ps : List Piece) → ps ≡ [] → Halting first h → Halting first (did (Override o) ps ∷ h)
 on_override first h o ps none = on_same first h (did (Override o) ps ∷ h) (record {
@@ -250,6 +294,9 @@ on_end first h c next (to_halt a p l w m) = not_halt (left_of first h) finish ne
 on_end first h c next (to_tell a p l w m d) = let is = closes_at_end first h c next in ended a p (inl is.later) w m is.closes
 on_end first h c next (ended a p (inl l) w m e) = absurd (let f = head_is (left_of first h) finish (tell Bye) [] next l in cc)
 on_end first h c next (ended a p (inr (l, d)) w m e) = absurd (none_next (left_of first h) finish l next)
+on_end first h c next (locked a p l m d) = let is = closes_at_end first h c next in locked_end a p (inl is.later) m is.closes
+on_end first h c next (locked_end a p (inl l) m e) = absurd (let f = head_is (left_of first h) finish (tell Bye) [] next l in cc)
+on_end first h c next (locked_end a p (inr (l, d)) m e) = absurd (none_next (left_of first h) finish l next)
 
 -- ---- the motion
 
@@ -283,10 +330,27 @@ on_other first h call m other never same how goes (pending a p l w n) = pending 
 on_other first h call m other never same how goes (to_halt a p l w n) = to_halt a (same ∙ p) l w (stays_limited m (motion_of first h) call never how n)
 on_other first h call m other never same how goes (to_tell a p l w n d) = to_tell a (same ∙ p) l w (stays_alarm m (motion_of first h) call never how n) (record { plan = d.plan; hand = d.hand; done = d.done })
 on_other first h call m other never same how goes (ended a p l w n e) = ended a (same ∙ p) l w (stays_alarm m (motion_of first h) call never how n) e
+on_other first h call m other never same how goes (locked a p l n d) = locked a (same ∙ p) l (stays_alarm m (motion_of first h) call never how n) (record { plan = d.plan; hand = d.hand; done = d.done })
+on_other first h call m other never same how goes (locked_end a p l n e) = locked_end a (same ∙ p) l (stays_alarm m (motion_of first h) call never how n) e
 
 unlocks_alarm : (was now : Motion) → after on_unlock was ≡ Some now → was ≡ Alarm
 unlocks_alarm Alarm now e = refl
 unlocks_alarm was now e = absurd cc
+
+unlocks_calm : (was now : Motion) → after on_unlock was ≡ Some now → is_limited now ≡ false
+unlocks_calm Alarm now e = let f : Idle ≡ now = cc in sym (ap is_limited f)
+unlocks_calm was now e = absurd cc
+
+-- what ends a run halts no machine
+ends_calm : (ts : List Task) → only_ends ts ≡ true → no_halts ts ≡ true
+ends_calm [] is = refl
+ends_calm (tell r ∷ ts) is = ends_calm ts is
+ends_calm (finish ∷ ts) is = ends_calm ts is
+ends_calm (_ ∷ ts) is = absurd cc
+
+last_calm : (ts : List Task) (hand : List Piece) → (ts ≡ tell Bye ∷ []) ⊎ ((ts ≡ []) × (hand ≡ [])) → no_halts ts ≡ true
+last_calm ts hand (inl l) = ap no_halts l
+last_calm ts hand (inr (l, d)) = ap no_halts l
 
 on_call : (first : Opening) (h : Journal) (call : Call) (m : Motion) → after call (motion_of first h) ≡ Some m → MayHappen first call h → Halting first h → Halting first (became call m ∷ h)
 on_call first h (on_exec word queued) m then may = on_other first h (on_exec word queued) m (λ e. absurd cc) (λ e. absurd cc) refl (reached (on_exec word queued) (motion_of first h) m then)
@@ -306,6 +370,8 @@ on_call first h on_unlock m then may = by_stage
     by_stage (to_halt a p l w n) = opposite (has_limited h) a may.calm
     by_stage (to_tell a p l w n d) = opposite (has_limited h) a may.calm
     by_stage (ended a p l w n e) = opposite (has_limited h) a may.calm
+    by_stage (locked a p l n d) = calm a (unlocks_calm (motion_of first h) m then) (ends_calm (left_of first h) l) p
+    by_stage (locked_end a p l n e) = calm a (unlocks_calm (motion_of first h) m then) (last_calm (left_of first h) (hand_of h) l) p
 on_call first h on_limit m then may = by_stage
   where
     by_stage : Halting first h → Halting first (became on_limit m ∷ h)
@@ -314,13 +380,17 @@ on_call first h on_limit m then may = by_stage
     by_stage (to_halt a p l w n) = opposite (is_limited (motion_of first h)) n may.unlimited
     by_stage (to_tell a p l w n d) = opposite (is_limited (motion_of first h)) (ap is_limited n) may.unlimited
     by_stage (ended a p l w n e) = opposite (is_limited (motion_of first h)) (ap is_limited n) may.unlimited
+    by_stage (locked a p l n d) = opposite (has_limited h) may.alarmed a
+    by_stage (locked_end a p l n e) = opposite (has_limited h) may.alarmed a
 
-on_cut : (first : Opening) (h : Journal) (k : ℕ) → has_limited h ≡ false → Halting first h → Halting first (cut k ∷ h)
-on_cut first h k none (calm a m l p) = calm a m (no_halts_kept (left_of first h) l) p
-on_cut first h k none (pending a p l w m) = opposite (has_limited h) a none
-on_cut first h k none (to_halt a p l w m) = opposite (has_limited h) a none
-on_cut first h k none (to_tell a p l w m d) = opposite (has_limited h) a none
-on_cut first h k none (ended a p l w m e) = opposite (has_limited h) a none
+on_cut : (first : Opening) (h : Journal) (k : ℕ) → has_limited h ≡ false → motion_of first h ≡ Cancelling → Halting first h → Halting first (cut k ∷ h)
+on_cut first h k none cancelled (calm a m l p) = calm a m (no_halts_kept (left_of first h) l) p
+on_cut first h k none cancelled (pending a p l w m) = opposite (has_limited h) a none
+on_cut first h k none cancelled (to_halt a p l w m) = opposite (has_limited h) a none
+on_cut first h k none cancelled (to_tell a p l w m d) = opposite (has_limited h) a none
+on_cut first h k none cancelled (ended a p l w m e) = opposite (has_limited h) a none
+on_cut first h k none cancelled (locked a p l m d) = absurd (let e = sym m ∙ cancelled in cc)
+on_cut first h k none cancelled (locked_end a p l m e) = absurd (let f = sym m ∙ cancelled in cc)
 
 on_halted : (first : Opening) (h : Journal) → IsNextTask first halt h → motion_of first h ≡ Alarm → hand_of h ≡ [] → known_of h ≡ ticks_given h → Halting first h → Halting first (halted ∷ h)
 on_halted first h next alarm empty done (calm a m l p) = opposite (is_limited (motion_of first h)) (ap is_limited alarm) m
@@ -330,6 +400,9 @@ on_halted first h next alarm empty done (to_halt a p l w m) =
 on_halted first h next alarm empty done (to_tell a p l w m d) = not_of_end (left_of first h) halt next refl l
 on_halted first h next alarm empty done (ended a p (inl l) w m e) = absurd (let f = head_is (left_of first h) halt (tell Bye) [] next l in cc)
 on_halted first h next alarm empty done (ended a p (inr (l, d)) w m e) = absurd (none_next (left_of first h) halt l next)
+on_halted first h next alarm empty done (locked a p l m d) = not_of_end (left_of first h) halt next refl l
+on_halted first h next alarm empty done (locked_end a p (inl l) m e) = absurd (let f = head_is (left_of first h) halt (tell Bye) [] next l in cc)
+on_halted first h next alarm empty done (locked_end a p (inr (l, d)) m e) = absurd (none_next (left_of first h) halt l next)
 
 on_closing : (first : Opening) (h : Journal) → left_of first h ≡ [] → closed_tells h ≡ [] → Halting first h → Halting first (closing ∷ h)
 on_closing first h free going (calm a m l p) = calm a m refl p
@@ -337,6 +410,8 @@ on_closing first h free going (pending a p l w m) = absurd (let e = sym free ∙
 on_closing first h free going (to_halt a p l w m) = absurd (let e = sym free ∙ l in cc)
 on_closing first h free going (to_tell a p l w m d) = to_tell a p refl w m (record { plan = d.plan; hand = d.hand; done = d.done })
 on_closing first h free going (ended a p l w m e) = absurd (e going)
+on_closing first h free going (locked a p l m d) = locked a p refl m (record { plan = d.plan; hand = d.hand; done = d.done })
+on_closing first h free going (locked_end a p l m e) = absurd (e going)
 
 -- ---- of all that was done
 
@@ -365,24 +440,28 @@ no_halts_told : (rs : List Reply) → no_halts (telling rs) ≡ true
 no_halts_told [] = refl
 no_halts_told (r ∷ rs) = no_halts_told rs
 
--- where the machine is not locked at first
-pub halting_is : (first : Opening) → is_limited first.motion ≡ false → (h : Journal) → Conducted first h → Halting first h
-halting_is first free [] c = calm refl free (no_halts_told first.tells) refl
-halting_is first free (at_port (took b) ∷ h) c = on_took first h b c.0.polls.calm (halting_is first free h c.1)
-halting_is first free (at_port (answered r) ∷ h) c = on_answer first h r c.0 (halting_is first free h c.1)
-halting_is first free (at_port (published p) ∷ h) c = on_publish first h p c.0.0 (halting_is first free h c.1)
-halting_is first free (at_port (loaded done) ∷ h) c = on_load first h done c.1 c.0 (halting_is first free h c.1)
-halting_is first free (at_port (found_halt done) ∷ h) c = absurd c.0
-halting_is first free (began o ∷ h) c = on_line first free h o c.0 (of_begun first h o HaltsOrNot c.0 (inr (refl, refl)) (line_halts true (caused first h) (open_of h))) (halting_is first free h c.1)
-halting_is first free (did a ps ∷ h) c = on_did first h a ps c.0.0 c.0.1 (halting_is first free h c.1)
-halting_is first free (made_end ∷ h) c = on_end first h c.1 c.0.next (halting_is first free h c.1)
-halting_is first free (evened ∷ h) c = on_asked first h (evened ∷ h) normal c.0.rests.next (λ e. absurd cc) refl (λ e. absurd cc) refl refl (λ e. e) refl (halting_is first free h c.1)
-halting_is first free (paused ∷ h) c = on_asked first h (paused ∷ h) pause c.0.rests.next (λ e. absurd cc) refl (λ e. absurd cc) refl refl (λ e. refl) refl (halting_is first free h c.1)
-halting_is first free (became call m ∷ h) c = on_call first h call m c.0.0 c.0.1 (halting_is first free h c.1)
-halting_is first free (cut k ∷ h) c = on_cut first h k c.0.calm (halting_is first free h c.1)
-halting_is first free (halted ∷ h) c = on_halted first h c.0.next c.0.alarm c.0.empty c.0.done (halting_is first free h c.1)
-halting_is first free (closing ∷ h) c = on_closing first h c.0.free c.0.going (halting_is first free h c.1)
-halting_is first free (e ∷ h) c = still first h (e ∷ h) refl refl refl refl refl refl refl refl refl refl (halting_is first free h c.1)
+opens_so : (first : Opening) → MayOpen first → (m : Motion) → first.motion ≡ m → Halting first []
+opens_so first opens Idle is = calm refl (ap is_limited is) (no_halts_told first.tells) refl
+opens_so first opens Alarm is = locked refl refl (told_ends first.tells) is (record { plan = record { blocks = refl; speed = refl }; hand = refl; done = refl })
+opens_so first opens m is = opens_still first m opens is refl
+
+pub halting_is : (first : Opening) (h : Journal) → Conducted first h → Halting first h
+halting_is first [] c = opens_so first c first.motion refl
+halting_is first (at_port (took b) ∷ h) c = on_took first h b c.0.polls.calm (halting_is first h c.1)
+halting_is first (at_port (answered r) ∷ h) c = on_answer first h r c.0 (halting_is first h c.1)
+halting_is first (at_port (published p) ∷ h) c = on_publish first h p c.0.0 (halting_is first h c.1)
+halting_is first (at_port (loaded done) ∷ h) c = on_load first h done c.1 c.0 (halting_is first h c.1)
+halting_is first (at_port (found_halt done) ∷ h) c = absurd c.0
+halting_is first (began o ∷ h) c = on_line first h o c.1 c.0 (of_begun first h o HaltsOrNot c.0 (inr (refl, refl)) (line_halts true (caused first h) (open_of h))) (halting_is first h c.1)
+halting_is first (did a ps ∷ h) c = on_did first h a ps c.0.0 c.0.1 (halting_is first h c.1)
+halting_is first (made_end ∷ h) c = on_end first h c.1 c.0.next (halting_is first h c.1)
+halting_is first (evened ∷ h) c = on_asked first h (evened ∷ h) normal c.0.rests.next (λ e. absurd cc) refl (λ e. absurd cc) refl refl (λ e. e) refl (halting_is first h c.1)
+halting_is first (paused ∷ h) c = on_asked first h (paused ∷ h) pause c.0.rests.next (λ e. absurd cc) refl (λ e. absurd cc) refl refl (λ e. refl) refl (halting_is first h c.1)
+halting_is first (became call m ∷ h) c = on_call first h call m c.0.0 c.0.1 (halting_is first h c.1)
+halting_is first (cut k ∷ h) c = on_cut first h k c.0.calm c.0.cancelled (halting_is first h c.1)
+halting_is first (halted ∷ h) c = on_halted first h c.0.next c.0.alarm c.0.empty c.0.done (halting_is first h c.1)
+halting_is first (closing ∷ h) c = on_closing first h c.0.free c.0.going (halting_is first h c.1)
+halting_is first (e ∷ h) c = still first h (e ∷ h) refl refl refl refl refl refl refl refl refl refl (halting_is first h c.1)
 
 -- ---- what follows
 
@@ -393,20 +472,37 @@ calm_at first h (pending a p l w m) none off_limit = opposite (limit_pending h) 
 calm_at first h (to_halt a p l w m) none off_limit = opposite (is_limited (motion_of first h)) m off_limit
 calm_at first h (to_tell a p l w m d) none off_limit = opposite (is_limited (motion_of first h)) (ap is_limited m) off_limit
 calm_at first h (ended a p l w m e) none off_limit = opposite (is_limited (motion_of first h)) (ap is_limited m) off_limit
+calm_at first h (locked a p l m d) none off_limit = a
+calm_at first h (locked_end a p l m e) none off_limit = a
 
-pub unalarmed : (first : Opening) → is_limited first.motion ≡ false → (h : Journal) → Conducted first h → limit_pending h ≡ false → is_limited (motion_of first h) ≡ false → has_limited h ≡ false
-unalarmed first free h c none other = calm_at first h (halting_is first free h c) none other
+pub unalarmed : (first : Opening) (h : Journal) → Conducted first h → limit_pending h ≡ false → is_limited (motion_of first h) ≡ false → has_limited h ≡ false
+unalarmed first h c none other = calm_at first h (halting_is first h c) none other
 
--- one that stops it has
-alarmed_at : (first : Opening) (h : Journal) → Halting first h → is_limited (motion_of first h) ≡ true → (has_limited h ≡ true) × (whole_of h ≡ false)
-alarmed_at first h (calm a m l p) is = opposite (is_limited (motion_of first h)) is m
-alarmed_at first h (pending a p l w m) is = either_off (motion_of first h) m is
-alarmed_at first h (to_halt a p l w m) is = (a, w)
-alarmed_at first h (to_tell a p l w m d) is = (a, w)
-alarmed_at first h (ended a p l w m e) is = (a, w)
+-- where it is stopped for a line that has raised an alarm, a soft limit stops it, and no line is left
+alarmed_at : (first : Opening) (h : Journal) → Halting first h → limit_pending h ≡ false → has_limited h ≡ true → (is_limited (motion_of first h) ≡ true) × (whole_of h ≡ false)
+alarmed_at first h (calm a m l p) none one = opposite (has_limited h) one a
+alarmed_at first h (pending a p l w m) none one = opposite (limit_pending h) p none
+alarmed_at first h (to_halt a p l w m) none one = (m, w)
+alarmed_at first h (to_tell a p l w m d) none one = (ap is_limited m, w)
+alarmed_at first h (ended a p l w m e) none one = (ap is_limited m, w)
+alarmed_at first h (locked a p l m d) none one = opposite (has_limited h) one a
+alarmed_at first h (locked_end a p l m e) none one = opposite (has_limited h) one a
 
-pub limit_alarms : (first : Opening) → is_limited first.motion ≡ false → (h : Journal) → Conducted first h → is_limited (motion_of first h) ≡ true → (has_limited h ≡ true) × (whole_of h ≡ false)
-limit_alarms first free h c is = alarmed_at first h (halting_is first free h c) is
+pub alarm_limits : (first : Opening) (h : Journal) → Conducted first h → limit_pending h ≡ false → has_limited h ≡ true → (is_limited (motion_of first h) ≡ true) × (whole_of h ≡ false)
+alarm_limits first h c none one = alarmed_at first h (halting_is first h c) none one
+
+-- only a line that has raised an alarm halts a machine
+raised_at : (first : Opening) (h : Journal) → Halting first h → halts_next (left_of first h) ≡ true → has_limited h ≡ true
+raised_at first h (calm a m l p) next = opposite (halts_next (left_of first h)) next (none_halts_next (left_of first h) l)
+raised_at first h (pending a p l w m) next = a
+raised_at first h (to_halt a p l w m) next = a
+raised_at first h (to_tell a p l w m d) next = a
+raised_at first h (ended a p l w m e) next = a
+raised_at first h (locked a p l m d) next = opposite (halts_next (left_of first h)) next (none_halts_next (left_of first h) (ends_calm (left_of first h) l))
+raised_at first h (locked_end a p l m e) next = opposite (halts_next (left_of first h)) next (none_halts_next (left_of first h) (last_calm (left_of first h) (hand_of h) l))
+
+pub halts_raised : (first : Opening) (h : Journal) → Conducted first h → halts_next (left_of first h) ≡ true → has_limited h ≡ true
+halts_raised first h c next = raised_at first h (halting_is first h c) next
 
 -- a machine that is to be halted slows down, or stands in alarm
 halts_at : (first : Opening) (h : Journal) → Halting first h → limit_pending h ≡ false → halts_next (left_of first h) ≡ true → is_limited (motion_of first h) ≡ true
@@ -415,9 +511,11 @@ halts_at first h (pending a p l w m) none next = opposite (limit_pending h) p no
 halts_at first h (to_halt a p l w m) none next = m
 halts_at first h (to_tell a p l w m d) none next = ap is_limited m
 halts_at first h (ended a p l w m e) none next = ap is_limited m
+halts_at first h (locked a p l m d) none next = ap is_limited m
+halts_at first h (locked_end a p l m e) none next = ap is_limited m
 
-pub halts_limited : (first : Opening) → is_limited first.motion ≡ false → (h : Journal) → Conducted first h → limit_pending h ≡ false → halts_next (left_of first h) ≡ true → is_limited (motion_of first h) ≡ true
-halts_limited first free h c none next = halts_at first h (halting_is first free h c) none next
+pub halts_limited : (first : Opening) (h : Journal) → Conducted first h → limit_pending h ≡ false → halts_next (left_of first h) ≡ true → is_limited (motion_of first h) ≡ true
+halts_limited first h c none next = halts_at first h (halting_is first h c) none next
 
 -- what is next of such a run is to halt the machine, to tell something, or to make the end
 abbrev pub ends_run : Task → Bool
@@ -438,9 +536,12 @@ next_at first h t (to_halt a p l w m) is next = ap ends_run (head_is (left_of fi
 next_at first h t (to_tell a p l w m d) is next = first_of_end t (drop 1 (left_of first h)) (sym (ap only_ends next) ∙ l)
 next_at first h t (ended a p (inl l) w m e) is next = ap ends_run (head_is (left_of first h) t (tell Bye) [] next l)
 next_at first h t (ended a p (inr (l, d)) w m e) is next = absurd (none_next (left_of first h) t l next)
+next_at first h t (locked a p l m d) is next = first_of_end t (drop 1 (left_of first h)) (sym (ap only_ends next) ∙ l)
+next_at first h t (locked_end a p (inl l) m e) is next = ap ends_run (head_is (left_of first h) t (tell Bye) [] next l)
+next_at first h t (locked_end a p (inr (l, d)) m e) is next = absurd (none_next (left_of first h) t l next)
 
-pub limited_next : (first : Opening) → is_limited first.motion ≡ false → (h : Journal) (t : Task) → Conducted first h → is_limited (motion_of first h) ≡ true → IsNextTask first t h → ends_run t ≡ true
-limited_next first free h t c is next = next_at first h t (halting_is first free h c) is next
+pub limited_next : (first : Opening) (h : Journal) (t : Task) → Conducted first h → is_limited (motion_of first h) ≡ true → IsNextTask first t h → ends_run t ≡ true
+limited_next first h t c is next = next_at first h t (halting_is first h c) is next
 
 -- the end comes where nothing is left to run
 finish_at : (first : Opening) (h : Journal) → Halting first h → is_limited (motion_of first h) ≡ true → IsNextTask first finish h → MayFinish first h
@@ -450,9 +551,12 @@ finish_at first h (to_halt a p l w m) is next = not_halt (left_of first h) finis
 finish_at first h (to_tell a p l w m d) is next = record { drained = d; stands = ap stands_still m }
 finish_at first h (ended a p (inl l) w m e) is next = absurd (let f = head_is (left_of first h) finish (tell Bye) [] next l in cc)
 finish_at first h (ended a p (inr (l, d)) w m e) is next = absurd (none_next (left_of first h) finish l next)
+finish_at first h (locked a p l m d) is next = record { drained = d; stands = ap stands_still m }
+finish_at first h (locked_end a p (inl l) m e) is next = absurd (let f = head_is (left_of first h) finish (tell Bye) [] next l in cc)
+finish_at first h (locked_end a p (inr (l, d)) m e) is next = absurd (none_next (left_of first h) finish l next)
 
-pub limited_finish : (first : Opening) → is_limited first.motion ≡ false → (h : Journal) → Conducted first h → is_limited (motion_of first h) ≡ true → IsNextTask first finish h → MayFinish first h
-limited_finish first free h c is next = finish_at first h (halting_is first free h c) is next
+pub limited_finish : (first : Opening) (h : Journal) → Conducted first h → is_limited (motion_of first h) ≡ true → IsNextTask first finish h → MayFinish first h
+limited_finish first h c is next = finish_at first h (halting_is first h c) is next
 
 -- something is left to do where a piece is in hand
 left_at : (first : Opening) (h : Journal) → Halting first h → has_limited h ≡ true → (hand_of h ≡ [] → ⊥) → left_of first h ≡ [] → ⊥
@@ -462,9 +566,11 @@ left_at first h (to_halt a p l w m) one some none = absurd (let e = sym none ∙
 left_at first h (to_tell a p l w m d) one some none = some d.hand
 left_at first h (ended a p (inl l) w m e) one some none = absurd (let f = sym none ∙ l in cc)
 left_at first h (ended a p (inr (l, d)) w m e) one some none = some d
+left_at first h (locked a p l m d) one some none = opposite (has_limited h) one a
+left_at first h (locked_end a p l m e) one some none = opposite (has_limited h) one a
 
-pub left_alarmed : (first : Opening) → is_limited first.motion ≡ false → (h : Journal) → Conducted first h → has_limited h ≡ true → (hand_of h ≡ [] → ⊥) → left_of first h ≡ [] → ⊥
-left_alarmed first free h c one some none = left_at first h (halting_is first free h c) one some none
+pub left_alarmed : (first : Opening) (h : Journal) → Conducted first h → has_limited h ≡ true → (hand_of h ≡ [] → ⊥) → left_of first h ≡ [] → ⊥
+left_alarmed first h c one some none = left_at first h (halting_is first h c) one some none
 
 -- ---- what is left where the machine is to be halted
 
@@ -475,6 +581,9 @@ halting_at first h (to_halt a p l w m) is next = l
 halting_at first h (to_tell a p l w m d) is next = not_of_end (left_of first h) halt next refl l
 halting_at first h (ended a p (inl l) w m e) is next = absurd (let f = head_is (left_of first h) halt (tell Bye) [] next l in cc)
 halting_at first h (ended a p (inr (l, d)) w m e) is next = absurd (none_next (left_of first h) halt l next)
+halting_at first h (locked a p l m d) is next = not_of_end (left_of first h) halt next refl l
+halting_at first h (locked_end a p (inl l) m e) is next = absurd (let f = head_is (left_of first h) halt (tell Bye) [] next l in cc)
+halting_at first h (locked_end a p (inr (l, d)) m e) is next = absurd (none_next (left_of first h) halt l next)
 
-pub halting_left : (first : Opening) → is_limited first.motion ≡ false → (h : Journal) → Conducted first h → is_limited (motion_of first h) ≡ true → IsNextTask first halt h → left_of first h ≡ halting_work
-halting_left first free h c is next = halting_at first h (halting_is first free h c) is next
+pub halting_left : (first : Opening) (h : Journal) → Conducted first h → is_limited (motion_of first h) ≡ true → IsNextTask first halt h → left_of first h ≡ halting_work
+halting_left first h c is next = halting_at first h (halting_is first h c) is next
