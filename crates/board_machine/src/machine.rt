@@ -7,7 +7,7 @@ ghost use Rattle.step_line.specs.Asking.{IsPlannedMove};
 ghost use Rattle.step_line.specs.declared.Piece.{Piece as AnyPiece};
 ghost use Rattle.step_line.specs.declared.Segment.{Segment};
 ghost use Rattle.overrides.specs.Percents.{IsOverrides, taken};
-ghost use Rattle.feed_hold.specs.Motions.{after_word, is_going, is_halting, is_limited, is_stopping};
+ghost use Rattle.feed_hold.specs.Motions.{after_word, behind_reset, is_moving, is_going, is_halting, is_limited, is_stopping};
 ghost use Rattle.plan_rules.specs.Plans.{Planned};
 ghost use Rattle.plan_rules.specs.Segments.{advanced};
 ghost use Rattle.plan_rules.specs.Taking.{IsNext};
@@ -348,6 +348,27 @@ impl Machine {
         ensures { (p : Planned) (now : AnyMotion) (hand given : List AnyPiece) → Runs self.old p now hand given → Runs self.new p motions.Alarm hand given }
     {
         self.hold.on_stopped();
+    }
+
+    /// A line unlocks the machine, which stands in alarm.
+    pub fn unlock(&mut self)
+        requires { self.old.hold.motion ≡ motions.Alarm }
+        ensures { (p : Planned) (now : AnyMotion) (hand given : List AnyPiece) → Runs self.old p now hand given → Runs self.new p motions.Idle hand given }
+    {
+        self.hold.on_unlock();
+    }
+
+    /// A reset has halted the machine: an empty plan at rest, of which nothing was given. One that was moving is locked, and one in
+    /// alarm stays so. Answers whether it was moving.
+    pub fn reset(&mut self) -> bool
+        ensures moving { result ≡ is_moving self.old.hold.motion }
+        ensures runs { Runs self.new fresh_plan (behind_reset self.old.hold.motion) [] [] }
+    {
+        let mut hold = self.hold;
+        let moving = hold.on_reset();
+        *self = Machine::new();
+        self.hold = hold;
+        moving
     }
 
     /// Jogs that were cancelled are cut, and the machine stands.
