@@ -1,10 +1,10 @@
 -- A line that was taken whole is begun.
-use Rattle.std.proofs.Common.{◌≡◌, ℕ, ◌+◌, ◌≤◌, ◌⊎◌, inl, inr, Bool, true, false, ◌&&◌, ◌||◌, Some, List, [], ◌∷◌, ◌++◌, sym, refl, ap, ◌∙◌, subst, arith, append_assoc}
+use Rattle.std.proofs.Common.{◌≡◌, ℕ, ◌+◌, ◌≤◌, ◌⊎◌, inl, inr, Bool, true, false, not, ◌&&◌, ◌||◌, Some, List, [], ◌∷◌, ◌++◌, sym, refl, ap, ◌∙◌, subst, arith, append_assoc}
 use Rattle.std.specs.List.{list_any, count_by}
 use Rattle.feed_hold.specs.declared.Motion.{Motion as AnyMotion}
 use Rattle.feed_hold.specs.declared.Motion.TheVariants as motions
 use Rattle.feed_hold.specs.Motions.{after as after_call}
-use Rattle.feed_hold.specs.Motions.Call.{on_start, on_limit}
+use Rattle.feed_hold.specs.Motions.Call.{on_start, on_limit, on_unlock}
 use Rattle.outside.specs.declared.Turn.TheVariants.{Did}
 use Rattle.board_rules.specs.Openings.{Opening}
 use Rattle.run_rules.specs.Work.{Task, Outcome, is_limit}
@@ -14,13 +14,13 @@ use Rattle.line_interpreter.specs.Interpreting.{Interpreting}
 use Rattle.line_interpreter.specs.Lefts.{IsTodo}
 use Rattle.line_interpreter.specs.declared.tasks.Todo.{Todo}
 use Rattle.line_interpreter.specs.declared.tasks.Todo.TheVariants as todo
-use Rattle.board_rules.specs.Steps.{Journal, port_log, has_limited, open_of, whole_of, before_of, left_of, given_of, hand_of, plan_of, motion_of}
+use Rattle.board_rules.specs.Steps.{Journal, port_log, has_limited, lines_of, open_of, whole_of, before_of, left_of, given_of, hand_of, plan_of, motion_of}
 use Rattle.board_rules.specs.Ports.PortStep.{answered, no_reply_room}
 use Rattle.board_rules.specs.Steps.{Step}
 use Rattle.board_rules.specs.Steps.Step.{at_port, began, became}
 use Rattle.board_rules.specs.Cuts.{has_cut, is_cancelling}
 use Rattle.board_rules.proofs.Beginning.{caused, of_begun}
-use Rattle.board_rules.specs.Turns.{this_turn, publishing, moving, owes_report, unobeyed_of, flags_taken, found_none, has_blocks, has_jogged, machine_in, tries_of, missed_of, is_due, is_full, awaits_motion, halts_next, is_limited, is_locked, begins_in, starts_cycle}
+use Rattle.board_rules.specs.Turns.{this_turn, publishing, moving, owes_report, unobeyed_of, flags_taken, found_none, has_blocks, has_jogged, machine_in, tries_of, missed_of, is_due, is_full, awaits_motion, halts_next, is_alarm, is_limited, is_locked, awaits_unlock, begins_in, starts_cycle}
 use Rattle.board_rules.specs.Conduct.{MayBegin, MayStart}
 use Rattle.board_turns.specs.declared.board.Board.{Board}
 use Rattle.board_machine.specs.declared.machine.Machine.{Machine}
@@ -38,8 +38,11 @@ use Rattle.board_turns.proofs.Standing.{blocks_undrained}
 use Rattle.board_rules.proofs.Tries.{IsNoWord, worked_behind, publishes_one, publishes_none}
 use Rattle.board_rules.proofs.Uncut.{uncut_else}
 use Rattle.board_rules.proofs.HaltWorks.{HaltsOrNot, line_halts, none_halts_next}
-use Rattle.board_rules.proofs.Stages.{alarm_stands}
-use Rattle.board_turns.proofs.Steps.{begins_unlimited, calm_now}
+use Rattle.board_rules.proofs.Alarms.{still_locked}
+use Rattle.run_rules.specs.Locking.{unlocks}
+use Rattle.std.proofs.lemmas.List.Folds.{list_any-append}
+use Rattle.board_turns.proofs.Stages.{alarm_stands, told_halts}
+use Rattle.board_turns.proofs.Known.{calm_whole}
 use Rattle.board_turns.proofs.Ends.{takes_none, did_filled, free_of, free_passed}
 
 -- ---- the rules
@@ -62,7 +65,7 @@ may_begin first h o may calm found = record {
   going = may.looked.going;
   whole = may.looked.whole;
   becomes = found;
-  begins = either_true (begins_in (motion_of first h)) (is_locked first h) may.looked.begins;
+  begins = may.looked.begins;
   flags = may.looked.flags;
   obeyed = may.looked.worked.obeyed may.looked.unowed;
   unowed = may.looked.unowed;
@@ -74,7 +77,7 @@ may_begin first h o may calm found = record {
 
 -- a line is begun
 begins : (first : Opening) (was now : Board) (h : Journal) (o : Outcome) → (j : IsJudged first was now h o) → MayBegin first o h
-begins first was now h o j = may_begin first h o j.may (calm_now first was h j.keeps (begins_unlimited (motion_of first h) j.may.looked.begins)) j.found
+begins first was now h o j = may_begin first h o j.may (calm_whole first was h j.keeps j.may.looked.whole) j.found
 
 works : (first : Opening) (was now : Board) (h : Journal) (o : Outcome) → (j : IsJudged first was now h o) → Works now.lines o.work (after (before_of first h) o)
 works first was now h o j = record {
@@ -98,13 +101,60 @@ not_halting todo.Normal ts is other = ap halts_next is
 not_halting todo.Finish ts is other = ap halts_next is
 not_halting todo.Halt ts is other = absurd (other refl)
 
+-- it raises no alarm then
+calm_line : (first : Opening) (was now : Board) (h : Journal) (o : Outcome) → IsJudged first was now h o → halts_next o.work ≡ false → is_limit o.answer ≡ false
+calm_line first was now h o j none = by_line (of_begun first h o HaltsOrNot (begins first was now h o j) (inr (refl, refl)) (line_halts true (caused first h) (open_of h)))
+  where
+    by_line : HaltsOrNot o → is_limit o.answer ≡ false
+    by_line (inl (one, work)) = absurd (let e = sym none ∙ ap halts_next work in cc)
+    by_line (inr (calm, work)) = calm
+
+-- ---- a machine that is locked
+
+both_off : (a b : Bool) → a ≡ true → (not a && b) ≡ false
+both_off true b e = refl
+both_off false b e = absurd cc
+
+locked_by : (a b : Bool) → (not a && not b) ≡ false → b ≡ false → a ≡ true
+locked_by true b e none = refl
+locked_by false true e none = absurd cc
+locked_by false false e none = absurd cc
+
+-- no line waits for an unlock in alarm where no line has raised one: it is locked
+pub still_is : (first : Opening) (h : Journal) → awaits_unlock first h ≡ false → has_limited h ≡ false → motion_of first h ≡ motions.Alarm → is_locked first h ≡ true
+still_is first h none calm alarm = locked_by (is_locked first h) (has_limited h) (sym (ap (λ (m : AnyMotion). is_alarm m && (not (is_locked first h) && not (has_limited h))) alarm) ∙ none) calm
+
+locks_on : (t a b : Bool) → (t && not a) ≡ true → b ≡ false → (t && not (a || b)) ≡ true
+locks_on true false b was none = ap not none
+locks_on true true b was none = absurd cc
+locks_on false a b was none = absurd cc
+
+locks_off : (t a b : Bool) → b ≡ true → (t && not (a || b)) ≡ false
+locks_off true true b one = refl
+locks_off true false b one = ap not one
+locks_off false a b one = refl
+
+or_off : (b : Bool) → (b || false) ≡ b
+or_off true = refl
+or_off false = refl
+
+lines_on : (h : Journal) → list_any unlocks (lines_of h ++ open_of h ∷ []) ≡ (list_any unlocks (lines_of h) || unlocks (open_of h))
+lines_on h = list_any-append unlocks (lines_of h) (open_of h ∷ []) ∙ ap (λ (b : Bool). list_any unlocks (lines_of h) || b) (or_off (unlocks (open_of h)))
+
+none_awaited : (first : Opening) (h : Journal) (o : Outcome) → awaits_unlock first h ≡ false → has_limited h ≡ false → (motion_of first h ≡ motions.Alarm → unlocks (open_of h) ≡ false) → (m : AnyMotion) → motion_of first h ≡ m → awaits_unlock first (began o ∷ h) ≡ false
+none_awaited first h o none calm still motions.Alarm is =
+    let locked : is_locked first (began o ∷ h) ≡ true =
+    ap (λ (b : Bool). is_limited first.motion && not b) (lines_on h) ∙ locks_on (is_limited first.motion) (list_any unlocks (lines_of h)) (unlocks (open_of h)) (still_is first h none calm is) (still is) in
+    ap (λ (m : AnyMotion). is_alarm m && (not (is_locked first (began o ∷ h)) && not (is_limit o.answer))) is ∙ both_off (is_locked first (began o ∷ h)) (not (is_limit o.answer)) locked
+none_awaited first h o none calm still m is = ap (λ (x : AnyMotion). is_alarm x && (not (is_locked first (began o ∷ h)) && not (is_limit o.answer))) is ∙ refl
+
 -- a line is begun that does not halt the machine
-pub begun : (first : Opening) (was now : Board) (t : Todo) (h : Journal) (o : Outcome) → IsJudged first was now h o → was.resetting ≡ false → IsTodo t now.lines.left → (t ≡ todo.Halt → ⊥) → Keeps first now (began o ∷ h)
-begun first was now t h o j none is other =
+pub begun : (first : Opening) (was now : Board) (t : Todo) (h : Journal) (o : Outcome) → IsJudged first was now h o → was.resetting ≡ false → IsTodo t now.lines.left → (t ≡ todo.Halt → ⊥) → (motion_of first h ≡ motions.Alarm → unlocks (open_of h) ≡ false)
+    → Keeps first now (began o ∷ h)
+begun first was now t h o j none is other still =
     let k = j.keeps in
     subst (λ (c : Board). Keeps first c (began o ∷ h)) (sym j.same) (record {
       placed = k.placed;
-      free = k.free;
       short = k.short;
       conducted = (begins first was now h o j, k.conducted);
       machine = k.machine;
@@ -123,6 +173,8 @@ begun first was now t h o j none is other =
       going = k.going;
       closed = k.closed;
       limited = not_halting t o.work (next_judged first was now h o t j is) other;
+      alarmed_is = k.alarmed_is ∙ calm_whole first was h k j.may.looked.whole ∙ sym (calm_line first was now h o j (not_halting t o.work (next_judged first was now h o t j is) other));
+      unlocked = none_awaited first h o k.unlocked (calm_whole first was h k j.may.looked.whole) still (motion_of first h) refl;
       tries = λ one. j.may.looked.tries;
     })
 
@@ -142,7 +194,7 @@ alarms first was now h o j halts = by_line (of_begun first h o HaltsOrNot (begin
 
 -- so the machine stands, or runs
 stands_or_runs : (first : Opening) (was now : Board) (h : Journal) (o : Outcome) → IsJudged first was now h o → halts_next o.work ≡ true → (motion_of first h ≡ motions.Idle) ⊎ (motion_of first h ≡ motions.Run)
-stands_or_runs first was now h o j halts = alarm_stands first h o j.may.looked.begins j.found (alarms first was now h o j halts)
+stands_or_runs first was now h o j halts = alarm_stands first h o (begins first was now h o j, j.keeps.conducted) (alarms first was now h o j halts)
 
 -- the machine is as it was
 pub machine_judged : (first : Opening) (was now : Board) (h : Journal) (o : Outcome) → IsJudged first was now h o → Runs now.machine (plan_of h) (motion_of first h) (hand_of h) (given_of h)
@@ -171,16 +223,23 @@ limits_off motions.Run was none = none
 limits_off m was none = none
 
 -- and is stopped for that at once
+none_waits_limited : (first : Opening) (h : Journal) (o : Outcome) → is_limit o.answer ≡ true → (m : AnyMotion) → awaits_unlock first (became on_limit m ∷ began o ∷ h) ≡ false
+none_waits_limited first h o one m = none_of (is_alarm m) (is_locked first (began o ∷ h)) (is_limit o.answer) one
+  where
+    none_of : (a b c : Bool) → c ≡ true → (a && (not b && not c)) ≡ false
+    none_of false b c e = refl
+    none_of true true c e = refl
+    none_of true false c e = ap not e
+
 pub begun_limited : (first : Opening) (was now : Board) (m : Machine) (h : Journal) (o : Outcome) → IsJudged first was now h o → was.resetting ≡ false → IsTodo todo.Halt now.lines.left → Runs m (plan_of h) (limit_motion (motion_of first h)) (hand_of h) (given_of h)
-    → Keeps first (record now { machine = m }) (became on_limit (limit_motion (motion_of first h)) ∷ began o ∷ h)
+    → Keeps first (record now { machine = m; alarmed = true }) (became on_limit (limit_motion (motion_of first h)) ∷ began o ∷ h)
 begun_limited first was now m h o j none is runs =
     let k = j.keeps in
     let next = next_judged first was now h o todo.Halt j is in
     let halts : halts_next o.work ≡ true = ap halts_next next in
     let stands = stands_or_runs first was now h o j halts in
-    subst (λ (c : Board). Keeps first (record c { machine = m }) (became on_limit (limit_motion (motion_of first h)) ∷ began o ∷ h)) (sym j.same) (record {
+    subst (λ (c : Board). Keeps first (record c { machine = m; alarmed = true }) (became on_limit (limit_motion (motion_of first h)) ∷ began o ∷ h)) (sym j.same) (record {
       placed = k.placed;
-      free = k.free;
       short = k.short;
       conducted = (
         (limit_to (motion_of first h) stands, record { alarmed = alarms first was now h o j halts; next = next; unlimited = not_limited (motion_of first h) stands }),
@@ -205,6 +264,48 @@ begun_limited first was now m h o j none is runs =
       going = k.going;
       closed = k.closed;
       limited = refl;
+      alarmed_is = sym (alarms first was now h o j halts);
+      unlocked = none_waits_limited first h o (alarms first was now h o j halts) (limit_motion (motion_of first h));
+      tries = λ e. j.may.looked.tries;
+    })
+
+-- ---- a line that unlocks the machine
+
+alarm_never_cut : (m : AnyMotion) → m ≡ motions.Alarm → m ≡ motions.Cancelling → ⊥
+alarm_never_cut m alarm is = absurd (let e = sym alarm ∙ is in cc)
+
+pub begun_unlocked : (first : Opening) (was now : Board) (m : Machine) (h : Journal) (o : Outcome) → IsJudged first was now h o → was.resetting ≡ false → motion_of first h ≡ motions.Alarm → unlocks (open_of h) ≡ true → Runs m (plan_of h) motions.Idle (hand_of h) (given_of h)
+    → Keeps first (record now { machine = m }) (became on_unlock motions.Idle ∷ began o ∷ h)
+begun_unlocked first was now m h o j none alarm one runs =
+    let k = j.keeps in
+    let calm = calm_whole first was h k j.may.looked.whole in
+    let s = still_locked first h o (begins first was now h o j, k.conducted) alarm in
+    let free : is_locked first (began o ∷ h) ≡ false = ap (λ (b : Bool). is_limited first.motion && not b) (lines_on h) ∙ locks_off (is_limited first.motion) (list_any unlocks (lines_of h)) (unlocks (open_of h)) one in
+    subst (λ (c : Board). Keeps first (record c { machine = m }) (became on_unlock motions.Idle ∷ began o ∷ h)) (sym j.same) (record {
+      placed = k.placed;
+      short = k.short;
+      conducted = ((ap (after_call on_unlock) alarm, record { calm = s.calm; unlocked = free }), (begins first was now h o j, k.conducted));
+      machine = runs;
+      lines = works first was now h o j;
+      input = j.reads;
+      flight = record { known = k.flight.known; found = k.flight.found; flies = k.flight.flies };
+      owes_is = k.owes_is;
+      reset_is = k.reset_is;
+      resetting_is = k.resetting_is;
+      taken_is = k.taken_is;
+      answered_is = k.answered_is;
+      prompt = (
+        record { further = λ e. refl; waits = λ may. absurd (let e = may.between in cc) },
+        (record { further = λ e. absurd (let f = sym e ∙ sym k.resetting_is ∙ none in cc); waits = k.unready }, k.prompt),
+      );
+      unready = λ may. absurd (let e = may.between in cc);
+      jogged_is = j.jogs ∙ ap (jogged_behind o.kind) k.jogged_is;
+      cut_is = k.cut_is ∙ uncut_else first h k.conducted (alarm_never_cut (motion_of first h) alarm);
+      going = k.going;
+      closed = k.closed;
+      limited = ap halts_next s.work ∙ told_halts s.said;
+      alarmed_is = k.alarmed_is ∙ calm ∙ sym s.calm;
+      unlocked = refl;
       tries = λ e. j.may.looked.tries;
     })
 
@@ -253,7 +354,7 @@ judges_started first jog h l blocks = record {
     free = l.free;
     going = l.going;
     whole = l.whole;
-    begins = starts_to_begin jog;
+    begins = either_true (begins_in (start_motion jog)) (is_locked first h) (starts_to_begin jog);
     worked = worked_behind (became (on_start jog) (start_motion jog)) h (starting jog h) refl (record { no_changes = refl; none_planned = refl }) refl refl l.worked;
     flags = l.flags;
     unowed = l.unowed;
@@ -312,9 +413,26 @@ line_limited first o mid m =
       moved = refl;
     }
 
+-- or the machine is unlocked
+line_unlocked : (first : Opening) (o : Outcome) (mid : Journal) → IsBegun first 0 o mid (became on_unlock motions.Idle ∷ began o ∷ mid)
+line_unlocked first o mid =
+    let line : Journal = began o ∷ mid in
+    let b = line_begun first o mid in
+    record {
+      front = became on_unlock motions.Idle ∷ [];
+      are = refl;
+      worked = λ w. worked_behind (became on_unlock motions.Idle) line (became on_unlock motions.Idle ∷ line) refl (record { no_changes = refl; none_planned = refl }) refl refl (b.worked w);
+      once = (let c = publishes_none (became on_unlock motions.Idle) (this_turn line) refl in let had = b.once in omega (arith, c, had));
+      unpolled = refl;
+      tries = b.tries;
+      free = λ f. record { flags = f.flags; obeyed = f.obeyed; unowed = f.unowed };
+      moved = refl;
+    }
+
 has_begun : (first : Opening) (o : Outcome) (mid line : Journal) → HasBegun first o mid line → IsBegun first 0 o mid line
 has_begun first o mid line (inl is) = subst (λ (j : Journal). IsBegun first 0 o mid j) (sym is) (line_begun first o mid)
-has_begun first o mid line (inr is) = subst (λ (j : Journal). IsBegun first 0 o mid j) (sym is) (line_limited first o mid (limit_motion (motion_of first mid)))
+has_begun first o mid line (inr (inl is)) = subst (λ (j : Journal). IsBegun first 0 o mid j) (sym is) (line_limited first o mid (limit_motion (motion_of first mid)))
+has_begun first o mid line (inr (inr is)) = subst (λ (j : Journal). IsBegun first 0 o mid j) (sym is) (line_unlocked first o mid)
 
 -- a step at the port behind it that takes no byte, tries no piece and takes no word of flags
 begun_on : (first : Opening) (o : Outcome) (mid h next : Journal) (s : Step) → next ≡ s ∷ h → IsBegun first 0 o mid h → IsNoWord s → owes_report next ≡ owes_report h → unobeyed_of next ≡ unobeyed_of h → flags_taken next ≡ flags_taken h
@@ -352,7 +470,8 @@ has_spoken first o mid line next begun (was_told r is) =
 -- no report is owed behind a line that was begun
 pub begun_unowed : (first : Opening) (o : Outcome) (mid line : Journal) → MayJudge first mid → HasBegun first o mid line → owes_report line ≡ false
 begun_unowed first o mid line may (inl is) = ap owes_report is ∙ may.looked.unowed
-begun_unowed first o mid line may (inr is) = ap owes_report is ∙ may.looked.unowed
+begun_unowed first o mid line may (inr (inl is)) = ap owes_report is ∙ may.looked.unowed
+begun_unowed first o mid line may (inr (inr is)) = ap owes_report is ∙ may.looked.unowed
 
 -- a line is begun, its first reply is told where it has room, and moves are added behind it
 pub did_begin_line : (first : Opening) (was : Flags) (board : Board) (h seen mid spoken next : Journal) (o : Outcome) → IsReady first h → IsWholeLine first h → PassesNothing first h seen → DidAlone first seen mid → IsBegun first 1 o mid spoken → Keeps first board next
@@ -375,4 +494,5 @@ did_begin_line first was board h seen mid spoken next o ready line look alone b 
 -- the port knows nothing of that
 pub port_begun : (first : Opening) (o : Outcome) (mid line : Journal) → HasBegun first o mid line → port_log line ≡ port_log mid
 port_begun first o mid line (inl is) = ap port_log is
-port_begun first o mid line (inr is) = ap port_log is
+port_begun first o mid line (inr (inl is)) = ap port_log is
+port_begun first o mid line (inr (inr is)) = ap port_log is

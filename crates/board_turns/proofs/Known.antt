@@ -23,7 +23,7 @@ use Rattle.line_interpreter.specs.Lefts.{IsNextOf}
 use Rattle.board_rules.specs.Ports.{MayPublish}
 use Rattle.epoch_ports.specs.Serving.{MayTellNow, MayPublishNow}
 use Rattle.board_rules.specs.Ports.PortStep.{answered}
-use Rattle.board_rules.specs.Steps.{Journal, port_log, has_limited, left_of, hand_of, plan_of, motion_of, planned_of, actions_of}
+use Rattle.board_rules.specs.Steps.{Journal, port_log, has_limited, whole_of, left_of, hand_of, plan_of, motion_of, planned_of, actions_of}
 use Rattle.board_rules.specs.Turns.{is_due, has_segment, is_going, begins_in, halts_next, is_counted, is_halting, is_limited, tries_of}
 use Rattle.board_rules.specs.Conduct.{IsNextTask, IsInHand}
 use Rattle.board_rules.proofs.Keeping.{run_is}
@@ -31,7 +31,7 @@ use Rattle.board_rules.proofs.Limits.{few_given, may_publish_next}
 use Rattle.board_turns.specs.declared.board.Board.{Board}
 use Rattle.board_turns.specs.Boards.{Keeps}
 use Rattle.board_turns.specs.Turning.{HasPiece}
-use Rattle.board_rules.proofs.Stages.{halts_limited, left_alarmed, unalarmed}
+use Rattle.board_turns.proofs.Stages.{alarm_limits, halts_limited, left_alarmed, unalarmed}
 use Rattle.board_rules.proofs.Facts.{uncounted}
 
 -- what is next of what is left, is next of the journal's tasks
@@ -105,7 +105,7 @@ begins_by m off none = absurd cc
 
 -- a machine that is to be halted slows down for that, or stands in alarm
 pub halts_by : (first : Opening) (c : Board) (h : Journal) → Keeps first c h → halts_next (left_of first h) ≡ true → is_limited (motion_of first h) ≡ true
-halts_by first c h k next = halts_limited first k.free h k.conducted k.limited next
+halts_by first c h k next = halts_limited first h k.conducted k.limited next
 
 -- so none is to be where no soft limit stops it, and no line has raised an alarm
 pub none_halts : (first : Opening) (c : Board) (h : Journal) → Keeps first c h → is_limited (motion_of first h) ≡ false → halts_next (left_of first h) ≡ false
@@ -116,12 +116,20 @@ none_halts first c h k none = by_next (halts_next (left_of first h)) refl
     by_next false e = e
 
 pub calm_now : (first : Opening) (c : Board) (h : Journal) → Keeps first c h → is_limited (motion_of first h) ≡ false → has_limited h ≡ false
-calm_now first c h k none = unalarmed first k.free h k.conducted k.limited none
+calm_now first c h k none = unalarmed first h k.conducted k.limited none
+
+-- and where a line was taken whole
+pub calm_whole : (first : Opening) (c : Board) (h : Journal) → Keeps first c h → whole_of h ≡ true → has_limited h ≡ false
+calm_whole first c h k whole = by_alarm (has_limited h) refl
+  where
+    by_alarm : (b : Bool) → has_limited h ≡ b → has_limited h ≡ false
+    by_alarm true one = absurd (let e = sym whole ∙ (alarm_limits first h k.conducted k.limited one).1 in cc)
+    by_alarm false none = none
 
 -- behind an alarm no try to publish is counted
 pub few_tried : (first : Opening) (c : Board) (h : Journal) → Keeps first c h → (hand_of h ≡ [] → ⊥) → has_limited h ≡ true → cond (is_counted first h) (tries_of first h + 1) (tries_of first h) ≤ 1
 few_tried first c h k some one =
-    let e = ap (λ b. cond b (tries_of first h + 1) (tries_of first h)) (uncounted first h (left_alarmed first k.free h k.conducted one some)) in
+    let e = ap (λ b. cond b (tries_of first h + 1) (tries_of first h)) (uncounted first h (left_alarmed first h k.conducted one some)) in
     let t = k.tries one in
     omega (arith, e, t)
 

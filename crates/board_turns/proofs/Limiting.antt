@@ -20,9 +20,9 @@ use Rattle.line_interpreter.specs.declared.tasks.Todo.TheVariants as todo
 use Rattle.board_rules.specs.Openings.{Opening}
 use Rattle.board_rules.specs.Ports.{MayBeDone}
 use Rattle.board_rules.specs.Ports.PortStep.{loaded}
-use Rattle.board_rules.specs.Steps.{Journal, port_log, left_of, whole_of, closed_tells, given_of, hand_of, plan_of, motion_of}
+use Rattle.board_rules.specs.Steps.{Journal, has_limited, port_log, left_of, whole_of, closed_tells, given_of, hand_of, plan_of, motion_of}
 use Rattle.board_rules.specs.Steps.Step.{at_port, became, halted, closing}
-use Rattle.board_rules.specs.Turns.{this_turn, awaits_motion, is_due, is_going, is_halting, is_held_up, is_limited, is_slowing, tries_of}
+use Rattle.board_rules.specs.Turns.{this_turn, awaits_motion, halts_next, is_due, is_going, is_halting, is_held_up, is_limited, is_slowing, tries_of}
 use Rattle.board_rules.specs.Conduct.{AreWaiting, IsNextTask, IsStopped, MayClose, ticks_given}
 use Rattle.board_rules.proofs.Tasks.{none_next}
 use Rattle.units.specs.Truths.{one_if}
@@ -36,7 +36,7 @@ use Rattle.board_turns.specs.Boards.{Keeps, Rounds, number_of}
 use Rattle.board_turns.specs.Turning.{HasPiece, IsAtLimit, IsInAlarm, HasHalted, IsReady, PassesNothing, BoardWorked}
 use Rattle.board_turns.proofs.Steps.{is_next, looked, one_less, halts_by}
 use Rattle.board_rules.proofs.Speeds.{no_speed, rests}
-use Rattle.board_rules.proofs.Stages.{ends_run, limit_alarms, limited_next}
+use Rattle.board_turns.proofs.Stages.{alarm_limits, ends_run, halts_raised, limited_next}
 use Rattle.board_turns.proofs.Stopping.{locks}
 use Rattle.board_turns.proofs.Standing.{all_published, awaits_no_move}
 use Rattle.board_turns.proofs.Halting.{not_due, none_in_hand, slow_stands}
@@ -86,10 +86,10 @@ at_limit first b h done k is next none all = record {
 some_halt : (first : Opening) (h : Journal) → IsNextTask first halt h → left_of first h ≡ [] → ⊥
 some_halt first h next none = none_next (left_of first h) halt none next
 
-few_ready : (first : Opening) (b : Board) (h : Journal) → Keeps first b h → IsReady first h → is_limited (motion_of first h) ≡ true → tries_of first h + one_if (whole_of h) ≤ 1
-few_ready first b h k ready is =
-    let one = limit_alarms first k.free h k.conducted is in
-    let few = k.tries one.0 in
+few_ready : (first : Opening) (b : Board) (h : Journal) → Keeps first b h → IsReady first h → has_limited h ≡ true → tries_of first h + one_if (whole_of h) ≤ 1
+few_ready first b h k ready alarmed =
+    let one = alarm_limits first h k.conducted k.limited alarmed in
+    let few = k.tries alarmed in
     let w = ap one_if one.1 in
     omega (arith, few, w)
 
@@ -98,7 +98,7 @@ pub waits_at_limit : (first : Opening) (b : Board) (h : Journal) (done : ℕ) �
     → MayBeDone done (port_log h) → done < b.machine.given → BoardWorked first (Wait on.Motion) b.flags b h (at_port (loaded done) ∷ h)
 waits_at_limit first b h done k ready is next none beat no_word found fewer =
     let mid : Journal = at_port (loaded done) ∷ h in
-    let few = few_ready first b h k ready is in
+    let few = few_ready first b h k ready (halts_raised first h k.conducted (ap halts_next next)) in
     let quiet = ready.quiet in
     let worked = (passes_load first done h).worked quiet.worked in
     let free = free_passed first h mid (passes_load first done h) (free_of h quiet) in
@@ -170,7 +170,6 @@ halts : (first : Opening) (c : Board) (m : Machine) (i : Interpreting) (h : Jour
     → i ≡ record c.lines { left = drop 1 c.lines.left } → Keeps first (record c { machine = m; lines = i }) (halted ∷ h)
 halts first c m i h k at alarm runs is = record {
   placed = k.placed;
-  free = k.free;
   short = k.short;
   conducted = (record { next = at.next; alarm = alarm; still = at.speed; empty = at.empty; done = at.done }, k.conducted);
   machine = runs;
@@ -189,6 +188,8 @@ halts first c m i h k at alarm runs is = record {
   going = k.going;
   closed = k.closed;
   limited = k.limited;
+  alarmed_is = k.alarmed_is;
+  unlocked = k.unlocked;
   tries = k.tries;
 }
 
@@ -269,10 +270,10 @@ ready_halted first h mid next ready is look left stops =
 
 -- ---- the run is closed
 
-pub may_close : (first : Opening) (b : Board) (h : Journal) → Keeps first b h → is_limited (motion_of first h) ≡ true → left_of first h ≡ [] → b.closing ≡ false → MayClose first h
-may_close first b h k is none open_yet =
-    let one = limit_alarms first k.free h k.conducted is in
-    record { free = none; going = k.going open_yet; begun = one.1; closed = inr one.0 }
+pub may_close : (first : Opening) (b : Board) (h : Journal) → Keeps first b h → has_limited h ≡ true → left_of first h ≡ [] → b.closing ≡ false → MayClose first h
+may_close first b h k alarmed none open_yet =
+    let one = alarm_limits first h k.conducted k.limited alarmed in
+    record { free = none; going = k.going open_yet; begun = one.1; closed = inr alarmed }
 
 closing_falls : (first : Opening) (f : Flags) (h : Journal) → left_of first h ≡ [] → closed_tells h ≡ [] → number_of first f (closing ∷ h) < number_of first f h
 closing_falls first f h none going =
@@ -281,10 +282,11 @@ closing_falls first f h none going =
     let d = ap (λ (rs : List Reply). one_if (nat_eq (length (rs ++ Bye ∷ [])) 0)) going in
     omega (arith, p, c, d)
 
-pub closes_limited : (first : Opening) (board now : Board) (h : Journal) → Keeps first board h → Keeps first now (closing ∷ h) → IsReady first h → is_limited (motion_of first h) ≡ true → left_of first h ≡ [] → board.closing ≡ false → now.beat ≡ Motion
+pub closes_limited : (first : Opening) (board now : Board) (h : Journal) → Keeps first board h → Keeps first now (closing ∷ h) → IsReady first h → has_limited h ≡ true → left_of first h ≡ [] → board.closing ≡ false → now.beat ≡ Motion
     → board.flags ≡ flags.None → now.flags ≡ flags.None → BoardWorked first Did board.flags now h (closing ∷ h)
-closes_limited first board now h k keeps ready is none open_yet beat no_word_was no_word =
-    let few = few_ready first board h k ready is in
+closes_limited first board now h k keeps ready alarmed none open_yet beat no_word_was no_word =
+    let few = few_ready first board h k ready alarmed in
+    let is = (alarm_limits first h k.conducted k.limited alarmed).0 in
     let free = free_of h ready.quiet in
     let worked = worked_behind closing h (closing ∷ h) refl (record { no_changes = refl; none_planned = refl }) refl refl ready.quiet.worked in
     let none_now : AreWaiting first (closing ∷ h) → ⊥ = (λ w. (none_waiting first) h is (record { stands = w.stands; blocks = w.blocks })) in
@@ -317,7 +319,7 @@ alarm_next first c h mid next k same stops left =
     (Alarm soft_limit, e ∙ ap (λ (ts : List Task). tell (Alarm soft_limit) ∷ drop 1 ts) (sym e))
 
 not_ending : {A : Type 0} (first : Opening) (b : Board) (h : Journal) (t : Task) → Keeps first b h → is_limited (motion_of first h) ≡ true → ends_run t ≡ false → IsNextOf t b.lines.left → A
-not_ending first b h t k is other next = absurd (let e = sym (limited_next first k.free h t k.conducted is (is_next first b h t k next)) ∙ other in cc)
+not_ending first b h t k is other next = absurd (let e = sym (limited_next first h t k.conducted is (is_next first b h t k next)) ∙ other in cc)
 
 -- nothing else is next of a run that a soft limit ends
 pub nothing_else : (first : Opening) (b : Board) (h : Journal) (t : Todo) → Keeps first b h → is_limited (motion_of first h) ≡ true → IsTodo t b.lines.left → (t ≡ todo.Halt → ⊥) → (t ≡ todo.Tell → ⊥) → (t ≡ todo.Finish → ⊥) → (t ≡ todo.Nothing → ⊥) → ⊥

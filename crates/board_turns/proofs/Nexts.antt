@@ -1,5 +1,5 @@
 -- What is next is done: what the rules ask of it, and how the turn ends by it.
-use Rattle.std.proofs.Common.{◌≡◌, ℕ, ◌+◌, ◌≤◌, ◌<◌, inl, inr, Bool, true, false, ◌||◌, List, [], ◌∷◌, ◌++◌, length, drop, nat_eq, sym, refl, ap, ◌∙◌, subst, arith}
+use Rattle.std.proofs.Common.{◌≡◌, ℕ, ◌+◌, ◌≤◌, ◌<◌, inl, inr, Bool, true, false, ◌||◌, ◌⊎◌, List, [], ◌∷◌, ◌++◌, length, drop, nat_eq, sym, refl, ap, ◌∙◌, subst, arith}
 use Rattle.std.specs.List.{list_any}
 use Rattle.outside.specs.declared.On.TheVariants.{Byte, ReplyRoom}
 use Rattle.outside.specs.declared.Turn.TheVariants.{Did, Wait}
@@ -19,10 +19,10 @@ use Rattle.step_line.specs.Asking.Asked.{a_move, a_mark, a_rest}
 use Rattle.line_interpreter.specs.Lefts.{IsTodo}
 use Rattle.line_interpreter.specs.declared.tasks.Todo.TheVariants as todo
 use Rattle.board_rules.specs.Ports.PortStep.{took, found_empty, found_closed, no_reply_room}
-use Rattle.board_rules.specs.Steps.{Journal, left_of, plan_of, motion_of, whole_of, has_closed}
+use Rattle.board_rules.specs.Steps.{Journal, has_limited, left_of, plan_of, motion_of, whole_of, has_closed}
 use Rattle.board_rules.specs.Steps.Step.{at_port, did, made_end, closing}
-use Rattle.board_rules.specs.Turns.{this_turn, found_none, found_nothing, tells_next, awaits_motion, begins_in, halts_next, needs_motion, is_held_up, is_halting, is_limited, stands_still, is_full, has_blocks, has_segment, has_jogged, is_due, tries_of}
-use Rattle.board_rules.specs.Conduct.{Conducted, AreWaiting, IsNextTask, MayPoll, MayStart, MayClose}
+use Rattle.board_rules.specs.Turns.{this_turn, found_none, found_nothing, tells_next, awaits_motion, begins_in, halts_next, needs_motion, is_held_up, is_halting, is_limited, is_locked, stands_still, is_full, has_blocks, has_segment, has_jogged, is_due, tries_of}
+use Rattle.board_rules.specs.Conduct.{Conducted, IsLocked, AreWaiting, IsNextTask, MayPoll, MayStart, MayClose}
 use Rattle.board_rules.proofs.Tasks.{none_next, head_is}
 use Rattle.units.specs.Truths.{one_if}
 use Rattle.board_turns.specs.declared.board.Board.{Board}
@@ -31,7 +31,9 @@ use Rattle.board_turns.specs.declared.board.Flags.TheVariants as words
 use Rattle.board_turns.specs.declared.board.Beat.{Beat}
 use Rattle.board_turns.specs.declared.board.Beat.TheVariants.{Motion, Main}
 use Rattle.board_turns.specs.Boards.{Keeps, Rounds, NoneWaits, GoingBetween, IsFree, TakesFlags, has_published, number_of}
-use Rattle.board_turns.specs.Turning.{IsNextMove, IsQuiet, IsReady, IsHeldUp, HasPiece, HasPolled, MayRun, MayAwait, MayFinish, IsWholeLine, NeedsNoWait, GoesOn, PassesNothing, BoardWorked, starting}
+use Rattle.board_turns.specs.Turning.{IsNextMove, IsQuiet, IsReady, IsHeldUp, HasPiece, HasPolled, MayRun, MayAwait, MayFinish, IsWholeLine, NeedsNoWait, GoesOn, LetsLines, PassesNothing, BoardWorked, starting}
+use Rattle.board_rules.proofs.Alarms.{limited_alarmed}
+use Rattle.board_turns.proofs.Begins.{still_is}
 use Rattle.board_turns.proofs.Steps.{is_next, not_told, begins_by, calm_now, halts_by}
 use Rattle.board_rules.proofs.Facts.{not_whole, uncounted, unmissed}
 use Rattle.board_rules.proofs.Tries.{publishes_none, publishes_one, worked_behind, passes_did, passes_end, passes_motion}
@@ -112,16 +114,41 @@ held_up_line : (ts : List Task) (whole full : Bool) → ts ≡ [] → whole ≡ 
 held_up_line [] whole full none is = is
 held_up_line (t ∷ ts) whole full none is = absurd cc
 
-pub whole_line : (first : Opening) (b : Board) (h : Journal) → Keeps first b h → GoesOn first h → b.lines.left ≡ [] → b.closing ≡ false → b.input.whole ≡ true → IsWholeLine first h
+pub whole_line : (first : Opening) (b : Board) (h : Journal) → Keeps first b h → LetsLines first h → b.lines.left ≡ [] → b.closing ≡ false → b.input.whole ≡ true → IsWholeLine first h
 whole_line first b h k goes none open_yet whole =
     let free = none_left first b h k none in
     let is = sym k.input.whole_is ∙ whole in
-    record { free = free; going = k.going open_yet; whole = is; goes = not_halting first h goes (held_up_line (left_of first h) (whole_of h) (is_full (plan_of h)) free is) }
+    record { free = free; going = k.going open_yet; whole = is; goes = goes.begins free is }
+
+either_true : (a b : Bool) → a ≡ true → (a || b) ≡ true
+either_true true b is = refl
+either_true false b is = absurd cc
+
+pub lets_lines : (first : Opening) (b : Board) (h : Journal) → Keeps first b h → GoesOn first h → LetsLines first h
+lets_lines first b h k goes = record {
+  calm = calm_now first b h k goes.unlimited;
+  begins = λ free whole. either_true (begins_in (motion_of first h)) (is_locked first h) (not_halting first h goes (held_up_line (left_of first h) (whole_of h) (is_full (plan_of h)) free whole));
+}
+
+-- so does a machine that is locked
+pub lets_locked : (first : Opening) (b : Board) (h : Journal) → Keeps first b h → is_limited (motion_of first h) ≡ true → b.alarmed ≡ false → LetsLines first h
+lets_locked first b h k is none = record { calm = calm; begins = λ free whole. by_cause (limited_alarmed first h k.conducted is) }
+  where
+    calm : has_limited h ≡ false
+    calm = sym k.alarmed_is ∙ none
+
+    or_locked : (a b : Bool) → b ≡ true → (a || b) ≡ true
+    or_locked true b is = refl
+    or_locked false b is = is
+
+    by_cause : (has_limited h ≡ true) ⊎ IsLocked first h → (begins_in (motion_of first h) || is_locked first h) ≡ true
+    by_cause (inl one) = absurd (let e = sym one ∙ calm in cc)
+    by_cause (inr locked) = or_locked (begins_in (motion_of first h)) (is_locked first h) (still_is first h k.unlocked calm locked.1)
 
 -- a byte may be polled for where no line waits to be begun
-pub may_poll : (first : Opening) (b : Board) (h : Journal) → Keeps first b h → GoesOn first h → b.lines.left ≡ [] → b.closing ≡ false → b.input.whole ≡ false → MayPoll first h
+pub may_poll : (first : Opening) (b : Board) (h : Journal) → Keeps first b h → LetsLines first h → b.lines.left ≡ [] → b.closing ≡ false → b.input.whole ≡ false → MayPoll first h
 may_poll first b h k goes none open_yet partial = record {
-  calm = calm_now first b h k goes.unlimited;
+  calm = goes.calm;
   all_done = none_left first b h k none;
   partial = sym k.input.whole_is ∙ partial;
   unclosed = k.going open_yet;

@@ -1,5 +1,5 @@
 -- What a board keeps where it takes its words of flags, and obeys them.
-use Rattle.std.proofs.Common.{◌≡◌, [], ◌∷◌, Bool, true, sym, refl, ◌∙◌, subst, append-nil}
+use Rattle.std.proofs.Common.{◌≡◌, inl, inr, [], ◌∷◌, Bool, true, false, not, ◌&&◌, ap, sym, refl, ◌∙◌, subst, append-nil}
 use Rattle.code_table.specs.declared.flags.Exec.{Exec}
 use Rattle.code_table.specs.declared.flags.Ovr.{Ovr}
 use Rattle.feed_hold.specs.Motions.{after_word}
@@ -9,9 +9,12 @@ use Rattle.overrides.specs.Percents.{IsOverrides, taken}
 use Rattle.planner_runs.specs.declared.Action.TheVariants.{Override}
 use Rattle.board_rules.specs.Ports.{has_changes, has_reset_in}
 use Rattle.board_rules.specs.Ports.PortStep.{took_exec, took_ovr}
-use Rattle.board_rules.specs.Steps.{Journal, port_log, given_of, hand_of, plan_of, motion_of}
+use Rattle.board_rules.specs.Steps.{Journal, has_limited, port_log, given_of, hand_of, plan_of, motion_of}
 use Rattle.board_rules.specs.Steps.Step.{at_port, did, became}
-use Rattle.board_rules.specs.Turns.{owes_report, has_blocks}
+use Rattle.board_rules.specs.Turns.{owes_report, has_blocks, is_alarm, is_locked}
+use Rattle.feed_hold.specs.declared.Motion.{Motion as AnyMotion}
+use Rattle.feed_hold.specs.declared.Motion.TheVariants as motions
+use Rattle.feed_hold.proofs.Reaching.{StaysOrReaches, reached}
 use Rattle.board_rules.specs.Conduct.{MayTakeRequests, MayObey}
 use Rattle.board_epochs.specs.Resets.{has_reset}
 use Rattle.board_turns.specs.declared.board.Board.{Board}
@@ -25,7 +28,6 @@ pub takes_word : (first : Opening) (c : Board) (owes reset resetting : Bool) (wo
     → reset ≡ has_reset_in (port_log (at_port (took_exec word) ∷ h)) → resetting ≡ has_reset (at_port (took_exec word) ∷ h) → Keeps first (record c { owes = owes; reset = reset; resetting = resetting }) (at_port (took_exec word) ∷ h)
 takes_word first c owes reset resetting word h k may is resets asks = record {
   placed = k.placed;
-  free = k.free;
   short = k.short;
   conducted = (may, k.conducted);
   machine = k.machine;
@@ -44,8 +46,17 @@ takes_word first c owes reset resetting word h k may is resets asks = record {
   going = k.going;
   closed = k.closed;
   limited = k.limited;
+  alarmed_is = k.alarmed_is;
+  unlocked = k.unlocked;
   tries = k.tries;
 }
+
+-- a word of requests leads to no alarm
+word_alarms : (m was : AnyMotion) (word : Exec) (queued : Bool) → StaysOrReaches m (on_exec word queued) was → (awaits : Bool) → (is_alarm was && awaits) ≡ false → (is_alarm m && awaits) ≡ false
+word_alarms m was word queued (inl same) awaits none = ap (λ (x : AnyMotion). is_alarm x && awaits) same ∙ none
+word_alarms motions.Alarm was word queued (inr (inl idle)) awaits none = absurd (let e = idle.1 in cc)
+word_alarms motions.Alarm was word queued (inr (inr stops)) awaits none = absurd (let e = stops.1 in cc)
+word_alarms m was word queued (inr how) awaits none = refl
 
 -- a word that was taken is obeyed
 pub obeys : (first : Opening) (c : Board) (m : Machine) (word : Exec) (h : Journal) → Keeps first c h → MayObey first word (has_blocks (plan_of h).blocks) h
@@ -53,7 +64,6 @@ pub obeys : (first : Opening) (c : Board) (m : Machine) (word : Exec) (h : Journ
     → Keeps first (record c { machine = m }) (became (on_exec word (has_blocks (plan_of h).blocks)) (after_word word (has_blocks (plan_of h).blocks) (motion_of first h)) ∷ h)
 obeys first c m word h k may runs = record {
   placed = k.placed;
-  free = k.free;
   short = k.short;
   conducted = ((refl, may), k.conducted);
   machine = runs;
@@ -72,6 +82,8 @@ obeys first c m word h k may runs = record {
   going = k.going;
   closed = k.closed;
   limited = k.limited;
+  alarmed_is = k.alarmed_is;
+  unlocked = word_alarms (after_word word (has_blocks (plan_of h).blocks) (motion_of first h)) (motion_of first h) word (has_blocks (plan_of h).blocks) (reached (on_exec word (has_blocks (plan_of h).blocks)) (motion_of first h) (after_word word (has_blocks (plan_of h).blocks) (motion_of first h)) refl) (not (is_locked first h) && not (has_limited h)) k.unlocked;
   tries = k.tries;
 }
 
@@ -79,7 +91,6 @@ obeys first c m word h k may runs = record {
 pub takes_changes : (first : Opening) (c : Board) (word : Ovr) (h : Journal) → Keeps first c h → Keeps first c (at_port (took_ovr word) ∷ h)
 takes_changes first c word h k = record {
   placed = k.placed;
-  free = k.free;
   short = k.short;
   conducted = (tt, k.conducted);
   machine = k.machine;
@@ -98,6 +109,8 @@ takes_changes first c word h k = record {
   going = k.going;
   closed = k.closed;
   limited = k.limited;
+  alarmed_is = k.alarmed_is;
+  unlocked = k.unlocked;
   tries = k.tries;
 }
 
@@ -107,7 +120,6 @@ pub changes : (first : Opening) (c : Board) (m : Machine) (word : Ovr) (h : Jour
     → Keeps first (record c { machine = m }) (did (Override (taken (plan_of h).overrides word)) [] ∷ at_port (took_ovr word) ∷ h)
 changes first c m word h k some range runs = record {
   placed = k.placed;
-  free = k.free;
   short = k.short;
   conducted = (
     (record { word = word; earlier = port_log h; last = refl; some = some; taken = refl }, (subst IsOverrides (sym runs.same) range, refl)),
@@ -129,5 +141,7 @@ changes first c m word h k some range runs = record {
   going = k.going;
   closed = k.closed;
   limited = k.limited;
+  alarmed_is = k.alarmed_is;
+  unlocked = k.unlocked;
   tries = k.tries;
 }

@@ -8,10 +8,9 @@ use Rattle.line_interpreter.specs.Lefts.{IsTodo}
 use Rattle.line_interpreter.specs.declared.tasks.Todo.{Todo}
 use Rattle.line_interpreter.specs.declared.tasks.Todo.TheVariants as todos
 use Rattle.board_rules.specs.Openings.{Opening}
-use Rattle.board_rules.specs.Steps.{Journal, closed_tells, has_limited, motion_of}
+use Rattle.board_rules.specs.Steps.{Journal, closed_tells, has_limited}
 use Rattle.board_rules.specs.Steps.Step.{closing}
-use Rattle.board_rules.specs.Turns.{awaits_motion, is_limited, owes_report, tells_next}
-use Rattle.board_rules.proofs.Stages.{unalarmed, limit_alarms}
+use Rattle.board_rules.specs.Turns.{awaits_motion, owes_report, tells_next}
 use Rattle.board_epochs.specs.Resets.{MayReset, has_reset, drops_resets, is_closing}
 use Rattle.board_epochs.proofs.Prompting.{going, none_told, undropped}
 use Rattle.board_turns.specs.declared.board.Board.{Board}
@@ -38,33 +37,26 @@ closing_is : (first : Opening) (c : Board) (h : Journal) → Keeps first c h →
 closing_is first c h k true is = closing_now h (is_closing h) refl (k.closed is)
 closing_is first c h k false is = never_closing h (k.going is)
 
--- a line has raised the alarm, as the state of the motion has it
-limited_is : (first : Opening) (c : Board) (h : Journal) → Keeps first c h → (b : Bool) → is_limited (motion_of first h) ≡ b → has_limited h ≡ b
-limited_is first c h k true is = (limit_alarms first k.free h k.conducted is).0
-limited_is first c h k false is = unalarmed first k.free h k.conducted k.limited is
-
 either : (a b c d : Bool) → c ≡ a → d ≡ b → (a || b) ≡ (d || c)
 either true true c d e f = sym (ap (λ x. x || c) f)
 either true false c d e f = sym (ap (λ x. x || c) f ∙ e)
 either false true c d e f = sym (ap (λ x. x || c) f)
 either false false c d e f = sym (ap (λ x. x || c) f ∙ e)
 
-pub drops_by : (first : Opening) (c : Board) (h : Journal) → Keeps first c h → (c.closing || is_limited c.machine.hold.motion) ≡ drops_resets h
-drops_by first c h k =
-    let limited : has_limited h ≡ is_limited c.machine.hold.motion = limited_is first c h k (is_limited c.machine.hold.motion) (ap is_limited (sym k.machine.motion_is)) in
-    either c.closing (is_limited c.machine.hold.motion) (is_closing h) (has_limited h) (closing_is first c h k c.closing refl) limited
+pub drops_by : (first : Opening) (c : Board) (h : Journal) → Keeps first c h → (c.closing || c.alarmed) ≡ drops_resets h
+drops_by first c h k = either c.closing c.alarmed (is_closing h) (has_limited h) (closing_is first c h k c.closing refl) (sym k.alarmed_is)
 
 or_left : (a b : Bool) → (a || b) ≡ false → a ≡ false
 or_left true b none = absurd cc
 or_left false b none = refl
 
--- none is asked for where a soft limit stops the machine
+-- none is asked for where a line has raised the alarm
 unreset_at : (first : Opening) (c : Board) (h : Journal) → Keeps first c h → has_limited h ≡ true → (b : Bool) → has_reset h ≡ b → has_reset h ≡ false
 unreset_at first c h k one true is = absurd (let e = sym one ∙ or_left _ _ (undropped first h k.prompt is) in cc)
 unreset_at first c h k one false is = is
 
-pub unreset_limited : (first : Opening) (c : Board) (h : Journal) → Keeps first c h → is_limited (motion_of first h) ≡ true → has_reset h ≡ false
-unreset_limited first c h k is = unreset_at first c h k (limit_alarms first k.free h k.conducted is).0 (has_reset h) refl
+pub unreset_limited : (first : Opening) (c : Board) (h : Journal) → Keeps first c h → has_limited h ≡ true → has_reset h ≡ false
+unreset_limited first c h k one = unreset_at first c h k one (has_reset h) refl
 
 -- nor where the run is over
 pub over_unready : (first : Opening) (c : Board) (h : Journal) → KeepsBetween first c h → BoardIsOver c → MayReset first h → ⊥

@@ -199,9 +199,9 @@ not_jog Run is other = inr refl
 not_jog Jog is other = absurd (other refl)
 not_jog m is other = absurd cc
 
--- a line that raises an alarm finds the machine standing or running
-pub alarm_stands : (first : Opening) (h : Journal) (o : Outcome) → begins_in (motion_of first h) ≡ true → Found (machine_in (motion_of first h)) (before_of first h) (open_of h) o → is_limit o.answer ≡ true → (motion_of first h ≡ Idle) ⊎ (motion_of first h ≡ Run)
-alarm_stands first h o begins found one = not_jog (motion_of first h) begins (λ jog.
+-- a line that raises an alarm finds the machine standing or running, where it is not locked
+stands_at_alarm : (first : Opening) (h : Journal) (o : Outcome) → begins_in (motion_of first h) ≡ true → Found (machine_in (motion_of first h)) (before_of first h) (open_of h) o → is_limit o.answer ≡ true → (motion_of first h ≡ Idle) ⊎ (motion_of first h ≡ Run)
+stands_at_alarm first h o begins found one = not_jog (motion_of first h) begins (λ jog.
     opposite (is_limit o.answer) one (calm_in_jog (before_of first h) (open_of h) o (subst (λ (m : Motion). Found (machine_in m) (before_of first h) (open_of h) o) jog found)))
 
 by_truth : {A : Type 0} (b : Bool) → (b ≡ true → A) → (b ≡ false → A) → A
@@ -209,7 +209,7 @@ by_truth true f g = f refl
 by_truth false f g = g refl
 
 -- what is only told halts no machine
-told_halts : (rs : List Reply) → halts_next (telling rs) ≡ false
+pub told_halts : (rs : List Reply) → halts_next (telling rs) ≡ false
 told_halts [] = refl
 told_halts (r ∷ rs) = refl
 
@@ -223,7 +223,7 @@ unlocked first h c none = by_truth (is_locked first h) (λ is. opposite (is_limi
 
 on_line : (first : Opening) (h : Journal) (o : Outcome) → Conducted first h → MayBegin first o h → HaltsOrNot o → Halting first h → Halting first (began o ∷ h)
 on_line first h o c may (inl (one, work)) (calm a m l p) =
-    pending one (ap halts_next work) work refl (alarm_stands first h o (or_false (begins_in (motion_of first h)) (is_locked first h) may.begins (unlocked first h c m)) may.becomes one)
+    pending one (ap halts_next work) work refl (stands_at_alarm first h o (or_false (begins_in (motion_of first h)) (is_locked first h) may.begins (unlocked first h c m)) may.becomes one)
 on_line first h o c may (inr (none, work)) (calm a m l p) = calm none m work (none_halts_next o.work work)
 on_line first h o c may how (pending a p l w m) = opposite (has_limited h) a may.calm
 on_line first h o c may how (to_halt a p l w m) = opposite (has_limited h) a may.calm
@@ -232,6 +232,12 @@ on_line first h o c may how (ended a p l w m e) = opposite (has_limited h) a may
 on_line first h o c may how (locked a p l m d) =
     let s = still_locked first h o (may, c) m in locked s.calm (ap halts_next s.work ∙ told_halts s.said) (ap only_ends s.work ∙ told_ends s.said) m (record { plan = d.plan; hand = d.hand; done = d.done })
 on_line first h o c may how (locked_end a p l m e) = absurd (e may.going)
+
+-- and where it may be: no line raises an alarm there
+pub alarm_stands : (first : Opening) (h : Journal) (o : Outcome) → Conducted first (began o ∷ h) → is_limit o.answer ≡ true → (motion_of first h ≡ Idle) ⊎ (motion_of first h ≡ Run)
+alarm_stands first h o c one = by_truth (is_locked first h)
+    (λ locked. opposite (is_limit o.answer) one (still_locked first h o c (locked_stands first h c.1 locked)).calm)
+    (λ free. stands_at_alarm first h o (or_false (begins_in (motion_of first h)) (is_locked first h) c.0.begins free) c.0.becomes one)
 
 -- ---- the plan
 

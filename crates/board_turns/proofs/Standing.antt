@@ -21,7 +21,7 @@ use Rattle.board_rules.specs.Ports.{MayBeDone}
 use Rattle.board_rules.specs.Ports.PortStep.{loaded}
 use Rattle.board_rules.specs.Steps.{Journal, port_log, left_of, given_of, published_of, hand_of, plan_of, motion_of}
 use Rattle.board_rules.specs.Steps.Step.{at_port, became}
-use Rattle.board_rules.specs.Turns.{has_blocks, has_segment, is_full, is_due, is_going, is_slowing, is_held_up, begins_in, has_jogged, awaits_motion}
+use Rattle.board_rules.specs.Turns.{has_blocks, has_segment, is_full, is_due, is_going, is_slowing, is_held_up, begins_in, is_locked, has_jogged, awaits_motion}
 use Rattle.board_rules.specs.Conduct.{IsDrained, AreWaiting, ticks_given, ticks_published}
 use Rattle.board_rules.proofs.Given.{published_within}
 use Rattle.board_rules.proofs.Keeping.{hand_is}
@@ -79,6 +79,12 @@ may_drain first b h k going = by_motion (goes_or_stands (motion_of first h) goin
     by_motion (inr (inl run)) = inr (ap is_going (k.machine.motion_is ∙ run))
     by_motion (inr (inr jog)) = inr (ap is_going (k.machine.motion_is ∙ jog))
 
+-- a machine that goes lets one be begun
+pub going_begins : (m : Motion) → is_going m ≡ true → begins_in m ≡ true
+going_begins motions.Run goes = refl
+going_begins motions.Jog goes = refl
+going_begins m goes = absurd cc
+
 -- ---- where nothing is left to run
 
 -- nothing is left to run, and each tick is found done
@@ -115,11 +121,11 @@ looked_over first h done none = record {
 }
 
 -- a look where the machine does not stand
-pub looked_only : (first : Opening) (h : Journal) (done : ℕ) → begins_in (motion_of first h) ≡ true → (IsDrained (at_port (loaded done) ∷ h) → ⊥) → HasLooked first h (at_port (loaded done) ∷ h)
-looked_only first h done going undrained = record {
+pub looked_only : (first : Opening) (h : Journal) (done : ℕ) → (begins_in (motion_of first h) || is_locked first h) ≡ true → (IsDrained (at_port (loaded done) ∷ h) → is_going (motion_of first h) ≡ false) → HasLooked first h (at_port (loaded done) ∷ h)
+looked_only first h done going idle = record {
   passes = passes_load first done h;
   load = refl;
-  idle = λ d. absurd (undrained d);
+  idle = idle;
   begins = going;
   left = refl;
   none_waits = λ w a. w (record { stands = a.stands; blocks = a.blocks });

@@ -4,7 +4,7 @@ use Rattle.feed_hold.specs.declared.Motion.TheVariants as motions
 use Rattle.board_rules.specs.Openings.{Opening}
 use Rattle.board_rules.specs.Steps.{Journal, motion_of}
 use Rattle.board_rules.specs.Cuts.{has_cut, is_cancelling}
-use Rattle.board_rules.specs.Turns.{is_halting, begins_in}
+use Rattle.board_rules.specs.Turns.{is_alarm, is_halting, begins_in}
 use Rattle.board_machine.specs.Machines.{start_motion}
 use Rattle.board_turns.specs.Boards.{changes_left}
 
@@ -32,3 +32,8 @@ pub uncut_started : (jog was : Bool) → was ≡ false → was ≡ (is_cancellin
 uncut_started jog true is = absurd cc
 uncut_started true false is = refl
 uncut_started false false is = refl
+
+-- nor does it lead to an alarm
+pub none_awaited_started : (jog awaits : Bool) → (is_alarm (start_motion jog) && awaits) ≡ false
+none_awaited_started true awaits = refl
+none_awaited_started false awaits = refl

@@ -2,7 +2,7 @@
 use Rattle.std.proofs.Common.{◌≡◌, ℕ, ◌⊎◌, inl, inr, List, [], ◌∷◌, ◌++◌, drop, Bool, true, false, cond, not, ◌&&◌, ◌||◌, Some, None, sym, refl, ap, ◌∙◌, subst, arith, append-nil}
 use Rattle.feed_hold.specs.declared.Motion.{Motion}
 use Rattle.feed_hold.specs.declared.Motion.TheVariants as motions
-use Rattle.feed_hold.specs.Motions.{after, is_limited, is_stopping}
+use Rattle.feed_hold.specs.Motions.{after, is_stopping}
 use Rattle.feed_hold.specs.Motions.Call.{on_start, on_pause, on_drained}
 use Rattle.board_rules.specs.Openings.{Opening}
 use Rattle.run_rules.specs.declared.State.{State}
@@ -35,7 +35,7 @@ use Rattle.board_rules.specs.Ports.PortStep.{found_empty, found_closed, answered
 use Rattle.board_rules.specs.Steps.{Journal, has_limited, port_log, published_of, before_of, left_of, closed_tells, given_of, hand_of, plan_of, motion_of}
 use Rattle.board_rules.specs.Steps.Step.{at_port, did, made_end, evened, paused, became}
 use Rattle.board_rules.specs.Cuts.{has_cut}
-use Rattle.board_rules.specs.Turns.{owes_report, tells_next, is_full, is_due, is_going, stands_still, is_alarm, is_locked, awaits_unlock}
+use Rattle.board_rules.specs.Turns.{owes_report, tells_next, is_full, is_due, is_going, stands_still, is_locked}
 use Rattle.board_rules.specs.Conduct.{Conducted, MayDo, IsNextTask, IsDrained, IsTimely, MayPoll, MayStart, IsReportAt}
 pub use Rattle.board_machine.proofs.Machining.{has_room}
 use Rattle.board_turns.specs.declared.board.Board.{Board}
@@ -43,9 +43,8 @@ use Rattle.board_machine.specs.declared.machine.Machine.{Machine}
 use Rattle.board_machine.specs.Machines.{Runs, StandsOrGoes, mode_in, start_motion}
 use Rattle.board_turns.specs.Boards.{Keeps, Works}
 use Rattle.board_turns.specs.Turning.{HasPiece, starting}
-use Rattle.board_rules.proofs.Stages.{limit_alarms}
 use Rattle.board_rules.proofs.Uncut.{uncut_else, uncut_idle}
-use Rattle.board_turns.proofs.Starting.{uncut_started}
+use Rattle.board_turns.proofs.Starting.{none_awaited_started, uncut_started}
 pub use Rattle.board_turns.proofs.Turns.{closes, ends, other_beat, other_flags, other_flight, room_found}
 pub use Rattle.board_turns.proofs.Known.{is_next, hand_empty, none_by_test, in_hand, some_in_hand, hand_left, one_in_hand, hand_of_one, due_moves, due_now, at_rest, few_ticks, in_range, same_overrides, may_publish, may_publish_now, may_answer, few_tried, begins_unlimited, begins_by, halts_by, none_halts, calm_now}
 
@@ -56,7 +55,6 @@ pub sent : (first : Opening) (c : Board) (m : Machine) (f : Flying) (p : Piece) 
     → Keeps first (record c { machine = m; flight = f }) (at_port (published p) ∷ h)
 sent first c m f p h k is timely runs flies = record {
   placed = k.placed;
-  free = k.free;
   short = k.short;
   conducted = ((is ∙ ap (λ (ps : List Piece). p ∷ drop 1 ps) (sym is), timely), k.conducted);
   machine = subst (λ (ps : List Piece). Runs m (plan_of h) (motion_of first h) (drop 1 ps) (given_of h)) (sym is) runs;
@@ -75,6 +73,8 @@ sent first c m f p h k is timely runs flies = record {
   going = k.going;
   closed = k.closed;
   limited = k.limited;
+  alarmed_is = k.alarmed_is;
+  unlocked = k.unlocked;
   tries = few_tried first c h k (λ none. absurd (let e = sym is ∙ none in cc));
 }
 
@@ -82,7 +82,6 @@ sent first c m f p h k is timely runs flies = record {
 pub not_sent : (first : Opening) (c : Board) (done : ℕ) (h : Journal) → Keeps first c h → (hand_of h ≡ [] → ⊥) → LacksPieceRoom done (port_log h) → Keeps first c (at_port (no_piece_room done) ∷ h)
 not_sent first c done h k some full = record {
   placed = k.placed;
-  free = k.free;
   short = k.short;
   conducted = (record { some = some; full = full }, k.conducted);
   machine = k.machine;
@@ -101,6 +100,8 @@ not_sent first c done h k some full = record {
   going = k.going;
   closed = k.closed;
   limited = k.limited;
+  alarmed_is = k.alarmed_is;
+  unlocked = k.unlocked;
   tries = few_tried first c h k some;
 }
 
@@ -108,7 +109,6 @@ not_sent first c done h k some full = record {
 pub looked : (first : Opening) (c : Board) (done : ℕ) (h : Journal) → Keeps first c h → MayBeDone done (port_log h) → Keeps first c (at_port (loaded done) ∷ h)
 looked first c done h k may = record {
   placed = k.placed;
-  free = k.free;
   short = k.short;
   conducted = (may, k.conducted);
   machine = k.machine;
@@ -127,6 +127,8 @@ looked first c done h k may = record {
   going = k.going;
   closed = k.closed;
   limited = k.limited;
+  alarmed_is = k.alarmed_is;
+  unlocked = k.unlocked;
   tries = k.tries;
 }
 
@@ -139,32 +141,13 @@ one_less c i first h w is = record {
   number_is = ap (λ (j : Interpreting). j.number) is ∙ w.number_is;
 }
 
-not_both : (a b : Bool) → b ≡ true → (not a && not b) ≡ false
-not_both true b e = refl
-not_both false b e = ap not e
-
--- an alarm is one that a soft limit raised: it awaits no unlock
-none_awaited : (first : Opening) (h : Journal) (m : Motion) → motion_of first h ≡ m → (is_limited m ≡ true → has_limited h ≡ true) → (is_alarm m && (not (is_locked first h) && not (has_limited h))) ≡ false
-none_awaited first h motions.Alarm is one = not_both (is_locked first h) (has_limited h) (one refl)
-none_awaited first h motions.Idle is one = refl
-none_awaited first h motions.Run is one = refl
-none_awaited first h motions.Holding is one = refl
-none_awaited first h motions.Held is one = refl
-none_awaited first h motions.Jog is one = refl
-none_awaited first h motions.Cancelling is one = refl
-none_awaited first h motions.Stopping is one = refl
-
-awaits_none : (first : Opening) (h : Journal) → is_limited first.motion ≡ false → Conducted first h → awaits_unlock first h ≡ false
-awaits_none first h free c = none_awaited first h (motion_of first h) refl (λ is. (limit_alarms first free h c is).0)
-
 -- a reply is told
 pub told : (first : Opening) (c : Board) (i : Interpreting) (s : State) (r : Reply) (h : Journal) → Keeps first c h → IsNextTask first (tell r) h → is_report r ≡ false → owes_report h ≡ false → (r ≡ Bye → hand_of h ≡ []) → i ≡ record c.lines { left = drop 1 c.lines.left }
     → s ≡ cond (is_answer r) c.lines.state c.answered → Keeps first (record c { lines = i; answered = s }) (at_port (answered r) ∷ h)
 told first c i s r h k next plain unowed empty is state = record {
   placed = k.placed;
-  free = k.free;
   short = k.short;
-  conducted = (record { next = next; plain = plain; unowed = unowed; empty = empty; unlocked = awaits_none first h k.free k.conducted }, k.conducted);
+  conducted = (record { next = next; plain = plain; unowed = unowed; empty = empty; unlocked = k.unlocked }, k.conducted);
   machine = k.machine;
   lines = one_less c i first h k.lines is;
   input = k.input;
@@ -181,6 +164,8 @@ told first c i s r h k next plain unowed empty is state = record {
   going = k.going;
   closed = k.closed;
   limited = k.limited;
+  alarmed_is = k.alarmed_is;
+  unlocked = k.unlocked;
   tries = k.tries;
 }
 
@@ -188,7 +173,6 @@ told first c i s r h k next plain unowed empty is state = record {
 pub not_told : (first : Opening) (c : Board) (h : Journal) → Keeps first c h → tells_next (left_of first h) ≡ true → Keeps first c (at_port no_reply_room ∷ h)
 not_told first c h k next = record {
   placed = k.placed;
-  free = k.free;
   short = k.short;
   conducted = (ap (λ b. b || owes_report h) next, k.conducted);
   machine = k.machine;
@@ -207,6 +191,8 @@ not_told first c h k next = record {
   going = k.going;
   closed = k.closed;
   limited = k.limited;
+  alarmed_is = k.alarmed_is;
+  unlocked = k.unlocked;
   tries = k.tries;
 }
 
@@ -214,7 +200,6 @@ not_told first c h k next = record {
 pub report_told : (first : Opening) (c : Board) (r : Report) (h : Journal) (k : Keeps first c h) → IsReportAt first r h → Keeps first (record c { owes = false }) (at_port (reported r) ∷ h)
 report_told first c r h k may = record {
   placed = k.placed;
-  free = k.free;
   short = k.short;
   conducted = (may, k.conducted);
   machine = k.machine;
@@ -233,6 +218,8 @@ report_told first c r h k may = record {
   going = k.going;
   closed = k.closed;
   limited = k.limited;
+  alarmed_is = k.alarmed_is;
+  unlocked = k.unlocked;
   tries = k.tries;
 }
 
@@ -244,7 +231,6 @@ or_true false b e = e
 pub report_kept : (first : Opening) (c : Board) (h : Journal) → Keeps first c h → owes_report h ≡ true → Keeps first (record c { owes = true }) (at_port no_reply_room ∷ h)
 report_kept first c h k owed = record {
   placed = k.placed;
-  free = k.free;
   short = k.short;
   conducted = (or_true (tells_next (left_of first h)) (owes_report h) owed, k.conducted);
   machine = k.machine;
@@ -263,6 +249,8 @@ report_kept first c h k owed = record {
   going = k.going;
   closed = k.closed;
   limited = k.limited;
+  alarmed_is = k.alarmed_is;
+  unlocked = k.unlocked;
   tries = k.tries;
 }
 
@@ -270,7 +258,6 @@ report_kept first c h k owed = record {
 pub polled_empty : (first : Opening) (c : Board) (h : Journal) → Keeps first c h → MayPoll first h → Keeps first c (at_port found_empty ∷ h)
 polled_empty first c h k may = record {
   placed = k.placed;
-  free = k.free;
   short = k.short;
   conducted = (may, k.conducted);
   machine = k.machine;
@@ -289,6 +276,8 @@ polled_empty first c h k may = record {
   going = k.going;
   closed = k.closed;
   limited = k.limited;
+  alarmed_is = k.alarmed_is;
+  unlocked = k.unlocked;
   tries = λ one. omega arith;
 }
 
@@ -296,7 +285,6 @@ polled_empty first c h k may = record {
 pub polled_closed : (first : Opening) (c : Board) (h : Journal) → Keeps first c h → MayPoll first h → Keeps first c (at_port found_closed ∷ h)
 polled_closed first c h k may = record {
   placed = k.placed;
-  free = k.free;
   short = k.short;
   conducted = (may, k.conducted);
   machine = k.machine;
@@ -315,6 +303,8 @@ polled_closed first c h k may = record {
   going = k.going;
   closed = k.closed;
   limited = k.limited;
+  alarmed_is = k.alarmed_is;
+  unlocked = k.unlocked;
   tries = λ one. omega arith;
 }
 
@@ -325,7 +315,6 @@ pub added_move : (first : Opening) (c : Board) (m : Machine) (i : Interpreting) 
     → Keeps first (record c { machine = m; lines = i }) (did (Add mv) [] ∷ h)
 added_move first c m i mv h k next planned room runs is = record {
   placed = k.placed;
-  free = k.free;
   short = k.short;
   conducted = ((next, (record { move = planned; room = has_room (plan_of h) room }, refl)), k.conducted);
   machine = rw (append-nil (hand_of h), append-nil (given_of h)) runs;
@@ -344,6 +333,8 @@ added_move first c m i mv h k next planned room runs is = record {
   going = k.going;
   closed = k.closed;
   limited = k.limited;
+  alarmed_is = k.alarmed_is;
+  unlocked = k.unlocked;
   tries = k.tries;
 }
 
@@ -370,7 +361,6 @@ pub took_segment : (first : Opening) (c : Board) (m : Machine) (s : Segment) (h 
     → Keeps first (record c { machine = m }) (did (Take (mode_in (motion_of first h))) (pieces.Segment s ∷ []) ∷ h)
 took_segment first c m s h k moves empty next runs = record {
   placed = k.placed;
-  free = k.free;
   short = k.short;
   conducted = ((may_take first h moves empty, (next, refl)), k.conducted);
   machine = rw empty runs;
@@ -389,6 +379,8 @@ took_segment first c m s h k moves empty next runs = record {
   going = k.going;
   closed = k.closed;
   limited = k.limited;
+  alarmed_is = k.alarmed_is;
+  unlocked = k.unlocked;
   tries = k.tries;
 }
 
@@ -409,7 +401,6 @@ pub marked : (first : Opening) (c : Board) (m : Machine) (i : Interpreting) (mar
     → Keeps first (record c { machine = m; lines = i }) (did (Mark mark) (pieces.Mark mark ∷ []) ∷ h)
 marked first c m i mark h k next good empty rest runs is = record {
   placed = k.placed;
-  free = k.free;
   short = k.short;
   conducted = ((record { next = next; empty = empty }, (refl, good, rest, refl)), k.conducted);
   machine = rw empty runs;
@@ -428,6 +419,8 @@ marked first c m i mark h k next good empty rest runs is = record {
   going = k.going;
   closed = k.closed;
   limited = k.limited;
+  alarmed_is = k.alarmed_is;
+  unlocked = k.unlocked;
   tries = k.tries;
 }
 
@@ -436,7 +429,6 @@ pub rested : (first : Opening) (c : Board) (i : Interpreting) (h : Journal) → 
     → Keeps first (record c { lines = i }) (did Rest [] ∷ h)
 rested first c i h k next drained stands is = record {
   placed = k.placed;
-  free = k.free;
   short = k.short;
   conducted = ((record { next = next; drained = drained; stands = stands }, (drained.plan, refl)), k.conducted);
   machine = rw (append-nil (hand_of h), append-nil (given_of h)) k.machine;
@@ -455,6 +447,8 @@ rested first c i h k next drained stands is = record {
   going = k.going;
   closed = k.closed;
   limited = k.limited;
+  alarmed_is = k.alarmed_is;
+  unlocked = k.unlocked;
   tries = k.tries;
 }
 
@@ -464,7 +458,6 @@ pub evens : (first : Opening) (c : Board) (m : Machine) (i : Interpreting) (h : 
     → Keeps first (record c { machine = m; lines = i }) (evened ∷ h)
 evens first c m i h k next drained stands runs is = record {
   placed = k.placed;
-  free = k.free;
   short = k.short;
   conducted = (record { rests = record { next = next; drained = drained; stands = stands }; replans = (fresh_starts.overrides, refl) }, k.conducted);
   machine = runs;
@@ -483,6 +476,8 @@ evens first c m i h k next drained stands runs is = record {
   going = k.going;
   closed = k.closed;
   limited = k.limited;
+  alarmed_is = k.alarmed_is;
+  unlocked = k.unlocked;
   tries = k.tries;
 }
 
@@ -491,7 +486,6 @@ pub held_for_pause : (first : Opening) (c : Board) (m : Machine) (i : Interpreti
     → Runs m (plan_of h) motions.Held (hand_of h) (given_of h) → i ≡ record c.lines { left = drop 1 c.lines.left } → Keeps first (record c { machine = m; lines = i }) (paused ∷ h)
 held_for_pause first c m i h k next drained stands runs is = record {
   placed = k.placed;
-  free = k.free;
   short = k.short;
   conducted = (record { rests = record { next = next; drained = drained; stands = stands }; held = ap (λ now. after on_pause now) stands }, k.conducted);
   machine = runs;
@@ -510,6 +504,8 @@ held_for_pause first c m i h k next drained stands runs is = record {
   going = k.going;
   closed = k.closed;
   limited = k.limited;
+  alarmed_is = k.alarmed_is;
+  unlocked = refl;
   tries = k.tries;
 }
 
@@ -519,7 +515,6 @@ pub ended : (first : Opening) (c : Board) (m : Machine) (i : Interpreting) (h : 
     → Keeps first (record c { machine = m; lines = i }) (made_end ∷ h)
 ended first c m i h k next drained stands closes runs is = record {
   placed = k.placed;
-  free = k.free;
   short = k.short;
   conducted = (record { next = next; drained = drained; stands = stands; closes = closes }, k.conducted);
   machine = rw drained.hand runs;
@@ -538,6 +533,8 @@ ended first c m i h k next drained stands closes runs is = record {
   going = k.going;
   closed = k.closed;
   limited = k.limited;
+  alarmed_is = k.alarmed_is;
+  unlocked = k.unlocked;
   tries = k.tries;
 }
 
@@ -552,7 +549,6 @@ pub started : (first : Opening) (c : Board) (m : Machine) (jog : Bool) (h : Jour
     → Keeps first (record c { machine = m }) (starting jog h)
 started first c m jog h k stands may runs = record {
   placed = k.placed;
-  free = k.free;
   short = k.short;
   conducted = ((starts_to jog (motion_of first h) stands, may), k.conducted);
   machine = runs;
@@ -571,6 +567,8 @@ started first c m jog h k stands may runs = record {
   going = k.going;
   closed = k.closed;
   limited = k.limited;
+  alarmed_is = k.alarmed_is;
+  unlocked = none_awaited_started jog (not (is_locked first h) && not (has_limited h));
   tries = k.tries;
 }
 
@@ -589,7 +587,6 @@ pub drained : (first : Opening) (c : Board) (m : Machine) (h : Journal) → Keep
     → Keeps first (record c { machine = m }) (became on_drained motions.Idle ∷ h)
 drained first c m h k was may runs = record {
   placed = k.placed;
-  free = k.free;
   short = k.short;
   conducted = ((after_drained (motion_of first h) was, may), k.conducted);
   machine = runs;
@@ -608,5 +605,7 @@ drained first c m h k was may runs = record {
   going = k.going;
   closed = k.closed;
   limited = k.limited;
+  alarmed_is = k.alarmed_is;
+  unlocked = refl;
   tries = k.tries;
 }

@@ -1,5 +1,5 @@
 -- What comes of a machine that has stopped: it is held, or in alarm, or its jogs are cut, or it stands.
-use Rattle.std.proofs.Common.{◌≡◌, ℕ, ◌+◌, ◌-◌, inl, inr, true, false, List, [], ◌∷◌, ◌++◌, length, drop, refl, sym, ap, ◌∙◌, subst, arith, append-nil, take}
+use Rattle.std.proofs.Common.{◌≡◌, ℕ, ◌+◌, ◌-◌, ◌⊎◌, inl, inr, Bool, true, false, not, ◌&&◌, List, [], ◌∷◌, ◌++◌, length, drop, refl, sym, ap, ◌∙◌, subst, arith, append-nil, take}
 use Rattle.feed_hold.specs.declared.Motion.{Motion}
 use Rattle.feed_hold.specs.declared.Motion.TheVariants as motions
 use Rattle.feed_hold.specs.Motions.{after, is_stopping}
@@ -26,10 +26,10 @@ use Rattle.line_interpreter.specs.Lefts.{IsTodo}
 use Rattle.line_interpreter.specs.declared.tasks.Todo.{Todo}
 use Rattle.line_interpreter.specs.declared.tasks.Todo.TheVariants as todo
 use Rattle.board_rules.specs.Openings.{Opening}
-use Rattle.board_rules.specs.Steps.{Journal, outcomes_of, given_of, published_of, known_of, before_of, left_of, without_asks, hand_of, plan_of, motion_of}
+use Rattle.board_rules.specs.Steps.{Journal, has_limited, outcomes_of, given_of, published_of, known_of, before_of, left_of, without_asks, hand_of, plan_of, motion_of}
 use Rattle.board_rules.specs.Steps.Step.{became, cut}
 use Rattle.board_rules.specs.Cuts.{has_cut}
-use Rattle.board_rules.specs.Conduct.{IsStopped}
+use Rattle.board_rules.specs.Conduct.{Conducted, IsLocked, IsStopped}
 use Rattle.board_rules.proofs.Jogging.{OneMove, one_move, cancel_is_jog}
 use Rattle.board_rules.proofs.Keeping.{hand_is}
 use Rattle.board_rules.proofs.Limits.{lines_in_bytes}
@@ -40,7 +40,8 @@ use Rattle.board_turns.specs.Boards.{Keeps}
 use Rattle.board_turns.specs.Turning.{IsFoundStopped, IsUncut, ComesOf}
 use Rattle.board_turns.specs.Turning.ComesOf.{is_held, is_cut, is_locked, is_over}
 use Rattle.board_turns.proofs.Known.{calm_now}
-use Rattle.board_rules.specs.Turns.{is_limited}
+use Rattle.board_rules.specs.Turns.{is_limited, is_locked as is_locked_now}
+use Rattle.board_rules.proofs.Alarms.{limited_alarmed}
 use Rattle.board_rules.proofs.Uncut.{none_asked, uncut_else}
 use Rattle.board_rules.proofs.CutMarks.{known_where_stopped}
 use Rattle.board_rules.proofs.Facts.{number_is}
@@ -50,7 +51,6 @@ pub stops : (first : Opening) (c : Board) (m : Machine) (h : Journal) → Keeps 
     → Keeps first (record c { machine = m }) (became on_stopped motions.Held ∷ h)
 stops first c m h k slows stopped runs = record {
   placed = k.placed;
-  free = k.free;
   short = k.short;
   conducted = ((ap (λ now. after on_stopped now) slows, record { stopped = stopped; cut_is = λ e. absurd (other e); load = λ e. absurd (other e) }), k.conducted);
   machine = runs;
@@ -69,18 +69,31 @@ stops first c m h k slows stopped runs = record {
   going = k.going;
   closed = k.closed;
   limited = k.limited;
+  alarmed_is = k.alarmed_is;
+  unlocked = refl;
   tries = k.tries;
 }
   where
     other : motion_of first h ≡ motions.Cancelling → ⊥
     other e = let f = sym slows ∙ e in absurd cc
 
+-- a machine slows down to a stop for a limit only where a line has raised an alarm
+stopping_alarmed : (first : Opening) (h : Journal) → Conducted first h → motion_of first h ≡ motions.Stopping → has_limited h ≡ true
+stopping_alarmed first h c slows = by_cause (limited_alarmed first h c (ap is_limited slows))
+  where
+    by_cause : (has_limited h ≡ true) ⊎ IsLocked first h → has_limited h ≡ true
+    by_cause (inl one) = one
+    by_cause (inr locked) = absurd (let e = sym slows ∙ locked.1 in cc)
+
+alarmed_awaits_none : (a b : Bool) → b ≡ true → (not a && not b) ≡ false
+alarmed_awaits_none true b one = refl
+alarmed_awaits_none false b one = ap not one
+
 -- it is in alarm where a soft limit has stopped it
 pub locks : (first : Opening) (c : Board) (m : Machine) (h : Journal) → Keeps first c h → motion_of first h ≡ motions.Stopping → IsStopped first h → Runs m (plan_of h) motions.Alarm (hand_of h) (given_of h)
     → Keeps first (record c { machine = m }) (became on_stopped motions.Alarm ∷ h)
 locks first c m h k slows stopped runs = record {
   placed = k.placed;
-  free = k.free;
   short = k.short;
   conducted = ((ap (λ now. after on_stopped now) slows, record { stopped = stopped; cut_is = λ e. absurd (other e); load = λ e. absurd (other e) }), k.conducted);
   machine = runs;
@@ -99,6 +112,8 @@ locks first c m h k slows stopped runs = record {
   going = k.going;
   closed = k.closed;
   limited = k.limited;
+  alarmed_is = k.alarmed_is;
+  unlocked = alarmed_awaits_none (is_locked_now first h) (has_limited h) (stopping_alarmed first h k.conducted slows);
   tries = k.tries;
 }
   where
@@ -110,7 +125,6 @@ pub cancel_over : (first : Opening) (c : Board) (m : Machine) (h : Journal) → 
     → Keeps first (record c { machine = m; cut = false }) (became on_stopped motions.Idle ∷ h)
 cancel_over first c m h k cancelled was found runs = record {
   placed = k.placed;
-  free = k.free;
   short = k.short;
   conducted = ((ap (λ now. after on_stopped now) cancelled, record { stopped = found.stopped; cut_is = λ e. was; load = λ e. found.load }), k.conducted);
   machine = runs;
@@ -129,6 +143,8 @@ cancel_over first c m h k cancelled was found runs = record {
   going = k.going;
   closed = k.closed;
   limited = k.limited;
+  alarmed_is = k.alarmed_is;
+  unlocked = refl;
   tries = k.tries;
 }
 
@@ -199,7 +215,6 @@ pub cut_made : (first : Opening) (c : Board) (m : Machine) (i : Interpreting) (k
     → Keeps first (record c { machine = m; lines = i; cut = true }) (cut k ∷ h)
 cut_made first c m i k at h keeps uncut found number place left same state runs = record {
   placed = keeps.placed;
-  free = keeps.free;
   short = keeps.short;
   conducted = (
     record {
@@ -233,6 +248,8 @@ cut_made first c m i k at h keeps uncut found number place left same state runs 
   going = keeps.going;
   closed = keeps.closed;
   limited = keeps.limited;
+  alarmed_is = keeps.alarmed_is;
+  unlocked = keeps.unlocked;
   tries = keeps.tries;
 }
   where

@@ -59,7 +59,6 @@ observed_now m now p (x ∷ xs) all none e is = absurd cc
 pub other_machine : (first : Opening) (c : Board) (m : Machine) (h : Journal) → Keeps first c h → Runs m (plan_of h) (motion_of first h) (hand_of h) (given_of h) → Keeps first (record c { machine = m }) h
 other_machine first c m h k runs = record {
   placed = k.placed;
-  free = k.free;
   short = k.short;
   conducted = k.conducted;
   machine = runs;
@@ -78,6 +77,8 @@ other_machine first c m h k runs = record {
   going = k.going;
   closed = k.closed;
   limited = k.limited;
+  alarmed_is = k.alarmed_is;
+  unlocked = k.unlocked;
   tries = k.tries;
 }
 

@@ -24,7 +24,6 @@ pub closes : (first : Opening) (c : Board) (i : Interpreting) (h : Journal) → 
     → Keeps first (record c { lines = i; closing = true }) (closing ∷ h)
 closes first c i h k unreset may is = record {
   placed = k.placed;
-  free = k.free;
   short = k.short;
   conducted = (may, k.conducted);
   machine = k.machine;
@@ -47,6 +46,8 @@ closes first c i h k unreset may is = record {
   going = λ e. absurd (cc);
   closed = λ e. ap (λ (rs : List Reply). rs ++ Bye ∷ []) may.going;
   limited = k.limited;
+  alarmed_is = k.alarmed_is;
+  unlocked = k.unlocked;
   tries = k.tries;
 }
 
@@ -54,7 +55,6 @@ closes first c i h k unreset may is = record {
 pub ends : (first : Opening) (c : Board) (f : Flags) (t : Turn) (h : Journal) → Keeps first c h → MayTurn first t h → KeepsBetween first (record c { flags = f }) (turned t ∷ h)
 ends first c f t h k may = record {
   placed = k.placed;
-  free = k.free;
   short = k.short;
   conducted = (may, k.conducted);
   machine = k.machine;
@@ -72,6 +72,8 @@ ends first c f t h k may = record {
   going = k.going;
   closed = k.closed;
   limited = k.limited;
+  alarmed_is = k.alarmed_is;
+  unlocked = k.unlocked;
   tries = k.tries;
 }
 
@@ -79,7 +81,6 @@ ends first c f t h k may = record {
 pub begins_turn : (first : Opening) (c : Board) (h : Journal) → KeepsBetween first c h → (MayReset first h → ⊥) → Keeps first c h
 begins_turn first c h k unready = record {
   placed = k.placed;
-  free = k.free;
   short = k.short;
   conducted = k.conducted;
   machine = k.machine;
@@ -98,6 +99,8 @@ begins_turn first c h k unready = record {
   going = k.going;
   closed = k.closed;
   limited = k.limited;
+  alarmed_is = k.alarmed_is;
+  unlocked = k.unlocked;
   tries = k.tries;
 }
 
@@ -105,7 +108,6 @@ begins_turn first c h k unready = record {
 pub room_found : (first : Opening) (c : Board) (bytes : ℕ) (h : Journal) → Keeps first c h → Keeps first c (at_port (found_free bytes) ∷ h)
 room_found first c bytes h k = record {
   placed = k.placed;
-  free = k.free;
   short = k.short;
   conducted = (tt, k.conducted);
   machine = k.machine;
@@ -124,6 +126,8 @@ room_found first c bytes h k = record {
   going = k.going;
   closed = k.closed;
   limited = k.limited;
+  alarmed_is = k.alarmed_is;
+  unlocked = k.unlocked;
   tries = k.tries;
 }
 
@@ -131,7 +135,6 @@ room_found first c bytes h k = record {
 pub other_beat : (first : Opening) (c : Board) (b : Beat) (h : Journal) → Keeps first c h → Keeps first (record c { beat = b }) h
 other_beat first c b h k = record {
   placed = k.placed;
-  free = k.free;
   short = k.short;
   conducted = k.conducted;
   machine = k.machine;
@@ -150,13 +153,14 @@ other_beat first c b h k = record {
   going = k.going;
   closed = k.closed;
   limited = k.limited;
+  alarmed_is = k.alarmed_is;
+  unlocked = k.unlocked;
   tries = k.tries;
 }
 
 pub other_flags : (first : Opening) (c : Board) (f : Flags) (h : Journal) → Keeps first c h → Keeps first (record c { flags = f }) h
 other_flags first c f h k = record {
   placed = k.placed;
-  free = k.free;
   short = k.short;
   conducted = k.conducted;
   machine = k.machine;
@@ -175,6 +179,8 @@ other_flags first c f h k = record {
   going = k.going;
   closed = k.closed;
   limited = k.limited;
+  alarmed_is = k.alarmed_is;
+  unlocked = k.unlocked;
   tries = k.tries;
 }
 
@@ -182,7 +188,6 @@ other_flags first c f h k = record {
 pub other_flight : (first : Opening) (c : Board) (f : Flying) (h : Journal) → Keeps first c h → IsFlown first f h → Keeps first (record c { flight = f }) h
 other_flight first c f h k flown = record {
   placed = k.placed;
-  free = k.free;
   short = k.short;
   conducted = k.conducted;
   machine = k.machine;
@@ -201,5 +206,7 @@ other_flight first c f h k flown = record {
   going = k.going;
   closed = k.closed;
   limited = k.limited;
+  alarmed_is = k.alarmed_is;
+  unlocked = k.unlocked;
   tries = k.tries;
 }

@@ -16,7 +16,7 @@ use Rattle.board_rules.specs.Openings.{Opening, IsPlaced}
 use Rattle.board_rules.specs.Ports.{has_reset_in}
 use Rattle.board_rules.specs.Steps.{Step, Journal, port_log, taken_of, has_limited, published_of, known_of, open_of, whole_of, before_of, left_of, closed_tells, given_of, hand_of, plan_of, motion_of}
 use Rattle.board_rules.specs.Steps.Step.{turned}
-use Rattle.board_rules.specs.Turns.{this_turn, unobeyed_of, owes_report, moving, is_full, is_halting, is_limited, awaits_motion, has_jogged, changes_taken, flags_taken, tries_of, missed_of, waits_of}
+use Rattle.board_rules.specs.Turns.{this_turn, unobeyed_of, owes_report, moving, is_full, is_halting, awaits_unlock, awaits_motion, has_jogged, changes_taken, flags_taken, tries_of, missed_of, waits_of}
 use Rattle.board_rules.specs.Conduct.{Conducted, AreWaiting}
 use Rattle.board_rules.specs.Cuts.{has_cut}
 pub use Rattle.board_rules.specs.Within.{changes_left}
@@ -52,11 +52,10 @@ pub record IsFlown (first : Opening) (f : Flying) (h : Journal) : Type 0 where
   pub found : known ≤ known_of h
   pub flies : Flies first.place f (published_of h) known
 
--- What the fields of a board keep of all that it did since an opening, which its rules allow; the machine is not locked there. The motion is stopped
--- for a line that a soft limit stops, and few tries to publish stand behind the last poll there. A reset may not be worked now.
+-- What the fields of a board keep of all that it did since an opening, which its rules allow. The motion is stopped for a line that a soft limit stops,
+-- and few tries to publish stand behind the last poll there; a machine that a line unlocks is unlocked. A reset may not be worked now.
 pub record Keeps (first : Opening) (board : Board) (h : Journal) : Type 0 where
   pub placed : IsPlaced first
-  pub free : is_limited first.motion ≡ false
   pub short : first.lines + length (taken_of h) ≤ 2 ^ 31
   pub conducted : Conducted first h
   pub machine : Runs board.machine (plan_of h) (motion_of first h) (hand_of h) (given_of h)
@@ -75,12 +74,13 @@ pub record Keeps (first : Opening) (board : Board) (h : Journal) : Type 0 where
   pub going : board.closing ≡ false → closed_tells h ≡ []
   pub closed : board.closing ≡ true → closed_tells h ≡ Bye ∷ []
   pub limited : limit_pending h ≡ false
+  pub alarmed_is : board.alarmed ≡ has_limited h
+  pub unlocked : awaits_unlock first h ≡ false
   pub tries : has_limited h ≡ true → tries_of first h ≤ 1
 
 -- They keep the same between two turns; a reset may be worked then.
 pub record KeepsBetween (first : Opening) (board : Board) (h : Journal) : Type 0 where
   pub placed : IsPlaced first
-  pub free : is_limited first.motion ≡ false
   pub short : first.lines + length (taken_of h) ≤ 2 ^ 31
   pub conducted : Conducted first h
   pub machine : Runs board.machine (plan_of h) (motion_of first h) (hand_of h) (given_of h)
@@ -98,6 +98,8 @@ pub record KeepsBetween (first : Opening) (board : Board) (h : Journal) : Type 0
   pub going : board.closing ≡ false → closed_tells h ≡ []
   pub closed : board.closing ≡ true → closed_tells h ≡ Bye ∷ []
   pub limited : limit_pending h ≡ false
+  pub alarmed_is : board.alarmed ≡ has_limited h
+  pub unlocked : awaits_unlock first h ≡ false
   pub tries : has_limited h ≡ true → tries_of first h ≤ 1
 
 -- it was the last turn that published a piece

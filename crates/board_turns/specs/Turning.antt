@@ -1,5 +1,5 @@
 -- What is known within a turn of a board, and what its parts add.
-use Rattle.std.specs.Prelude.{◌≡◌, ◌⊎◌, ℕ, ◌+◌, ◌≤◌, ◌<◌, Bool, true, false, cond, List, [], ◌∷◌, ◌++◌, drop, Some, None}
+use Rattle.std.specs.Prelude.{◌≡◌, ◌⊎◌, ℕ, ◌+◌, ◌≤◌, ◌<◌, Bool, true, false, ◌||◌, cond, List, [], ◌∷◌, ◌++◌, drop, Some, None}
 use Rattle.std.specs.List.{list_any, count_by}
 use Rattle.std.specs.declared.option.Option.{Option}
 use Rattle.code_table.specs.declared.flags.Exec.{Exec}
@@ -8,7 +8,7 @@ use Rattle.overrides.specs.Percents.{taken}
 use Rattle.planner_runs.specs.declared.Action.TheVariants.{Override}
 use Rattle.feed_hold.specs.declared.Motion.TheVariants.{Idle, Holding, Held, Cancelling, Stopping, Alarm}
 use Rattle.feed_hold.specs.Motions.{after_word}
-use Rattle.feed_hold.specs.Motions.Call.{on_exec, on_start, on_limit, on_stopped}
+use Rattle.feed_hold.specs.Motions.Call.{on_exec, on_start, on_limit, on_stopped, on_unlock}
 use Rattle.flight.specs.Flights.{Flying, Flies}
 use Rattle.outside.specs.declared.Turn.{Turn}
 use Rattle.outside.specs.declared.Turn.TheVariants.{Did, Wait}
@@ -23,12 +23,12 @@ use Rattle.board_rules.specs.Ports.{BoardLog}
 use Rattle.board_rules.specs.Ports.{asks_reset, has_changes}
 use Rattle.status_report.specs.declared.Reply.{Reply}
 use Rattle.board_rules.specs.Ports.PortStep.{answered, no_reply_room, took_exec, took_ovr}
-use Rattle.board_rules.specs.Steps.{Step, Journal, port_log, open_of, before_of, whole_of, left_of, closed_tells, published_of, known_of, hand_of, plan_of, motion_of}
+use Rattle.board_rules.specs.Steps.{Step, Journal, has_limited, port_log, open_of, before_of, whole_of, left_of, closed_tells, published_of, known_of, hand_of, plan_of, motion_of}
 use Rattle.board_rules.specs.Steps.Step.{at_port, began, did, became, cut}
 use Rattle.board_rules.specs.Cuts.{has_cut}
 use Rattle.run_rules.specs.Outcomes.{jogged_behind, begins_with_dollar}
 use Rattle.run_rules.specs.Finding.{Found}
-use Rattle.board_rules.specs.Turns.{this_turn, publishing, passing, moving, found_none, loads, has_blocks, awaits_motion, has_jog_to_start, is_full, is_going, begins_in, is_due, is_held_up, is_halting, machine_in, is_limited, is_counted, changes_taken, flags_taken, owes_report, tries_of, missed_of, waits_of}
+use Rattle.board_rules.specs.Turns.{this_turn, publishing, passing, moving, found_none, loads, has_blocks, awaits_motion, has_jog_to_start, is_full, is_going, begins_in, is_due, is_held_up, is_halting, machine_in, is_limited, is_locked as locked_still, is_counted, changes_taken, flags_taken, owes_report, tries_of, missed_of, waits_of}
 use Rattle.board_rules.specs.Conduct.{MayTurn, IsNextTask, IsDrained, HasSlowedDown, IsStopped, AreWaiting, ticks_given}
 use Rattle.units.specs.Truths.{one_if}
 pub use Rattle.board_rules.specs.Within.{AreWorked, MayFinish, PassesNothing, DidAlone, MayHaveLooked, Tried, HasTried}
@@ -103,18 +103,23 @@ pub record GoesOn (first : Opening) (h : Journal) : Type 0 where
   pub held : is_halting (motion_of first h) ≡ true → is_held_up first h ≡ false
   pub unlimited : is_limited (motion_of first h) ≡ false
 
+-- No line has raised an alarm, and one that was taken whole may be begun where nothing is left of the line before.
+pub record LetsLines (first : Opening) (h : Journal) : Type 0 where
+  pub calm : has_limited h ≡ false
+  pub begins : left_of first h ≡ [] → whole_of h ≡ true → (begins_in (motion_of first h) || locked_still first h) ≡ true
+
 -- What is next is held up, and it was not tried yet to publish a piece for it.
 pub record IsHeldUp (first : Opening) (h : Journal) : Type 0 where
   pub ready : IsReady first h
   pub halts : is_halting (motion_of first h) ≡ true
   pub held_up : is_held_up first h ≡ true
 
--- Nothing is left of the line before, and a line was taken whole. The machine stands, runs or jogs.
+-- Nothing is left of the line before, and a line was taken whole. The machine stands, runs or jogs, or is locked.
 pub record IsWholeLine (first : Opening) (h : Journal) : Type 0 where
   pub free : left_of first h ≡ []
   pub going : closed_tells h ≡ []
   pub whole : whole_of h ≡ true
-  pub goes : begins_in (motion_of first h) ≡ true
+  pub goes : (begins_in (motion_of first h) || locked_still first h) ≡ true
 
 -- A byte was polled for in this turn, and none was found.
 pub record HasPolled (first : Opening) (h : Journal) : Type 0 where
@@ -133,7 +138,7 @@ pub record IsLooked (first : Opening) (h : Journal) : Type 0 where
   pub free : left_of first h ≡ []
   pub going : closed_tells h ≡ []
   pub whole : whole_of h ≡ true
-  pub begins : begins_in (motion_of first h) ≡ true
+  pub begins : (begins_in (motion_of first h) || locked_still first h) ≡ true
   pub worked : AreWorked h
   pub flags : flags_taken h ≡ true
   pub unowed : owes_report h ≡ false
@@ -159,9 +164,9 @@ pub record IsJudged (first : Opening) (was now : Board) (h : Journal) (o : Outco
   pub reads : Reads now.input [] false
   pub same : now ≡ record was { lines = now.lines; input = now.input; jogged = now.jogged }
 
--- The line was begun; and where a soft limit stops it, so is the motion.
+-- The line was begun; and where a soft limit stops it, so is the motion, or the machine is unlocked, where the line unlocks it.
 abbrev pub HasBegun : Opening → Outcome → Journal → Journal → Type 0
-HasBegun first o h next = (next ≡ began o ∷ h) ⊎ (next ≡ became on_limit (limit_motion (motion_of first h)) ∷ began o ∷ h)
+HasBegun first o h next = (next ≡ began o ∷ h) ⊎ ((next ≡ became on_limit (limit_motion (motion_of first h)) ∷ began o ∷ h) ⊎ (next ≡ became on_unlock Idle ∷ began o ∷ h))
 
 -- What is next is to halt the machine, which a soft limit has stopped: each tick that was given is done.
 pub record IsAtLimit (first : Opening) (h : Journal) : Type 0 where
@@ -184,7 +189,7 @@ pub record HasLooked (first : Opening) (h next : Journal) : Type 0 where
   pub passes : PassesNothing first h next
   pub load : list_any loads (this_turn next) ≡ true
   pub idle : IsDrained next → is_going (motion_of first next) ≡ false
-  pub begins : begins_in (motion_of first next) ≡ true
+  pub begins : (begins_in (motion_of first next) || locked_still first next) ≡ true
   pub left : left_of first next ≡ left_of first h
   pub none_waits : NoneWaits first h → NoneWaits first next
 

@@ -2,7 +2,8 @@
 
 ghost use Rattle.std.specs.Prelude.{◌+◌, ◌^◌, ◌≡◌, ◌≢◌, ◌↔◌, ◌<◌, [], ◌∷◌, length, ◌||◌, true, false, None, IfSome, IfNone};
 ghost use Rattle.std.specs.List.{list_any};
-ghost use Rattle.feed_hold.specs.declared.Motion.TheVariants.{Idle};
+ghost use Rattle.feed_hold.specs.declared.Motion.TheVariants.{Idle, Alarm};
+ghost use Rattle.run_rules.specs.Locking.{unlocks};
 ghost use Rattle.outside.specs.declared.Turn.TheVariants.{Done};
 ghost use Rattle.run_rules.specs.Work.{Outcome};
 ghost use Rattle.run_rules.specs.Outcomes.{jogged_behind};
@@ -13,13 +14,13 @@ ghost use Rattle.board_rules.specs.Ports.PortStep.{took};
 ghost use Rattle.run_rules.specs.declared.State.{State as AnyState};
 ghost use Rattle.run_rules.specs.States.{IsOpening};
 ghost use Rattle.board_epochs.specs.Resets.{MayReset};
-ghost use Rattle.board_rules.specs.Steps.{Journal, port_log, taken_of, left_of, motion_of, has_closed};
+ghost use Rattle.board_rules.specs.Steps.{Journal, port_log, taken_of, open_of, left_of, motion_of, has_closed};
 ghost use Rattle.board_rules.specs.Openings.{Opening, first_opening};
 ghost use Rattle.board_rules.specs.Steps.Step.{at_port};
-ghost use Rattle.board_rules.specs.Turns.{this_turn, tells_next, awaits_motion, begins_in, machine_in, needs_motion, flags_taken, found_nothing, has_blocks, is_full};
+ghost use Rattle.board_rules.specs.Turns.{this_turn, tells_next, awaits_motion, begins_in, machine_in, needs_motion, flags_taken, found_nothing, has_blocks, is_full, is_locked};
 ghost use Rattle.board_rules.specs.Conduct.{IsNextTask, MayTake, MayPoll};
 ghost use Rattle.board_turns.specs.Boards.{Keeps, EpochFits, GoingFits, GoingTurned, BoardIsOver, GoingBetween, IsFree, TakesFlags, takes_no_word, board_number};
-ghost use Rattle.board_turns.specs.Turning.{IsNextMove, HasPiece, IsReady, MayRun, MayAwait, MayJudge, IsLooked, NeedsNoWait, IsWholeLine, HasPolled, HasStopped, PassesNothing, DidAlone, HasLooked, HasAdded, HasFilled, HasBegun, Tried, HasTried, BoardWorked, IsHeldUp, IsJudged, GoesOn, HasSettled, IsPassed, WorksOn};
+ghost use Rattle.board_turns.specs.Turning.{IsNextMove, HasPiece, IsReady, MayRun, MayAwait, MayJudge, IsLooked, NeedsNoWait, IsWholeLine, HasPolled, HasStopped, PassesNothing, DidAlone, HasLooked, HasAdded, HasFilled, HasBegun, Tried, HasTried, BoardWorked, IsHeldUp, IsJudged, GoesOn, LetsLines, HasSettled, IsPassed, WorksOn};
 
 use crate::input::Input;
 use board_machine::Machine;
@@ -75,6 +76,8 @@ pub struct Board {
     pub(crate) closing: bool,
     /// The last that was accepted of G-code and jogs is a jog.
     pub(crate) jogged: bool,
+    /// A line has raised the alarm of a soft limit.
+    pub(crate) alarmed: bool,
     /// Jogs are cancelled, and were cut since.
     pub(crate) cut: bool,
 }
@@ -123,6 +126,7 @@ impl Board {
             beat: Beat::Motion,
             closing: false,
             jogged: false,
+            alarmed: false,
             cut: false,
         }
     }
@@ -315,13 +319,17 @@ impl Board {
 
     /// Looks how many ticks are done. Where nothing is left to run, and each is done, the cycle is over.
     fn look<P: EpochPort>(&mut self, port: &mut P)
-        requires stands { (rest : P.Rest) × (first : Opening) × (h : Journal) × P.stands port.old rest first (port_log h) × Keeps first self.old h × (begins_in (motion_of first h) ≡ true) }
-        ensures goes_on { (rest : P.Rest) (first : Opening) (h : Journal) → P.stands port.old rest first (port_log h) → Keeps first self.old h → begins_in (motion_of first h) ≡ true
+        requires stands { (rest : P.Rest) × (first : Opening) × (h : Journal) × P.stands port.old rest first (port_log h) × Keeps first self.old h × ((begins_in (motion_of first h) || is_locked first h) ≡ true) }
+        ensures goes_on { (rest : P.Rest) (first : Opening) (h : Journal) → P.stands port.old rest first (port_log h) → Keeps first self.old h → (begins_in (motion_of first h) || is_locked first h) ≡ true
             → (next : Journal) × P.stands port.new rest first (port_log next) × Keeps first self.new next × HasLooked first h next }
         ensures same { self.new ≡ record self.old { machine = self.new.machine } }
     {
         let done = port.done();
-        if self.machine.hand.is_none() && !self.machine.has_blocks() && done == self.machine.given {
+        if self.machine.is_going()
+            && self.machine.hand.is_none()
+            && !self.machine.has_blocks()
+            && done == self.machine.given
+        {
             self.machine.drain();
         }
     }
@@ -349,16 +357,29 @@ impl Board {
         self.input.clear();
     }
 
-    /// Begins the line that was taken whole. Where a soft limit stops it, so is the motion, at once.
+    /// Whether the machine is locked, and the line that was taken whole unlocks it.
+    fn is_unlocked(&self) -> bool
+        ensures yes { (first : Opening) (h : Journal) → Keeps first self.now h → result ≡ true → (motion_of first h ≡ Alarm) × (unlocks (open_of h) ≡ true) }
+        ensures no { (first : Opening) (h : Journal) → Keeps first self.now h → result ≡ false → motion_of first h ≡ Alarm → unlocks (open_of h) ≡ false }
+    {
+        self.machine.is_locked() && self.input.unlocks()
+    }
+
+    /// Begins the line that was taken whole. Where a soft limit stops it, so is the motion, at once; where it unlocks the machine,
+    /// that is unlocked.
     fn judge(&mut self)
         requires may { (first : Opening) × (h : Journal) × Keeps first self.old h × MayJudge first h }
         requires unreset { self.old.resetting ≡ false }
         ensures begun { (first : Opening) (h : Journal) → Keeps first self.old h → MayJudge first h → (o : Outcome) × (next : Journal) × Keeps first self.new next × HasBegun first o h next }
-        ensures same { self.new ≡ record self.old { machine = self.new.machine; lines = self.new.lines; input = self.new.input; jogged = self.new.jogged } }
+        ensures same { self.new ≡ record self.old { machine = self.new.machine; lines = self.new.lines; input = self.new.input; jogged = self.new.jogged; alarmed = self.new.alarmed } }
     {
+        let unlocks = self.is_unlocked();
         self.judge_line();
         if self.lines.todo() == Todo::Halt {
             self.machine.limit();
+            self.alarmed = true;
+        } else if unlocks {
+            self.machine.unlock();
         }
     }
 
@@ -383,14 +404,14 @@ impl Board {
 
     /// What is done where nothing is left of the line before.
     #[inline(always)]
-    fn next_line<P: EpochPort>(&mut self, port: &mut P) -> Turn
-        requires stands { (rest : P.Rest) × (first : Opening) × (h : Journal) × P.stands port.old rest first (port_log h) × Keeps first self.old h × IsReady first h × GoesOn first h }
+    pub(crate) fn next_line<P: EpochPort>(&mut self, port: &mut P) -> Turn
+        requires stands { (rest : P.Rest) × (first : Opening) × (h : Journal) × P.stands port.old rest first (port_log h) × Keeps first self.old h × IsReady first h × LetsLines first h }
         requires none { self.old.lines.left ≡ [] }
         requires open { self.old.closing ≡ false }
         requires beat { self.old.beat ≡ Beat.Motion }
         requires flags { self.old.flags ≡ Flags.None }
         requires unreset { self.old.resetting ≡ false }
-        ensures goes_on { (rest : P.Rest) (first : Opening) (h : Journal) → P.stands port.old rest first (port_log h) → Keeps first self.old h → IsReady first h → GoesOn first h
+        ensures goes_on { (rest : P.Rest) (first : Opening) (h : Journal) → P.stands port.old rest first (port_log h) → Keeps first self.old h → IsReady first h → LetsLines first h
             → WorksOn first (P.stands port.new rest first) result self.old.flags self.new h }
         ensures going { result ≢ Done }
     {

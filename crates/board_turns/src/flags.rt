@@ -44,7 +44,7 @@ impl Board {
     fn drops_resets(&self) -> bool
         ensures { (first : Opening) (h : Journal) → Keeps first self.now h → result ≡ drops_resets h }
     {
-        self.closing || self.machine.is_limited()
+        self.closing || self.alarmed
     }
 
     /// Whether a reset is asked for, and not dropped, once this word of requests is taken.

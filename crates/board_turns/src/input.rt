@@ -1,6 +1,7 @@
 //! The line that is not begun.
 
 ghost use Rattle.std.specs.Prelude.{◌≡◌, ℕ, Bool, true, false, List, [], ◌∷◌, ◌++◌};
+ghost use Rattle.run_rules.specs.Locking.{unlocks};
 ghost use Rattle.board_turns.specs.Boards.{Reads};
 
 use line_interpreter::KeptLine;
@@ -13,6 +14,14 @@ pub(crate) struct Input {
     pub(crate) begun: bool,
     pub(crate) dollar: bool,
     pub(crate) whole: bool,
+}
+
+/// Whether a line is `$X`.
+#[tactic(auto, unfolding(system_lines::specs::Commands::kind_of))]
+fn is_unlock(line: &[u8]) -> bool
+    ensures { result ≡ unlocks line.now }
+{
+    matches!(line, b"$X")
 }
 
 impl Input {
@@ -46,6 +55,16 @@ impl Input {
         ensures { (bytes : List ℕ) (whole : Bool) → Reads self.old bytes whole → Reads self.new bytes true }
     {
         self.whole = true;
+    }
+
+    /// Whether the line is `$X`, which unlocks a machine that is locked.
+    pub(crate) fn unlocks(&self) -> bool
+        ensures { (bytes : List ℕ) (whole : Bool) → Reads self.now bytes whole → result ≡ unlocks bytes }
+    {
+        match self.kept.bytes() {
+            Some(bytes) => is_unlock(bytes),
+            None => false,
+        }
     }
 
     /// The next line begins.

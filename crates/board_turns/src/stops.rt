@@ -7,7 +7,7 @@ ghost use Rattle.board_rules.specs.Conduct.{IsNextTask};
 ghost use Rattle.board_rules.specs.Openings.{Opening};
 ghost use Rattle.board_rules.specs.Steps.{Journal, port_log, left_of, motion_of, outcomes_of, without_asks};
 ghost use Rattle.board_rules.specs.Steps.Step.{cut};
-ghost use Rattle.board_rules.specs.Turns.{is_limited};
+ghost use Rattle.board_rules.specs.Turns.{is_limited, tells_next};
 ghost use Rattle.run_rules.specs.Work.Task.{halt};
 ghost use Rattle.board_turns.specs.Boards.{Keeps};
 ghost use Rattle.board_turns.specs.Turning.{BoardWorked, ComesOf, HasHalted, IsAtLimit, IsFoundStopped, IsInAlarm, IsReady, IsUncut, WorksOn};
@@ -109,11 +109,12 @@ impl Board {
 
     /// Closes the run, since the alarm is told, and nothing is left to do.
     fn close_limited(&mut self) -> Turn
-        requires stands { (first : Opening) × (h : Journal) × Keeps first self.old h × IsReady first h × (is_limited (motion_of first h) ≡ true) × (left_of first h ≡ []) }
+        requires stands { (first : Opening) × (h : Journal) × Keeps first self.old h × IsReady first h × (left_of first h ≡ []) }
+        requires alarmed { self.old.alarmed ≡ true }
         requires open { self.old.closing ≡ false }
         requires beat { self.old.beat ≡ Beat.Motion }
         requires flags { self.old.flags ≡ Flags.None }
-        ensures goes_on { (first : Opening) (h : Journal) → Keeps first self.old h → IsReady first h → is_limited (motion_of first h) ≡ true → left_of first h ≡ []
+        ensures goes_on { (first : Opening) (h : Journal) → Keeps first self.old h → IsReady first h → left_of first h ≡ []
             → (next : Journal) × (port_log next ≡ port_log h) × BoardWorked first result self.old.flags self.new h next }
         ensures going { result ≢ Done }
     {
@@ -122,22 +123,27 @@ impl Board {
         Turn::Did
     }
 
-    /// Does what is next where a soft limit stops the machine, or has stopped it: halts it, tells the alarm, and ends the run.
+    /// Does what is next where a soft limit stops the machine, or has stopped it: halts it, tells the alarm, and ends the run. So it does
+    /// where the machine is locked: then nothing more is asked of it until a line unlocks it.
     #[inline(never)]
     pub(crate) fn end_limited<P: EpochPort>(&mut self, port: &mut P) -> Turn
         requires stands { (rest : P.Rest) × (first : Opening) × (h : Journal) × P.stands port.old rest first (port_log h) × Keeps first self.old h × IsReady first h × (is_limited (motion_of first h) ≡ true) }
         requires open { self.old.lines.left ≡ [] → self.old.closing ≡ false }
         requires beat { self.old.beat ≡ Beat.Motion }
         requires flags { self.old.flags ≡ Flags.None }
+        requires unreset { tells_next self.old.lines.left ≡ false → self.old.resetting ≡ false }
         ensures goes_on { (rest : P.Rest) (first : Opening) (h : Journal) → P.stands port.old rest first (port_log h) → Keeps first self.old h → IsReady first h → is_limited (motion_of first h) ≡ true
             → WorksOn first (P.stands port.new rest first) result self.old.flags self.new h }
         ensures going { result ≢ Done }
     {
+        if self.alarmed && self.lines.is_done() {
+            return self.close_limited();
+        }
         match self.lines.todo() {
             Todo::Halt => self.halt_at_limit(port),
             Todo::Tell => self.tell(port),
             Todo::Finish => self.finish(port),
-            Todo::Nothing => self.close_limited(),
+            Todo::Nothing => self.next_line(port),
             _ => unreachable!(),
         }
     }

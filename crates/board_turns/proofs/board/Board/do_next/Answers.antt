@@ -1,5 +1,5 @@
 use Rattle.board_turns.proofs.Ends.{may_run}
-use Rattle.board_turns.proofs.Nexts.{finish_next, some_next}
+use Rattle.board_turns.proofs.Nexts.{finish_next, lets_lines, some_next}
 use Rattle.run_rules.specs.Work.Task.{finish, ask, pause}
 use Rattle.step_line.specs.Asking.Asked.{a_move}
 use Rattle.board_rules.specs.Turns.{awaits_motion}
@@ -21,7 +21,7 @@ returns-in-Finish-clause-goes_on g c = λ rest first h stands keeps ready goes n
     c.finish.ensures.goes_on rest first h stands keeps (may_run first h keeps.conducted ready (some_next first h finish next.1)) next.0 next.1
 
 pub next_line-requires-clause-stands : goal.next_line-requires-clause-stands
-next_line-requires-clause-stands g c = let r = c.requires.stands in let first = r.1 in (r.0, first, r.2, r.3, r.4, r.5, r.6)
+next_line-requires-clause-stands g c = let r = c.requires.stands in let first = r.1 in (r.0, first, r.2, r.3, r.4, r.5, lets_lines first c.args.self.now r.2 r.4 r.6)
 
 pub tell-requires-clause-stands : goal.tell-requires-clause-stands
 tell-requires-clause-stands g c = let r = c.requires.stands in let first = r.1 in (r.0, first, r.2, r.3, r.4, r.5)
@@ -30,7 +30,7 @@ pub mark-requires-clause-stands : goal.mark-requires-clause-stands
 mark-requires-clause-stands g c = let r = c.requires.stands in let first = r.1 in (r.0, first, r.2, r.3, r.4, r.5)
 
 pub returns-in-Nothing-clause-goes_on : goal.returns-in-Nothing-clause-goes_on
-returns-in-Nothing-clause-goes_on g c = λ rest first h stands keeps ready goes needs. c.next_line.ensures.goes_on rest first h stands keeps ready goes
+returns-in-Nothing-clause-goes_on g c = λ rest first h stands keeps ready goes needs. c.next_line.ensures.goes_on rest first h stands keeps ready (lets_lines first c.args.self.now h keeps goes)
 
 pub returns-in-Tell-clause-goes_on : goal.returns-in-Tell-clause-goes_on
 returns-in-Tell-clause-goes_on g c = λ rest first h stands keeps ready goes needs. c.tell.ensures.goes_on rest first h stands keeps ready

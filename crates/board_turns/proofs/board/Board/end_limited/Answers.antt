@@ -1,17 +1,18 @@
-use Rattle.std.proofs.Common.{sym, ◌∙◌}
+use Rattle.std.proofs.Common.{◌≡◌, false, sym, ◌∙◌}
 use Rattle.run_rules.specs.Work.Task.{finish, halt}
-use Rattle.board_rules.proofs.Stages.{limited_finish}
+use Rattle.board_turns.proofs.Stages.{limited_finish}
 use Rattle.board_turns.proofs.Ends.{may_run}
 use Rattle.board_turns.proofs.Limiting.{nothing_else}
-use Rattle.board_turns.proofs.Nexts.{some_next}
+use Rattle.board_turns.proofs.Nexts.{lets_locked, some_next}
 use Rattle.board_turns.proofs.Steps.{is_next}
+use Rattle.board_turns.proofs.board.Board.end_limited.Goals.{else-self-via-then-self+else-is_done, else-self-via-else-self}
 use Rattle.board_turns.proofs.board.Board.end_limited.Goals as goal
 
 pub finish-requires-clause-stands : goal.finish-requires-clause-stands
 finish-requires-clause-stands g c =
     let r = c.requires.stands in let first = r.1 in
     let next = is_next first c.args.self.now r.2 finish r.4 c.in-Finish.ensures in
-    (r.0, first, r.2, r.3, r.4, may_run first r.2 r.4.conducted r.5 (some_next first r.2 finish next), limited_finish first r.4.free r.2 r.4.conducted r.6 next, next)
+    (r.0, first, r.2, r.3, r.4, may_run first r.2 r.4.conducted r.5 (some_next first r.2 finish next), limited_finish first r.2 r.4.conducted r.6 next, next)
 
 pub unreachable-requires : goal.unreachable-requires
 unreachable-requires g c =
@@ -22,12 +23,29 @@ unreachable-requires g c =
 pub returns-in-Finish-clause-goes_on : goal.returns-in-Finish-clause-goes_on
 returns-in-Finish-clause-goes_on g c = λ rest first h stands k ready is.
     let next = is_next first c.args.self.now h finish k c.in-Finish.ensures in
-    c.finish.ensures.goes_on rest first h stands k (may_run first h k.conducted ready (some_next first h finish next)) (limited_finish first k.free h k.conducted is next) next
+    c.finish.ensures.goes_on rest first h stands k (may_run first h k.conducted ready (some_next first h finish next)) (limited_finish first h k.conducted is next) next
+
+pub returns-then-is_done-clause-goes_on : goal.returns-then-is_done-clause-goes_on
+returns-then-is_done-clause-goes_on g c = λ rest first h stands k ready is.
+    let n = c.close_limited.ensures.goes_on first h k ready (sym k.lines.left_is ∙ c.is_done.ensures.0 c.if-is_done.true) in
+    (n.0, rw n.1 stands, n.2)
 
 pub returns-in-Nothing-clause-goes_on : goal.returns-in-Nothing-clause-goes_on
 returns-in-Nothing-clause-goes_on g c = λ rest first h stands k ready is.
-    let n = c.close_limited.ensures.goes_on first h k ready is (sym k.lines.left_is ∙ c.in-Nothing.ensures) in
-    (n.0, rw n.1 stands, n.2)
+    let none : c.args.self.now.alarmed ≡ false = elim c.else-self.branch [
+      | else-self-via-then-self+else-is_done w ↦ absurd (let e = sym w.if-is_done.false ∙ w.is_done.ensures.1 c.in-Nothing.ensures in cc)
+      | else-self-via-else-self w ↦ w.if-self.false
+    ] in
+    c.next_line.ensures.goes_on rest first h stands k ready (lets_locked first c.args.self.now h k is none)
+
+pub next_line-requires-clause-stands : goal.next_line-requires-clause-stands
+next_line-requires-clause-stands g c =
+    let r = c.requires.stands in let first = r.1 in
+    let none : c.args.self.now.alarmed ≡ false = elim c.else-self.branch [
+      | else-self-via-then-self+else-is_done w ↦ absurd (let e = sym w.if-is_done.false ∙ w.is_done.ensures.1 c.in-Nothing.ensures in cc)
+      | else-self-via-else-self w ↦ w.if-self.false
+    ] in
+    (r.0, first, r.2, r.3, r.4, r.5, lets_locked first c.args.self.now r.2 r.4 r.6 none)
 
 pub halt_at_limit-requires-clause-stands : goal.halt_at_limit-requires-clause-stands
 halt_at_limit-requires-clause-stands g c =
@@ -47,4 +65,4 @@ returns-in-Tell-clause-goes_on g c = λ rest first h stands k ready is. c.tell.e
 pub close_limited-requires-clause-stands : goal.close_limited-requires-clause-stands
 close_limited-requires-clause-stands g c =
     let r = c.requires.stands in let first = r.1 in
-    (first, r.2, r.4, r.5, r.6, sym r.4.lines.left_is ∙ c.in-Nothing.ensures)
+    (first, r.2, r.4, r.5, sym r.4.lines.left_is ∙ c.is_done.ensures.0 c.if-is_done.true)

@@ -5,7 +5,7 @@ use Rattle.run_rules.specs.Work.Task.{halt}
 use Rattle.board_turns.specs.declared.board.Board.{Board}
 use Rattle.board_turns.specs.declared.board.Flags.{Flags}
 use Rattle.board_turns.specs.Turning.{HasPiece, WorksOn}
-use Rattle.board_rules.proofs.Stages.{halting_left}
+use Rattle.board_turns.proofs.Stages.{halting_left}
 use Rattle.board_turns.proofs.Ends.{may_run, works_passed}
 use Rattle.board_turns.proofs.Limiting.{alarm_next, at_limit, waits_at_limit, ready_halted}
 use Rattle.board_turns.proofs.Nexts.{some_next}
@@ -53,7 +53,7 @@ tell-requires g c =
     let n = c.drop_plan.ensures.halted first mid (looked first s done r.2 r.4 known) (at_limit first s r.2 done r.4 r.6 r.7 none (done_all first s r.2 done r.4 known c.if-done-self.false)) in
     record {
       stands = (r.0, first, n.0, rw n.2.alone.port (c.done.ensures.done r.0 first r.2 r.3 r.4.conducted), n.1, ready_halted first r.2 mid n.0 r.5 r.7 (passes_load first done r.2) refl n.2);
-      next = alarm_next first c.drop_plan.new.self r.2 mid n.0 n.1 refl n.2 (halting_left first r.4.free r.2 r.4.conducted r.6 r.7);
+      next = alarm_next first c.drop_plan.new.self r.2 mid n.0 n.1 refl n.2 (halting_left first r.2 r.4.conducted r.6 r.7);
       beat = ap (λ (b : Board). b.beat) c.drop_plan.ensures.same ∙ c.requires.beat;
       flags = ap (λ (b : Board). b.flags) c.drop_plan.ensures.same ∙ c.requires.flags;
     }

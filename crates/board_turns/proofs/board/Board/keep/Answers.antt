@@ -18,7 +18,6 @@ other b differs = grind (arith, nat_tests, differs)
 pub returns-then-byte-eq10-clause-kept : goal.returns-then-byte-eq10-clause-kept
 returns-then-byte-eq10-clause-kept c = λ first h k may room. record {
   placed = k.placed;
-  free = k.free;
   short = few_more first.lines c.args.byte h room;
   conducted = (may, k.conducted);
   machine = k.machine;
@@ -37,13 +36,14 @@ returns-then-byte-eq10-clause-kept c = λ first h k may room. record {
   going = k.going;
   closed = k.closed;
   limited = k.limited;
+  alarmed_is = k.alarmed_is;
+  unlocked = k.unlocked;
   tries = λ one. omega arith;
 }
 
 pub returns-else-byte-eq10-clause-kept : goal.returns-else-byte-eq10-clause-kept
 returns-else-byte-eq10-clause-kept c = λ first h k may room. record {
   placed = k.placed;
-  free = k.free;
   short = few_more first.lines c.args.byte h room;
   conducted = (may, k.conducted);
   machine = k.machine;
@@ -62,5 +62,7 @@ returns-else-byte-eq10-clause-kept c = λ first h k may room. record {
   going = k.going;
   closed = k.closed;
   limited = k.limited;
+  alarmed_is = k.alarmed_is;
+  unlocked = k.unlocked;
   tries = λ one. omega arith;
 }

@@ -10,7 +10,6 @@ returns c = (
   record {
     keeps = record {
       placed = sym (ap (λ (p : Parser). p.pos_steps) c.new-lines.ensures.opening.parser);
-      free = refl;
       short = omega arith;
       conducted = opens c.new-lines.result.state;
       machine = c.new.ensures;
@@ -28,6 +27,8 @@ returns c = (
       going = λ e. refl;
       closed = λ e. absurd cc;
       limited = refl;
+      alarmed_is = refl;
+      unlocked = refl;
       tries = λ e. absurd cc;
     };
     rounds = record {

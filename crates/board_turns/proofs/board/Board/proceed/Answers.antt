@@ -4,7 +4,7 @@ use Rattle.board_turns.specs.declared.board.Board.{Board}
 use Rattle.board_turns.specs.declared.board.Flags.{Flags}
 use Rattle.board_turns.specs.Turning.{WorksOn}
 use Rattle.board_turns.proofs.Ends.{works_passed, goes_on_stopped, ready_stopped, needs_no_wait, still_open}
-use Rattle.board_turns.proofs.Nexts.{may_await_now}
+use Rattle.board_turns.proofs.Nexts.{lets_lines, may_await_now}
 use Rattle.board_turns.proofs.Resetting.{awaits_no_reply}
 use Rattle.board_turns.proofs.board.Board.proceed.Goals as goal
 
@@ -54,10 +54,10 @@ pass-requires g c =
     (first, n.0, n.2, n.3)
 
 pub next_line-requires-clause-stands : goal.next_line-requires-clause-stands
-next_line-requires-clause-stands g c = let r = c.requires.stands in let first = r.1 in (r.0, first, r.2, r.3, r.4, r.5, r.6)
+next_line-requires-clause-stands g c = let r = c.requires.stands in let first = r.1 in (r.0, first, r.2, r.3, r.4, r.5, lets_lines first c.args.self.now r.2 r.4 r.6)
 
 pub returns-then-is_done-clause-goes_on : goal.returns-then-is_done-clause-goes_on
-returns-then-is_done-clause-goes_on g c = λ rest first h stands keeps ready goes. c.next_line.ensures.goes_on rest first h stands keeps ready goes
+returns-then-is_done-clause-goes_on g c = λ rest first h stands keeps ready goes. c.next_line.ensures.goes_on rest first h stands keeps ready (lets_lines first c.args.self.now h keeps goes)
 
 pub do_next-requires-clause-stands : goal.do_next-requires-clause-stands
 do_next-requires-clause-stands g c =
