@@ -36,7 +36,7 @@ use Rattle.board_rules.specs.Steps.{Journal, has_limited, port_log, published_of
 use Rattle.board_rules.specs.Steps.Step.{at_port, did, made_end, evened, paused, became}
 use Rattle.board_rules.specs.Cuts.{has_cut}
 use Rattle.board_rules.specs.Turns.{owes_report, tells_next, is_full, is_due, is_going, stands_still, is_locked}
-use Rattle.board_rules.specs.Conduct.{Conducted, MayDo, IsNextTask, IsDrained, IsTimely, MayPoll, MayStart, IsReportAt}
+use Rattle.board_rules.specs.Conduct.{MayDo, IsNextTask, IsDrained, IsTimely, MayPoll, MayStart, IsReportAt}
 pub use Rattle.board_machine.proofs.Machining.{has_room}
 use Rattle.board_turns.specs.declared.board.Board.{Board}
 use Rattle.board_machine.specs.declared.machine.Machine.{Machine}

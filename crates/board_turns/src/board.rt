@@ -2,8 +2,7 @@
 
 ghost use Rattle.std.specs.Prelude.{◌+◌, ◌^◌, ◌≡◌, ◌≢◌, ◌↔◌, ◌<◌, [], ◌∷◌, length, ◌||◌, true, false, None, IfSome, IfNone};
 ghost use Rattle.std.specs.List.{list_any};
-ghost use Rattle.feed_hold.specs.declared.Motion.TheVariants.{Idle, Alarm};
-ghost use Rattle.run_rules.specs.Locking.{unlocks};
+ghost use Rattle.feed_hold.specs.declared.Motion.TheVariants.{Idle};
 ghost use Rattle.outside.specs.declared.Turn.TheVariants.{Done};
 ghost use Rattle.run_rules.specs.Work.{Outcome};
 ghost use Rattle.run_rules.specs.Outcomes.{jogged_behind};
@@ -14,7 +13,7 @@ ghost use Rattle.board_rules.specs.Ports.PortStep.{took};
 ghost use Rattle.run_rules.specs.declared.State.{State as AnyState};
 ghost use Rattle.run_rules.specs.States.{IsOpening};
 ghost use Rattle.board_epochs.specs.Resets.{MayReset};
-ghost use Rattle.board_rules.specs.Steps.{Journal, port_log, taken_of, open_of, left_of, motion_of, has_closed};
+ghost use Rattle.board_rules.specs.Steps.{Journal, port_log, taken_of, left_of, motion_of, has_closed};
 ghost use Rattle.board_rules.specs.Openings.{Opening, first_opening};
 ghost use Rattle.board_rules.specs.Steps.Step.{at_port};
 ghost use Rattle.board_rules.specs.Turns.{this_turn, tells_next, awaits_motion, begins_in, machine_in, needs_motion, flags_taken, found_nothing, has_blocks, is_full, is_locked};
@@ -355,14 +354,6 @@ impl Board {
             .judge(&self.input.kept, found(self.machine.hold.motion));
         self.jogged = jogs_behind(accepted, self.jogged);
         self.input.clear();
-    }
-
-    /// Whether the machine is locked, and the line that was taken whole unlocks it.
-    fn is_unlocked(&self) -> bool
-        ensures yes { (first : Opening) (h : Journal) → Keeps first self.now h → result ≡ true → (motion_of first h ≡ Alarm) × (unlocks (open_of h) ≡ true) }
-        ensures no { (first : Opening) (h : Journal) → Keeps first self.now h → result ≡ false → motion_of first h ≡ Alarm → unlocks (open_of h) ≡ false }
-    {
-        self.machine.is_locked() && self.input.unlocks()
     }
 
     /// Begins the line that was taken whole. Where a soft limit stops it, so is the motion, at once; where it unlocks the machine,

@@ -1,11 +1,12 @@
 //! What comes of a machine that has stopped, for a hold, a cancel or a soft limit; and how a soft limit ends the run.
 
 ghost use Rattle.std.specs.Prelude.{◌+◌, ◌≡◌, ◌≢◌, ◌∷◌, [], length, true, false};
-ghost use Rattle.feed_hold.specs.declared.Motion.TheVariants.{Cancelling};
+ghost use Rattle.feed_hold.specs.declared.Motion.TheVariants.{Cancelling, Alarm};
+ghost use Rattle.run_rules.specs.Locking.{unlocks};
 ghost use Rattle.outside.specs.declared.Turn.TheVariants.{Done};
 ghost use Rattle.board_rules.specs.Conduct.{IsNextTask};
 ghost use Rattle.board_rules.specs.Openings.{Opening};
-ghost use Rattle.board_rules.specs.Steps.{Journal, port_log, left_of, motion_of, outcomes_of, without_asks};
+ghost use Rattle.board_rules.specs.Steps.{Journal, port_log, open_of, left_of, motion_of, outcomes_of, without_asks};
 ghost use Rattle.board_rules.specs.Steps.Step.{cut};
 ghost use Rattle.board_rules.specs.Turns.{is_limited, tells_next};
 ghost use Rattle.run_rules.specs.Work.Task.{halt};
@@ -19,6 +20,14 @@ use outside::{On, Turn};
 use step_line::Mark;
 
 impl Board {
+    /// Whether the machine is locked, and the line that was taken whole unlocks it.
+    pub(crate) fn is_unlocked(&self) -> bool
+        ensures yes { (first : Opening) (h : Journal) → Keeps first self.now h → result ≡ true → (motion_of first h ≡ Alarm) × (unlocks (open_of h) ≡ true) }
+        ensures no { (first : Opening) (h : Journal) → Keeps first self.now h → result ≡ false → motion_of first h ≡ Alarm → unlocks (open_of h) ≡ false }
+    {
+        self.machine.is_locked() && self.input.unlocks()
+    }
+
     /// A move that is next is not asked for any more.
     fn drop_move(&mut self)
         requires { (first : Opening) × (h : Journal) × Keeps first self.old h × (motion_of first h ≡ Cancelling) }
