@@ -1,50 +1,62 @@
--- The state of a first opening changes nothing of what is left to do, nor of the motion; so it changes no board's number.
-use Rattle.std.proofs.Common.{◌≡◌, ◌+◌, ◌*◌, ◌<◌, ◌⊎◌, true, List, [], ◌∷◌, ◌++◌, drop, nat_eq, length, refl, ap, ◌∙◌, subst}
-use Rattle.std.specs.List.{list_any}
+-- The state that a run begins with changes nothing of what is left to do, nor of the motion; so it changes no board's number.
+use Rattle.std.proofs.Common.{◌≡◌, ◌+◌, ◌*◌, ◌||◌, cond, List, [], ◌∷◌, ◌++◌, drop, nat_eq, length, refl, ap, ◌∙◌}
+use Rattle.feed_hold.specs.Motions.{is_moving}
 use Rattle.feed_hold.specs.declared.Motion.{Motion}
-use Rattle.outside.specs.declared.Turn.{Turn}
+use Rattle.feed_hold.specs.declared.Motion.TheVariants as motions
 use Rattle.run_rules.specs.declared.State.{State}
-use Rattle.run_rules.specs.Work.{Task, pauses}
+use Rattle.run_rules.specs.Work.{Task, pauses, telling}
+use Rattle.status_report.specs.declared.Message.TheVariants.{Locked}
+use Rattle.status_report.specs.declared.Reply.{Reply}
+use Rattle.status_report.specs.declared.Reply.TheVariants.{Banner, Alarm, Message}
+use Rattle.step_line.specs.Logs.{NewestFirst}
 use Rattle.units.specs.Truths.{one_if}
-use Rattle.board_rules.specs.Openings.{first_opening}
+use Rattle.board_rules.specs.Openings.{Opening}
 use Rattle.board_rules.specs.Cuts.{has_cut}
 use Rattle.board_rules.specs.Steps.{Journal, left_of, left_at, left_by, without_asks, motion_of, closed_tells}
 use Rattle.board_rules.specs.Steps.Step.{at_port, began, did, made_end, evened, paused, became, cut, halted, closing, turned}
-use Rattle.board_rules.specs.Turns.{this_turn, moving}
-use Rattle.board_turns.specs.declared.board.Board.{Board}
+use Rattle.board_rules.specs.Turns.{is_alarm}
+use Rattle.board_epochs.specs.Epochs.{Closed, opening_behind}
 use Rattle.board_turns.specs.declared.board.Flags.{Flags}
-use Rattle.board_turns.specs.Boards.{GoingTurned, changes_left, number_of, words_left}
+use Rattle.board_turns.specs.Boards.{changes_left, number_of, words_left}
 
-left_any : (s t : State) (h : Journal) → left_of (first_opening s) h ≡ left_of (first_opening t) h
-left_any s t [] = refl
-left_any s t (at_port e ∷ h) = ap (left_at e) (left_any s t h)
-left_any s t (began o ∷ h) = refl
-left_any s t (did a ps ∷ h) = ap (left_by a) (left_any s t h)
-left_any s t (made_end ∷ h) = ap (λ (ts : List Task). drop 1 ts) (left_any s t h)
-left_any s t (evened ∷ h) = ap (λ (ts : List Task). drop 1 ts) (left_any s t h)
-left_any s t (paused ∷ h) = ap (λ (ts : List Task). drop 1 ts) (left_any s t h)
-left_any s t (became call m ∷ h) = left_any s t h
-left_any s t (cut k ∷ h) = ap without_asks (left_any s t h)
-left_any s t (halted ∷ h) = ap (λ (ts : List Task). drop 1 ts) (left_any s t h)
-left_any s t (closing ∷ h) = refl
-left_any s t (turned t2 ∷ h) = left_any s t h
+left_any : (s t : Opening) → s.tells ≡ t.tells → (h : Journal) → left_of s h ≡ left_of t h
+left_any s t same [] = ap telling same
+left_any s t same (at_port e ∷ h) = ap (left_at e) (left_any s t same h)
+left_any s t same (began o ∷ h) = refl
+left_any s t same (did a ps ∷ h) = ap (left_by a) (left_any s t same h)
+left_any s t same (made_end ∷ h) = ap (λ (ts : List Task). drop 1 ts) (left_any s t same h)
+left_any s t same (evened ∷ h) = ap (λ (ts : List Task). drop 1 ts) (left_any s t same h)
+left_any s t same (paused ∷ h) = ap (λ (ts : List Task). drop 1 ts) (left_any s t same h)
+left_any s t same (became call m ∷ h) = left_any s t same h
+left_any s t same (cut k ∷ h) = ap without_asks (left_any s t same h)
+left_any s t same (halted ∷ h) = ap (λ (ts : List Task). drop 1 ts) (left_any s t same h)
+left_any s t same (closing ∷ h) = refl
+left_any s t same (turned t2 ∷ h) = left_any s t same h
 
-motion_any : (s t : State) (h : Journal) → motion_of (first_opening s) h ≡ motion_of (first_opening t) h
-motion_any s t [] = refl
-motion_any s t (paused ∷ h) = refl
-motion_any s t (became call m ∷ h) = refl
-motion_any s t (_ ∷ h) = motion_any s t h
+motion_any : (s t : Opening) → s.motion ≡ t.motion → (h : Journal) → motion_of s h ≡ motion_of t h
+motion_any s t same [] = same
+motion_any s t same (paused ∷ h) = refl
+motion_any s t same (became call m ∷ h) = refl
+motion_any s t same (_ ∷ h) = motion_any s t same h
 
-pub number_any : (s t : State) (f : Flags) (h : Journal) → number_of (first_opening s) f h ≡ number_of (first_opening t) f h
-number_any s t f h =
-    ap (λ (ts : List Task). 3 * (words_left f + pauses ts) + changes_left (motion_of (first_opening s) h) (has_cut h) + one_if (nat_eq (length (closed_tells h)) 0)) (left_any s t h)
-    ∙ ap (λ (m : Motion). 3 * (words_left f + pauses (left_of (first_opening t) h)) + changes_left m (has_cut h) + one_if (nat_eq (length (closed_tells h)) 0)) (motion_any s t h)
+-- two openings of one epoch, behind two states
+record AreAlike (s t : Opening) : Type 0 where
+  pub motion : s.motion ≡ t.motion
+  pub tells : s.tells ≡ t.tells
 
-pub turned_any : (t : Turn) (was is : Board) (h next : Journal) (s : State) → GoingTurned (first_opening s) t was is h next → (state : State) → GoingTurned (first_opening state) t was is h next
-turned_any t was is h next s so state = record {
-  steps = so.steps;
-  are = so.are;
-  moves = λ did.
-      subst (λ n. (list_any moving (this_turn (so.steps ++ h)) ≡ true) ⊎ (n < number_of (first_opening state) was.flags h)) (number_any s state is.flags next)
-      (subst (λ n. (list_any moving (this_turn (so.steps ++ h)) ≡ true) ⊎ (number_of (first_opening s) is.flags next < n)) (number_any s state was.flags h) (so.moves did));
-}
+-- what greets behind a reset, by the motion that it has ended
+abbrev greets : Motion → List Reply
+greets m = cond (is_moving m) (Alarm 3 ∷ []) [] ++ Banner ∷ cond (is_moving m || is_alarm m) (Message Locked ∷ []) []
+
+alike_behind : (s t : State) (es : NewestFirst Closed) → AreAlike (opening_behind s es) (opening_behind t es)
+alike_behind s t [] = record { motion = refl; tells = refl }
+alike_behind s t (e ∷ es) =
+    let same : motion_of (opening_behind s es) e.journal ≡ motion_of (opening_behind t es) e.journal =
+        (let was = alike_behind s t es in motion_any (opening_behind s es) (opening_behind t es) was.motion e.journal) in
+    record { motion = ap (λ (m : Motion). cond (is_moving m || is_alarm m) motions.Alarm motions.Idle) same; tells = ap greets same }
+
+pub number_any : (s t : State) (es : NewestFirst Closed) (f : Flags) (h : Journal) → number_of (opening_behind s es) f h ≡ number_of (opening_behind t es) f h
+number_any s t es f h =
+    let alike = alike_behind s t es in let first = opening_behind s es in let other = opening_behind t es in
+    ap (λ (ts : List Task). 3 * (words_left f + pauses ts) + changes_left (motion_of first h) (has_cut h) + one_if (nat_eq (length (closed_tells h)) 0)) (left_any first other alike.tells h)
+    ∙ ap (λ (m : Motion). 3 * (words_left f + pauses (left_of other h)) + changes_left m (has_cut h) + one_if (nat_eq (length (closed_tells h)) 0)) (motion_any first other alike.motion h)
