@@ -1,14 +1,14 @@
 -- What a board that is a plain list has told with a step more, and what a host may take from it.
-use Rattle.std.proofs.Common.{◌≡◌, ℕ, zero, suc, ◌+◌, ◌≤◌, ◌<◌, inl, inr, Bool, true, false, cond, List, [], ◌∷◌, ◌++◌, length, drop, nat_eq, refl, ap, ◌∙◌, arith, length-append}
+use Rattle.std.proofs.Common.{◌≡◌, ℕ, zero, suc, ◌+◌, ◌≤◌, ◌<◌, inl, Bool, true, false, cond, List, [], ◌∷◌, ◌++◌, length, drop, nat_eq, refl, ap, ◌∙◌, arith, subst, length-append}
 use Rattle.std.proofs.lemmas.List.Sums.{sum_by-append}
 use Rattle.status_report.specs.declared.Reply.{Reply}
 use Rattle.status_report.specs.declared.Reply.TheVariants.{Banner}
 use Rattle.status_report.specs.Answering.{lfs_in, is_answer, is_banner}
-use Rattle.serial_ring.specs.Marks.{Mark, IsMark, start, latest, last_of}
+use Rattle.serial_ring.specs.Marks.{Mark, IsMark, Follows, start, latest, last_of}
 use Rattle.serial_ring.specs.Lists.{has_banner}
 use Rattle.stream_host.specs.Links.{banners_in, behind_mark, AreGreetings}
 use Rattle.stream_host.specs.Ports.{AnswersLines}
-use Rattle.stream_host.specs.Steps.{HostLog, latest_got, marks_in, stored_in}
+use Rattle.stream_host.specs.Steps.{HostLog, latest_got, marks_in, marks_at_banners, stored_in}
 use Rattle.stream_host.specs.Steps.PortStep.{stored, marked, got}
 use Rattle.stream_host.proofs.Raised.{banners_first, rising_is}
 use Rattle.stream_host.proofs.Epochs.{some_banner, none_banner}
@@ -51,16 +51,11 @@ with_byte b owed owed' told marks greeted h t few = record {
   within = (let w = t.within in let l = length-append (stored_in h) (b ∷ []) in omega arith);
 }
 
-more_marks : (b : ℕ) (marks : List ℕ) (seen : List Mark) → AreGreetings marks seen → AreGreetings (b ∷ marks) seen
-more_marks b marks [] are = tt
-more_marks b marks (m ∷ []) are = (are.0, tt)
-more_marks b marks (m ∷ before ∷ earlier) are = ((are.0.0, inr are.0.1), more_marks b marks (before ∷ earlier) are.1)
-
 pub with_mark : (owed told marks greeted : ℕ) (h : HostLog) → HasTold owed told marks greeted h → HasTold owed told (marks + 1) greeted (marked ∷ h)
 with_mark owed told marks greeted h t = record {
   seen = t.seen;
   each = t.each;
-  are = more_marks (length (stored_in h)) (marks_in h) t.seen t.are;
+  are = t.are;
   lines = t.lines;
   none = t.none;
   some = t.some;
@@ -80,7 +75,7 @@ pub tells : (r : Reply) (owed owed' told told' marks greeted : ℕ) (h : HostLog
 tells r owed owed' told told' marks greeted h t other answers some more = record {
   seen = t.seen;
   each = t.each ∙ (let f = banners_first r (latest_got h) in let o = ap (λ (x : Bool). cond {A = ℕ} x 1 0) other in omega arith);
-  are = t.are;
+  are = rw other t.are;
   lines = rw other (let l = t.lines in omega arith);
   none = λ e. absurd (omega arith);
   some = λ s. t.some some;
@@ -97,7 +92,7 @@ greets owed told marks greeted h t first =
     record {
       seen = start ∷ [];
       each = (let f = banners_first Banner (latest_got h) in omega arith);
-      are = (refl, tt);
+      are = (refl, subst (AreGreetings (marks_at_banners h)) empty t.are);
       lines = (let l = t.lines in let e = ap (λ (ms : List Mark). lfs_in (behind_mark ms (stored_in h))) empty in rw (no_banner h none) (omega arith));
       none = λ e. absurd (omega arith);
       some = λ s. omega arith;
@@ -117,16 +112,16 @@ is_latest : (marks : List ℕ) → 0 < length marks → IsMark marks (length mar
 is_latest [] some = absurd (omega arith)
 is_latest (b ∷ earlier) some = inl (λ i. ((let e : length (b ∷ earlier) ≡ length earlier + 1 = omega arith in e) i, b))
 
-follows : (marks : List ℕ) (seen : List Mark) → 0 < length seen → (last_of seen).0 < length marks → AreGreetings marks seen → AreGreetings marks ((length marks, latest marks) ∷ seen)
-follows marks [] some less are = absurd (omega arith)
-follows marks (before ∷ earlier) some less are = ((less, is_latest marks (omega arith)), are)
+follows : (marks : List ℕ) (seen : List Mark) → 0 < length seen → (last_of seen).0 < length marks → Follows marks seen (length marks, latest marks)
+follows marks [] some less = absurd (omega arith)
+follows marks (before ∷ earlier) some less = (less, is_latest marks (omega arith))
 
 -- a later one is of the latest mark, and begins anew
 pub begins_anew : (owed told marks greeted : ℕ) (h : HostLog) → HasTold owed told marks greeted h → 0 < told → greeted < marks → HasTold 0 told marks marks (got Banner ∷ h)
 begins_anew owed told marks greeted h t some more = record {
   seen = (length (marks_in h), latest (marks_in h)) ∷ t.seen;
   each = (let f = banners_first Banner (latest_got h) in let e = t.each in omega arith);
-  are = follows (marks_in h) t.seen (t.some some) (let l = t.low in let s = t.stored in omega arith) t.are;
+  are = (follows (marks_in h) t.seen (t.some some) (let l = t.low in let s = t.stored in omega arith), t.are);
   lines = rw has_one (omega arith);
   none = λ e. absurd (omega arith);
   some = λ s. omega arith;

@@ -1,11 +1,11 @@
 -- What a host's log says through each call.
-use Rattle.std.proofs.Common.{◌≡◌, ℕ, ◌+◌, ◌^◌, ◌≤◌, ◌<◌, ◌⊎◌, Bool, true, false, cond, List, [], ◌∷◌, ◌++◌, length, reverse, drop, Some, None, IfSome, refl, sym, ap, ◌∙◌, subst, inr, arith}
+use Rattle.std.proofs.Common.{◌≡◌, ℕ, ◌+◌, ◌^◌, ◌≤◌, ◌<◌, Bool, true, false, cond, List, [], ◌∷◌, ◌++◌, length, reverse, drop, Some, None, IfSome, refl, sym, ap, ◌∙◌, subst, arith}
 use Rattle.std.specs.declared.option.Option.{Option}
 use Rattle.std.proofs.lemmas.List.{length-reverse}
 use Rattle.status_report.specs.declared.Reply.{Reply}
+use Rattle.realtime_flags.specs.declared.words.Flag.{Flag}
 use Rattle.realtime_flags.specs.declared.words.Raise.{Raise}
-use Rattle.std.proofs.lemmas.List.Sums.{sum_by-cons}
-use Rattle.shared_rings.proofs.Placed.{by_bool}
+use Rattle.realtime_flags.specs.Bytes.{flag_of_byte}
 use Rattle.status_report.specs.Answering.{lfs_in, is_banner}
 use Rattle.serial_ring.specs.Marks.{Mark, Follows, last_of}
 use Rattle.serial_ring.specs.Lists.{answers_behind_mark, with_greeting, with_moment, AnswersStored}
@@ -13,8 +13,10 @@ use Rattle.serial_ring.specs.Lists as link
 use Rattle.stream_host.specs.Links as host
 use Rattle.stream_host.specs.Links.{banners_in, AreGreetings}
 use Rattle.stream_host.specs.Ports.{TakesByte, TakesMark, AreGreeted, SeemsFull, AnswersLines}
-use Rattle.stream_host.specs.Steps.{HostLog, stored_in, got_in, latest_got, marks_in}
-use Rattle.stream_host.specs.Steps.PortStep.{stored, dropped, marked, got, no_reply, shut}
+use Rattle.stream_host.specs.Raises.{raised_to, raises_in}
+use Rattle.stream_host.specs.Steps.{HostLog, stored_in, latest_got, marks_in, marks_at_banners}
+use Rattle.stream_host.specs.Steps.PortStep.{stored, dropped, marked, raised, got, no_reply, shut}
+use Rattle.stream_host.proofs.Raised.{banners_first}
 use Rattle.link_ports.specs.Hosts.{HostDid, LooksForRoom}
 use Rattle.link_ports.proofs.Lists.{reverse_on, fewer_behind, since_drops, same_lines_behind}
 
@@ -27,23 +29,15 @@ pub three_some : {P Q S R : Reply → Type 0} (o : Option Reply) → IfSome o P 
 three_some None p q s all = tt
 three_some (Some r) p q s all = all r p q s
 
-more_marked : (bytes : ℕ) (marks : List ℕ) (greeted : List Mark) → AreGreetings marks greeted → AreGreetings (bytes ∷ marks) greeted
-more_marked bytes marks [] are = tt
-more_marked bytes marks (m ∷ []) are = are
-more_marked bytes marks (m ∷ before ∷ earlier) are = ((are.0.0, inr are.0.1), more_marked bytes marks (before ∷ earlier) are.1)
-
-banners_first : (r : Reply) (rs : List Reply) → banners_in (r ∷ rs) ≡ cond (is_banner r) 1 0 + banners_in rs
-banners_first r rs = sum_by-cons (λ (s : Reply). cond (is_banner s) 1 0) r rs
-
 module _ (bytes bytes' marks marks' : List ℕ) (closed closed' : Bool) (replies replies' : List Reply) (greeted greeted' : List Mark) (raises raises' : List Raise) (moments moments' : List ℕ) (h : HostLog) (d : HostDid bytes marks closed replies greeted raises moments h) where
   count : length (stored_in h) ≡ length bytes
   count = ap length d.bytes_are ∙ length-reverse bytes
 
   -- the same marks of the same Banners
-  same_greeted : (h' : HostLog) → latest_got h' ≡ latest_got h → marks_in h' ≡ marks_in h → greeted' ≡ greeted → AreGreeted h' greeted'
+  same_greeted : (h' : HostLog) → latest_got h' ≡ latest_got h → marks_at_banners h' ≡ marks_at_banners h → greeted' ≡ greeted → AreGreeted h' greeted'
   same_greeted h' l m e = record {
     each = ap length e ∙ (d.greeted_are.each ∙ ap banners_in (sym l));
-    stored = subst (λ (z : List ℕ × List Mark). AreGreetings z.0 z.1) (λ i. (sym m i, sym e i)) d.greeted_are.stored;
+    stored = subst (λ (z : List (List ℕ) × List Mark). AreGreetings z.0 z.1) (λ i. (sym m i, sym e i)) d.greeted_are.stored;
   }
 
   pub byte_stored : (b : ℕ) → bytes' ≡ b ∷ bytes → marks' ≡ marks → closed' ≡ closed → (replies' ≡ replies) × (greeted' ≡ greeted) → raises' ≡ raises → moments' ≡ moments → HostDid bytes' marks' closed' replies' greeted' raises' moments' (stored b ∷ h)
@@ -77,7 +71,7 @@ module _ (bytes bytes' marks marks' : List ℕ) (closed closed' : Bool) (replies
     shut_is = d.shut_is ∙ sym c;
     replies_are = d.replies_are ∙ sym (ap reverse g.0);
     latest_are = d.latest_are ∙ sym g.0;
-    greeted_are = record { each = ap length g.1 ∙ d.greeted_are.each; stored = subst (λ (z : List Mark). AreGreetings (length (stored_in h) ∷ marks_in h) z) (sym g.1) (more_marked (length (stored_in h)) (marks_in h) greeted d.greeted_are.stored) };
+    greeted_are = same_greeted (marked ∷ h) refl refl g.1;
     raises_are = d.raises_are ∙ sym r;
     moments_are = d.moments_are ∙ sym w;
   }
@@ -109,15 +103,18 @@ module _ (bytes bytes' marks marks' : List ℕ) (closed closed' : Bool) (replies
   -- a reply more, with its mark, if it is a Banner
   module _ (x : Reply) (k : Mark) (is : greeted' ≡ with_greeting x k greeted) (follows : is_banner x ≡ true → Follows marks greeted k) where
     greeted_more : AreGreeted (got x ∷ h) greeted'
-    greeted_more = by_bool (is_banner x)
-        (λ b. let e : greeted' ≡ k ∷ greeted = is ∙ rw b refl in record {
-          each = ap length e ∙ (let n = d.greeted_are.each in let f = banners_first x (latest_got h) in let o = ap (λ (t : Bool). cond {A = ℕ} t 1 0) b in omega arith);
-          stored = subst (λ (z : List Mark). AreGreetings (marks_in h) z) (sym e) (subst (λ (m : List ℕ). Follows m greeted k) (sym d.marks_are) (follows b), d.greeted_are.stored);
-        })
-        (λ b. let e : greeted' ≡ greeted = is ∙ rw b refl in record {
-          each = ap length e ∙ (let n = d.greeted_are.each in let f = banners_first x (latest_got h) in let o = ap (λ (t : Bool). cond {A = ℕ} t 1 0) b in omega arith);
-          stored = subst (λ (z : List Mark). AreGreetings (marks_in h) z) (sym e) d.greeted_are.stored;
-        })
+    greeted_more = record {
+      each = ap length is ∙ (let n = d.greeted_are.each in let f = banners_first x (latest_got h) in let o = one_more (is_banner x) in omega arith);
+      stored = subst (λ (z : List Mark). AreGreetings (marks_at_banners (got x ∷ h)) z) (sym is) (by_banner (is_banner x) follows);
+    }
+      where
+        one_more : (t : Bool) → length (cond t (k ∷ greeted) greeted) ≡ cond t 1 0 + length greeted
+        one_more true = omega arith
+        one_more false = omega arith
+
+        by_banner : (t : Bool) → (t ≡ true → Follows marks greeted k) → AreGreetings (cond t (marks_in h ∷ marks_at_banners h) (marks_at_banners h)) (cond t (k ∷ greeted) greeted)
+        by_banner true follows = (subst (λ (m : List ℕ). Follows m greeted k) (sym d.marks_are) (follows refl), d.greeted_are.stored)
+        by_banner false follows = d.greeted_are.stored
 
     pub reply_got : bytes' ≡ bytes → marks' ≡ marks → closed' ≡ closed → replies' ≡ x ∷ replies → raises' ≡ raises → moments' ≡ with_moment x (length bytes) moments → HostDid bytes' marks' closed' replies' greeted' raises' moments' (got x ∷ h)
     reply_got e m c g r w = record {
@@ -168,6 +165,30 @@ module _ (bytes bytes' marks marks' : List ℕ) (closed closed' : Bool) (replies
 
     pub looks_and_drops : (b : ℕ) → length bytes ≡ s + room → length bytes ≡ shown + room → LooksForRoom room (dropped b ∷ h) loads shown
     looks_and_drops b before none = (k, s, looks, record { before = count ∙ before; look = anew before; none = count ∙ none })
+
+-- a byte is raised, whose flag goes to those that were raised, if it has one
+pub byte_raised : (bytes marks : List ℕ) (closed : Bool) (replies : List Reply) (greeted : List Mark) (raises raises' : List Raise) (moments : List ℕ) (h : HostLog) (b : ℕ) → HostDid bytes marks closed replies greeted raises moments h
+    → ((f : Flag) → flag_of_byte b ≡ Some f → (down : Bool) × (raises' ≡ record { flag = f; down = down } ∷ raises)) → (flag_of_byte b ≡ None → raises' ≡ raises)
+    → (down : Bool) × HostDid bytes marks closed replies greeted raises' moments (raised b down ∷ h)
+byte_raised bytes marks closed replies greeted raises raises' moments h b d one none = by_flag (flag_of_byte b) refl
+  where
+    raised_as : (down : Bool) → raises_in (raised b down ∷ h) ≡ raises' → HostDid bytes marks closed replies greeted raises' moments (raised b down ∷ h)
+    raised_as down are = record {
+      bytes_are = d.bytes_are;
+      marks_are = d.marks_are;
+      shut_is = d.shut_is;
+      replies_are = d.replies_are;
+      latest_are = d.latest_are;
+      greeted_are = record { each = d.greeted_are.each; stored = d.greeted_are.stored };
+      raises_are = are;
+      moments_are = d.moments_are;
+    }
+
+    by_flag : (o : Option Flag) → flag_of_byte b ≡ o → (down : Bool) × HostDid bytes marks closed replies greeted raises' moments (raised b down ∷ h)
+    by_flag None e = (false, raised_as false (ap (λ o. raised_to o false (raises_in h)) e ∙ (d.raises_are ∙ sym (none e))))
+    by_flag (Some f) e =
+        let r = one f e in let found : Raise = record { flag = f; down = r.0 } in
+        (r.0, raised_as r.0 (ap (λ o. raised_to o r.0 (raises_in h)) e ∙ (ap (λ (rs : List Raise). found ∷ rs) d.raises_are ∙ sym r.1)))
 
 -- the ends of fresh tables
 pub fresh_host : (bytes marks : List ℕ) (closed : Bool) (replies : List Reply) (greeted : List Mark) (raises : List Raise) (moments : List ℕ) → bytes ≡ [] → marks ≡ [] → closed ≡ false → replies ≡ [] → greeted ≡ [] → raises ≡ [] → moments ≡ [] → HostDid bytes marks closed replies greeted raises moments []

@@ -1,6 +1,7 @@
 -- Marks and Banners through the calls, and what the host knows by the replies that it got.
 use Rattle.std.proofs.Common.{◌≡◌, ℕ, zero, suc, ◌+◌, ◌<◌, ◌≤◌, Bool, true, false, cond, nat_eq, nat_le, List, [], ◌∷◌, ◌++◌, length, reverse, drop, refl, sym, ap, ◌∙◌, subst, arith, length-append}
-use Rattle.std.proofs.lemmas.List.{length-reverse, reverse-reverse, reverse-append, drop_all}
+use Rattle.std.proofs.lemmas.List.{length-drop, length-reverse, reverse-reverse, reverse-append, drop_all}
+use Rattle.std.proofs.Math.Seq.{drop-append_seam}
 use Rattle.std.proofs.lemmas.List.Sorted.{sum_by-IsPermutation, IsPermutation-reverse}
 use Rattle.std.proofs.lemmas.List.Sums.{sum_by-append, sum_by-cons}
 use Rattle.std.proofs.lemmas.Bool.Decides.{nat_tests}
@@ -11,17 +12,19 @@ use Rattle.status_report.specs.declared.Reply.TheVariants as replies
 use Rattle.status_report.specs.Answering.{lfs_in, is_answer, answers_in, is_banner}
 use Rattle.serial_ring.specs.declared.view.LinkStep.{LinkStep}
 use Rattle.serial_ring.specs.declared.view.LinkStep.TheVariants.{Took, Marked, Answered}
-use Rattle.serial_ring.specs.Marks.{Mark, IsMark, AreMarks, last_of}
+use Rattle.serial_ring.specs.Marks.{Mark, IsMark, last_of}
 use Rattle.serial_ring.specs.Lists.{since, answers_behind_mark}
 use Rattle.serial_ring.specs.Logs as link
 use Rattle.serial_ring.specs.Logs.{AnswersWell, MayAnswer, greeted_in, next_mark, answers_since, lfs_since}
 use Rattle.serial_ring.proofs.Marking.{latest_is, more_marks, past_below}
-use Rattle.serial_ring.proofs.Logs.{counts, well_on, marks_on, taken_on, next_follows, answers_stored}
+use Rattle.serial_ring.proofs.Logs.{counts, greeted_on, well_on, taken_on, answers_stored}
 use Rattle.stream_host.specs.Links.{behind_lf, banners_in, AreGreetings}
 use Rattle.stream_host.specs.Ports.{AreGreeted, SeemsFull, AnswersLines}
-use Rattle.stream_host.specs.Steps.{HostLog, stored_in, got_in, latest_got, marks_in}
+use Rattle.stream_host.specs.Steps.{HostLog, stored_in, got_in, latest_got, marks_in, marks_at_banners}
 use Rattle.stream_host.specs.Steps.PortStep.{got}
+use Rattle.stream_host.proofs.Greeting.{answered_stored}
 use Rattle.stream_host.proofs.Links.{behind_taken}
+use Rattle.stream_host.proofs.Raised.{AreStored, banners_first}
 use Rattle.board_rules.specs.Ports as board
 use Rattle.board_rules.proofs.LinkSteps.{taken_back, answered_back, same_taken}
 use Rattle.list_ports.specs.Joining.{BytesPass, RepliesPass, MarksPass}
@@ -49,9 +52,6 @@ cut (Answered x ∷ l) (y ∷ rest) replies e = behind_one (Answered x) l replie
 
 -- ---- the marks of Banners
 
-banners_first : (r : Reply) (rs : List Reply) → banners_in (r ∷ rs) ≡ cond (is_banner r) 1 0 + banners_in rs
-banners_first r rs = sum_by-cons (λ (s : Reply). cond (is_banner s) 1 0) r rs
-
 one_greeting : (r : Reply) (m : Mark) (greeted : List Mark) → length (cond (is_banner r) (m ∷ greeted) greeted) ≡ cond (is_banner r) 1 0 + length greeted
 one_greeting r m greeted = by_bool (is_banner r) (λ b. rw b (omega arith)) (λ b. rw b (omega arith))
 
@@ -61,13 +61,14 @@ greeted_count (Took b ∷ l) = greeted_count l
 greeted_count (Marked n bytes ∷ l) = greeted_count l
 greeted_count (Answered r ∷ l) = let i = greeted_count l in let f = banners_first r (link.answered_in l) in let o = one_greeting r (next_mark l) (greeted_in l) in omega arith
 
-greetings : (marks : List ℕ) (l : List LinkStep) → AreMarks marks (link.marked_in l) → AnswersWell l → AreGreetings marks (greeted_in l)
-greetings marks [] are well = tt
-greetings marks (Took b ∷ l) are well = greetings marks l are well
-greetings marks (Marked n bytes ∷ l) are well = greetings marks l are.1 well
-greetings marks (Answered r ∷ l) are well = by_bool (is_banner r)
-    (λ b. rw b (next_follows marks l r are well.0 b, greetings marks l are well.1))
-    (λ b. rw b (greetings marks l are well.1))
+same_banners : (rs : List Reply) → banners_in (reverse rs) ≡ banners_in rs
+same_banners rs = sum_by-IsPermutation (λ (r : Reply). cond (is_banner r) 1 0) rs (reverse rs) (IsPermutation-reverse rs)
+
+-- the next of some marks, of which the others come later
+next_greeted : (k : ℕ) (marks : List ℕ) (at_banners : List (List ℕ)) (greeted : List Mark) → k < length greeted → AreStored marks greeted → AreGreetings at_banners (drop (suc k) greeted) → AreGreetings (marks ∷ at_banners) (drop k greeted)
+next_greeted k marks at_banners [] few stored are = absurd (omega arith)
+next_greeted zero marks at_banners (m ∷ greeted) few stored are = (stored.0, are)
+next_greeted (suc k) marks at_banners (m ∷ greeted) few stored are = next_greeted k marks at_banners greeted (omega arith) stored.1 are
 
 -- ---- bytes behind a mark, in the order in which they were stored
 
@@ -101,20 +102,46 @@ latest_back [] = refl
 latest_back (got r ∷ h) = ap (λ (z : List Reply). r ∷ z) (latest_back h) ∙ sym (reverse-append (got_in h) (r ∷ []))
 latest_back (_ ∷ h) = latest_back h
 
+module _ (waiting : List Reply) (host : HostLog) (l : board.BoardLog) (q : RepliesPass waiting (board.answered_in l) (got_in host) (board.taken_in l)) where
+  -- what was answered, the latest first, is what waits and what was got
+  pub answered_is : link.answered_in (board.link_steps l) ≡ reverse waiting ++ latest_got host
+  answered_is =
+      sym (reverse-reverse (link.answered_in (board.link_steps l))) ∙ (ap reverse (sym (answered_back l) ∙ q.fifo)
+      ∙ (reverse-append (got_in host) waiting ∙ ap (λ (z : List Reply). reverse waiting ++ z) (sym (latest_back host))))
+
+  pub banners_are : length (greeted_in (board.link_steps l)) ≡ banners_in waiting + banners_in (latest_got host)
+  banners_are =
+      greeted_count (board.link_steps l) ∙ (ap banners_in answered_is ∙ (sum_by-append (λ (r : Reply). cond (is_banner r) 1 0) (reverse waiting) (latest_got host)
+      ∙ ap (λ n. n + banners_in (latest_got host)) (same_banners waiting)))
+
 module _ (ws : List ℕ) (closed shut_is over : Bool) (waiting : List Reply) (count : ℕ) (mark : Mark) (host : HostLog) (l : board.BoardLog)
-    (p : BytesPass ws closed (stored_in host) shut_is (board.taken_in l) over) (q : RepliesPass waiting (board.answered_in l) (got_in host) (board.taken_in l)) (m : MarksPass count mark (stored_in host) (marks_in host) (board.link_steps l)) where
+    (p : BytesPass ws closed (stored_in host) shut_is (board.taken_in l) over) (q : RepliesPass waiting (board.answered_in l) (got_in host) (board.taken_in l)) (m : MarksPass count mark waiting (stored_in host) (marks_in host) (marks_at_banners host) (board.link_steps l)) where
   at_got : Cut (board.link_steps l) (latest_got host)
-  at_got = cut (board.link_steps l) (reverse waiting) (latest_got host)
-      (sym (reverse-reverse (link.answered_in (board.link_steps l))) ∙ (ap reverse (sym (answered_back l) ∙ q.fifo) ∙ (reverse-append (got_in host) waiting ∙ ap (λ (z : List Reply). reverse waiting ++ z) (sym (latest_back host)))))
+  at_got = cut (board.link_steps l) (reverse waiting) (latest_got host) (answered_is waiting host l q)
+
+  -- the marks of the Banners got
+  pub are_greeted : AreGreeted host (drop (banners_in waiting) (greeted_in (board.link_steps l)))
+  are_greeted = record {
+    each = (let d = length-drop (banners_in waiting) (greeted_in (board.link_steps l)) in let b = banners_are waiting host l q in omega arith);
+    stored = m.greeted;
+  }
+
+  seen_greeted : drop (banners_in waiting) (greeted_in (board.link_steps l)) ≡ greeted_in at_got.seen
+  seen_greeted =
+      let on = greeted_on at_got.later at_got.seen in
+      let all = banners_are waiting host l q in
+      let seen = greeted_count at_got.seen ∙ ap banners_in at_got.answered in
+      let split : greeted_in (board.link_steps l) ≡ on.0 ++ greeted_in at_got.seen = ap greeted_in at_got.parts ∙ on.1 in
+      let counted = ap length split in
+      let sum = length-append on.0 (greeted_in at_got.seen) in
+      let new : banners_in waiting ≡ length on.0 = omega arith in
+      ap (drop (banners_in waiting)) split ∙ (ap (λ n. drop n (on.0 ++ greeted_in at_got.seen)) new ∙ drop-append_seam on.0 (greeted_in at_got.seen))
 
   seen_well : AnswersWell at_got.seen
   seen_well = well_on at_got.later at_got.seen (subst AnswersWell at_got.parts m.well)
 
-  are_greeted : AreGreeted host (greeted_in at_got.seen)
-  are_greeted = record {
-    each = greeted_count at_got.seen ∙ ap banners_in at_got.answered;
-    stored = greetings (marks_in host) at_got.seen (marks_on at_got.later at_got.seen (marks_in host) (subst (λ (z : List LinkStep). AreMarks (marks_in host) (link.marked_in z)) at_got.parts m.loads)) seen_well;
-  }
+  seen_are : AreGreeted host (greeted_in at_got.seen)
+  seen_are = subst (AreGreeted host) seen_greeted are_greeted
 
   abbrev mark_bytes : ℕ
   mark_bytes = (last_of (greeted_in at_got.seen)).1
@@ -141,14 +168,14 @@ module _ (ws : List ℕ) (closed shut_is over : Bool) (waiting : List Reply) (co
   pub seems_full : 128 ≤ length ws → SeemsFull host
   seems_full many = record {
     greeted = greeted_in at_got.seen;
-    are = are_greeted;
+    are = seen_are;
     full = (let b = behind_taken (answers_behind_mark (latest_got host)) (drop mark_bytes (board.taken_in l)) ws few_behind in let e = ap (λ z. length (behind_lf (answers_behind_mark (latest_got host)) z)) whole in omega arith);
   }
 
   pub answers_lines : AnswersLines host
   answers_lines = record {
     greeted = greeted_in at_got.seen;
-    are = are_greeted;
+    are = seen_are;
     few = (let b = few_behind in let e = ap lfs_in whole in let s = sum_by-append (λ (c : ℕ). cond (nat_eq c 10) 1 0) (drop mark_bytes (board.taken_in l)) ws in omega arith);
   }
 
@@ -160,26 +187,49 @@ module _ (ws : List ℕ) (closed shut_is over : Bool) (waiting : List Reply) (co
 
 -- ---- through the calls
 
-module _ (count : ℕ) (mark : Mark) (bytes marks : List ℕ) (steps : List LinkStep) (m : MarksPass count mark bytes marks steps) where
-  pub byte_stored : (b : ℕ) → MarksPass (count + 1) mark (bytes ++ b ∷ []) marks steps
+module _ (count : ℕ) (mark : Mark) (waiting : List Reply) (bytes marks : List ℕ) (at_banners : List (List ℕ)) (steps : List LinkStep) (m : MarksPass count mark waiting bytes marks at_banners steps) where
+  pub byte_stored : (b : ℕ) → MarksPass (count + 1) mark waiting (bytes ++ b ∷ []) marks at_banners steps
   byte_stored b = let l = length-append bytes (b ∷ []) in let c = m.count_is in let w = m.within in
-      record { count_is = omega arith; number_is = m.number_is; bytes_is = m.bytes_is; within = omega arith; rising = m.rising; loads = m.loads; well = m.well }
+      record { count_is = omega arith; number_is = m.number_is; bytes_is = m.bytes_is; within = omega arith; rising = m.rising; loads = m.loads; well = m.well; greeted = m.greeted }
 
-  pub mark_stored : MarksPass count (mark.0 + 1, count) bytes (length bytes ∷ marks) steps
+  pub mark_stored : MarksPass count (mark.0 + 1, count) waiting bytes (length bytes ∷ marks) at_banners steps
   mark_stored = let n = m.number_is in
-      record { count_is = m.count_is; number_is = omega arith; bytes_is = m.count_is; within = omega arith; rising = (m.within, m.rising); loads = more_marks (length bytes) marks (link.marked_in steps) m.loads; well = m.well }
+      record { count_is = m.count_is; number_is = omega arith; bytes_is = m.count_is; within = omega arith; rising = (m.within, m.rising); loads = more_marks (length bytes) marks (link.marked_in steps) m.loads; well = m.well; greeted = m.greeted }
 
-  pub mark_loaded : MarksPass count mark bytes marks (Marked mark.0 mark.1 ∷ steps)
-  mark_loaded = record { count_is = m.count_is; number_is = m.number_is; bytes_is = m.bytes_is; within = m.within; rising = m.rising; loads = (is, m.loads); well = m.well }
+  pub mark_loaded : MarksPass count mark waiting bytes marks at_banners (Marked mark.0 mark.1 ∷ steps)
+  mark_loaded = record { count_is = m.count_is; number_is = m.number_is; bytes_is = m.bytes_is; within = m.within; rising = m.rising; loads = (is, m.loads); well = m.well; greeted = m.greeted }
     where
       is : IsMark marks mark
       is = subst (λ (z : Mark). IsMark marks z) (λ i. (sym m.number_is i, sym m.bytes_is i)) (latest_is marks)
 
-  pub byte_taken : (b : ℕ) → MarksPass count mark bytes marks (Took b ∷ steps)
-  byte_taken b = record { count_is = m.count_is; number_is = m.number_is; bytes_is = m.bytes_is; within = m.within; rising = m.rising; loads = m.loads; well = m.well }
+  pub byte_taken : (b : ℕ) → MarksPass count mark waiting bytes marks at_banners (Took b ∷ steps)
+  byte_taken b = record { count_is = m.count_is; number_is = m.number_is; bytes_is = m.bytes_is; within = m.within; rising = m.rising; loads = m.loads; well = m.well; greeted = m.greeted }
 
-  pub reply_answered : (r : Reply) → MayAnswer steps r → MarksPass count mark bytes marks (Answered r ∷ steps)
-  reply_answered r may = record { count_is = m.count_is; number_is = m.number_is; bytes_is = m.bytes_is; within = m.within; rising = m.rising; loads = m.loads; well = (may, m.well) }
+  -- a Banner more waits
+  pub reply_answered : (r : Reply) → MayAnswer steps r → MarksPass count mark (waiting ++ r ∷ []) bytes marks at_banners (Answered r ∷ steps)
+  reply_answered r may = record { count_is = m.count_is; number_is = m.number_is; bytes_is = m.bytes_is; within = m.within; rising = m.rising; loads = m.loads; well = (may, m.well); greeted = greeted }
+    where
+      more : banners_in (waiting ++ r ∷ []) ≡ cond (is_banner r) 1 0 + banners_in waiting
+      more = let a = sum_by-append (λ (s : Reply). cond (is_banner s) 1 0) waiting (r ∷ []) in let f = banners_first r [] in omega arith
+
+      by_banner : (t : Bool) (n : ℕ) → n ≡ cond t 1 0 + banners_in waiting → AreGreetings at_banners (drop n (cond t (next_mark steps ∷ greeted_in steps) (greeted_in steps)))
+      by_banner true n is = let one : n ≡ suc (banners_in waiting) = omega arith in subst (λ k. AreGreetings at_banners (drop k (next_mark steps ∷ greeted_in steps))) (sym one) m.greeted
+      by_banner false n is = let same : n ≡ banners_in waiting = omega arith in subst (λ k. AreGreetings at_banners (drop k (greeted_in steps))) (sym same) m.greeted
+
+      greeted : AreGreetings at_banners (drop (banners_in (waiting ++ r ∷ [])) (greeted_in (Answered r ∷ steps)))
+      greeted = by_banner (is_banner r) (banners_in (waiting ++ r ∷ [])) more
+
+-- a reply is got: of a Banner, the mark was stored by then
+pub reply_got : (count : ℕ) (mark : Mark) (r : Reply) (waiting : List Reply) (bytes marks : List ℕ) (at_banners : List (List ℕ)) (steps : List LinkStep) → MarksPass count mark (r ∷ waiting) bytes marks at_banners steps → banners_in (r ∷ waiting) ≤ length (greeted_in steps)
+    → MarksPass count mark waiting bytes marks (cond (is_banner r) (marks ∷ at_banners) at_banners) steps
+reply_got count mark r waiting bytes marks at_banners steps m few = record { count_is = m.count_is; number_is = m.number_is; bytes_is = m.bytes_is; within = m.within; rising = m.rising; loads = m.loads; well = m.well; greeted = by_banner (is_banner r) (banners_first r waiting) }
+  where
+    by_banner : (t : Bool) → banners_in (r ∷ waiting) ≡ cond t 1 0 + banners_in waiting → AreGreetings (cond t (marks ∷ at_banners) at_banners) (drop (banners_in waiting) (greeted_in steps))
+    by_banner true is =
+        let one : banners_in (r ∷ waiting) ≡ suc (banners_in waiting) = omega arith in
+        next_greeted (banners_in waiting) marks at_banners (greeted_in steps) (omega arith) (answered_stored marks steps m.loads m.well)
+        (subst (λ k. AreGreetings at_banners (drop k (greeted_in steps))) one m.greeted)
+    by_banner false is = let same : banners_in (r ∷ waiting) ≡ banners_in waiting = omega arith in subst (λ k. AreGreetings at_banners (drop k (greeted_in steps))) same m.greeted
 
 -- in all no more lines were answered than had their end taken
 answers_first : (r : Reply) (rs : List Reply) → answers_in (r ∷ rs) ≡ cond (is_answer r) 1 0 + answers_in rs

@@ -24,7 +24,8 @@ use Rattle.status_report.specs.declared.Reply.TheVariants as replies
 use Rattle.status_report.specs.Answering.{receive_room, answers_in, lfs_in}
 use Rattle.stream_host.specs.Ports.{TakesByte, TakesRaise, SeemsFull, AnswersLines}
 use Rattle.code_table.specs.Tables.{query}
-use Rattle.stream_host.specs.Steps.{stored_in, stored_at_banners, got_in, marks_in, is_shut_in}
+use Rattle.stream_host.specs.Links.{banners_in}
+use Rattle.stream_host.specs.Steps.{stored_in, stored_at_banners, got_in, marks_in, marks_at_banners, is_shut_in}
 use Rattle.serial_ring.specs.Logs as link
 use Rattle.serial_ring.specs.Logs.{taken_at_banners}
 use Rattle.board_rules.proofs.LinkSteps.{same_taken}
@@ -32,7 +33,7 @@ use Rattle.stream_host.specs.Steps.{HostLog}
 use Rattle.stream_host.specs.Steps.PortStep.{stored, dropped, marked, raised, got}
 use Rattle.list_ports.specs.Asked.{AsksBetween, LooksFirst, AsksPass, report_is_up, raised_behind, words_behind, has_looked}
 use Rattle.pulse_engine.proofs.Whole.{all_since}
-use Rattle.list_ports.specs.Joining.{Listed, FlagsPass, IsGoing, Joined, with_flag, numbers_of, one_if_some}
+use Rattle.list_ports.specs.Joining.{Listed, FlagsPass, MarksPass, RepliesPass, IsGoing, Joined, with_flag, numbers_of, one_if_some}
 use Rattle.stream_host.specs.Raises.{raised_to, raises_in}
 use Rattle.board_rules.specs.Takes.{takes_in}
 use Rattle.list_ports.proofs.Asks as reports
@@ -60,7 +61,7 @@ module _ (l : Listed) (host : HostLog) (board : BoardLog) (pulse : PieceLog) (j 
       all = λ over. absurd (let o = (j.bytes.all over).0 in let s = j.bytes.shut_is in let g = takes.going in cc);
     };
     replies = j.replies;
-    marks = marks.byte_stored l.stored l.mark (stored_in host) (marks_in host) (link_steps board) j.marks b;
+    marks = marks.byte_stored l.stored l.mark l.replies (stored_in host) (marks_in host) (marks_at_banners host) (link_steps board) j.marks b;
     in_time = j.in_time;
     flags = j.flags;
     pieces = j.pieces;
@@ -69,26 +70,35 @@ module _ (l : Listed) (host : HostLog) (board : BoardLog) (pulse : PieceLog) (j 
   }
 
   pub mark_stored : Joined (record l { mark = (l.mark.0 + 1, l.stored) }) (marked ∷ host) board pulse
-  mark_stored = record { bytes = j.bytes; replies = j.replies; marks = marks.mark_stored l.stored l.mark (stored_in host) (marks_in host) (link_steps board) j.marks; in_time = j.in_time; flags = j.flags; pieces = j.pieces; stops = j.stops; asks = j.asks }
+  mark_stored = record { bytes = j.bytes; replies = j.replies; marks = marks.mark_stored l.stored l.mark l.replies (stored_in host) (marks_in host) (marks_at_banners host) (link_steps board) j.marks; in_time = j.in_time; flags = j.flags; pieces = j.pieces; stops = j.stops; asks = j.asks }
 
-  -- each line that the next reply answers was stored
-  pub lines_answered : (r : Reply) (ws : List Reply) → l.replies ≡ r ∷ ws → AnswersLines (got r ∷ host)
-  lines_answered r ws e = marks.answers_lines l.bytes l.closed (is_shut_in host) (has_closed_in board) ws l.stored l.mark (got r ∷ host) board j.bytes
-      (record { fifo = j.replies.fifo ∙ (ap (λ (z : List Reply). got_in host ++ z) e ∙ sym (append_assoc (got_in host) (r ∷ []) ws)); fewer = j.replies.fewer }) j.marks
+  -- the next reply is got
+  module _ (r : Reply) (ws : List Reply) (e : l.replies ≡ r ∷ ws) where
+    replies_got : RepliesPass ws (answered_in board) (got_in (got r ∷ host)) (taken_in board)
+    replies_got = record { fifo = j.replies.fifo ∙ (ap (λ (z : List Reply). got_in host ++ z) e ∙ sym (append_assoc (got_in host) (r ∷ []) ws)); fewer = j.replies.fewer }
 
-  -- it comes
-  pub reply_came : (r : Reply) (ws : List Reply) → l.replies ≡ r ∷ ws → Joined (record l { replies = ws }) (got r ∷ host) board pulse
-  reply_came r ws e = record {
-    bytes = j.bytes;
-    replies = record { fifo = j.replies.fifo ∙ (ap (λ (z : List Reply). got_in host ++ z) e ∙ sym (append_assoc (got_in host) (r ∷ []) ws)); fewer = j.replies.fewer };
-    marks = j.marks;
-    in_time = moments.reply_got r ws host board (j.replies.fifo ∙ ap (λ (z : List Reply). got_in host ++ z) e)
-        (let f = ap length j.bytes.fifo in let a = length-append (taken_in board) l.bytes in let s = same_taken board in omega (arith, f, a, s)) j.in_time;
-    flags = j.flags;
-    pieces = j.pieces;
-    stops = j.stops;
-    asks = j.asks;
-  }
+    marks_got : MarksPass l.stored l.mark ws (stored_in host) (marks_in host) (marks_at_banners (got r ∷ host)) (link_steps board)
+    marks_got =
+        let b = marks.banners_are l.replies host board j.replies in let n = ap banners_in e in
+        marks.reply_got l.stored l.mark r ws (stored_in host) (marks_in host) (marks_at_banners host) (link_steps board)
+        (subst (λ (z : List Reply). MarksPass l.stored l.mark z (stored_in host) (marks_in host) (marks_at_banners host) (link_steps board)) e j.marks) (omega arith)
+
+    pub reply_got : Joined (record l { replies = ws }) (got r ∷ host) board pulse
+    reply_got = record {
+      bytes = j.bytes;
+      replies = replies_got;
+      marks = marks_got;
+      in_time = moments.reply_got r ws host board (j.replies.fifo ∙ ap (λ (z : List Reply). got_in host ++ z) e)
+          (let f = ap length j.bytes.fifo in let a = length-append (taken_in board) l.bytes in let s = same_taken board in omega (arith, f, a, s)) j.in_time;
+      flags = j.flags;
+      pieces = j.pieces;
+      stops = j.stops;
+      asks = j.asks;
+    }
+
+    -- each line that it answers was stored
+    pub lines_answered : AnswersLines (got r ∷ host)
+    lines_answered = marks.answers_lines l.bytes l.closed (is_shut_in host) (has_closed_in board) ws l.stored l.mark (got r ∷ host) board j.bytes replies_got marks_got
 
   queries_few : (b : ℕ) (f : Flag) → flag_of_byte b ≡ Some f → TakesRaise b host → is_flag report_flag f ≡ true → raises_of report_flag (raises_in host) < 2 ^ 31
   queries_few b f is may asked =
@@ -155,7 +165,7 @@ module _ (l : Listed) (host : HostLog) (board : BoardLog) (pulse : PieceLog) (j 
   reply_answered (replies.Report r) may = record {
     bytes = j.bytes;
     replies = links.reply_told l.replies (answered_in board) (got_in host) (taken_in board) (replies.Report r) (λ e. absurd cc) j.replies;
-    marks = marks.reply_answered l.stored l.mark (stored_in host) (marks_in host) (link_steps board) j.marks (replies.Report r) may;
+    marks = marks.reply_answered l.stored l.mark l.replies (stored_in host) (marks_in host) (marks_at_banners host) (link_steps board) j.marks (replies.Report r) may;
     in_time = j.in_time;
     flags = j.flags;
     pieces = j.pieces;
@@ -165,7 +175,7 @@ module _ (l : Listed) (host : HostLog) (board : BoardLog) (pulse : PieceLog) (j 
   reply_answered r may = record {
     bytes = j.bytes;
     replies = links.reply_told l.replies (answered_in board) (got_in host) (taken_in board) r (marks.may_line board r j.marks.well may) j.replies;
-    marks = marks.reply_answered l.stored l.mark (stored_in host) (marks_in host) (link_steps board) j.marks r may;
+    marks = marks.reply_answered l.stored l.mark l.replies (stored_in host) (marks_in host) (marks_at_banners host) (link_steps board) j.marks r may;
     in_time = moments.reply_answered r (length (link.taken_in (link_steps board))) (taken_at_banners (link_steps board)) (stored_at_banners host) j.in_time;
     flags = j.flags;
     pieces = j.pieces;

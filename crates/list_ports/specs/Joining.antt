@@ -27,8 +27,9 @@ use Rattle.pulse_engine.specs.Logs.{PieceLog, pieces_of, got_since, counted, unc
 use Rattle.serial_ring.specs.declared.view.LinkStep.{LinkStep}
 use Rattle.serial_ring.specs.Marks.{Mark, AreMarks, AreRising, latest}
 use Rattle.serial_ring.specs.Lists.{AreAtMost}
-use Rattle.serial_ring.specs.Logs.{marked_in, taken_at_banners, AnswersWell}
-use Rattle.stream_host.specs.Steps.{stored_in, stored_at_banners, got_in, marks_in, is_shut_in}
+use Rattle.serial_ring.specs.Logs.{marked_in, greeted_in, taken_at_banners, AnswersWell}
+use Rattle.stream_host.specs.Links.{banners_in, AreGreetings}
+use Rattle.stream_host.specs.Steps.{stored_in, stored_at_banners, got_in, marks_in, marks_at_banners, is_shut_in}
 use Rattle.stream_host.specs.Steps.{HostLog}
 use Rattle.list_ports.specs.Asked.{AsksBetween, LooksFirst, AsksPass, report_is_up, raised_behind, words_behind, has_looked}
 
@@ -79,8 +80,8 @@ pub record RepliesPass (waiting answered got_replies : List Reply) (taken : List
   pub fewer : answers_in answered ≤ lfs_in taken
 
 -- Marks on their way: the last one stored is there. Each that was loaded is one that was stored, or the start, and each reply was
--- answered where it might be
-pub record MarksPass (stored_count : ℕ) (mark : Mark) (stored_bytes marks : List ℕ) (steps : List LinkStep) : Type 0 where
+-- answered where it might be. Each Banner that does not wait was answered for a mark that was stored before it was got.
+pub record MarksPass (stored_count : ℕ) (mark : Mark) (waiting : List Reply) (stored_bytes marks : List ℕ) (at_banners : List (List ℕ)) (steps : List LinkStep) : Type 0 where
   pub count_is : stored_count ≡ length stored_bytes
   pub number_is : mark.0 ≡ length marks
   pub bytes_is : mark.1 ≡ latest marks
@@ -88,6 +89,7 @@ pub record MarksPass (stored_count : ℕ) (mark : Mark) (stored_bytes marks : Li
   pub rising : AreRising marks
   pub loads : AreMarks marks (marked_in steps)
   pub well : AnswersWell steps
+  pub greeted : AreGreetings at_banners (drop (banners_in waiting) (greeted_in steps))
 
 -- No byte is taken before it is stored: of each Banner that was got, the first of those that were answered, no more bytes were taken
 -- when it was answered than were stored when it was got. Both have the latest first.
@@ -145,7 +147,7 @@ pub record PiecesPass (waiting : List Piece) (left done : ℕ) (stop : Bool) (se
 pub record Joined (l : Listed) (host : HostLog) (board : BoardLog) (pulse : PieceLog) : Type 0 where
   pub bytes : BytesPass l.bytes l.closed (stored_in host) (is_shut_in host) (taken_in board) (has_closed_in board)
   pub replies : RepliesPass l.replies (answered_in board) (got_in host) (taken_in board)
-  pub marks : MarksPass l.stored l.mark (stored_in host) (marks_in host) (link_steps board)
+  pub marks : MarksPass l.stored l.mark l.replies (stored_in host) (marks_in host) (marks_at_banners host) (link_steps board)
   pub in_time : IsInTime (taken_at_banners (link_steps board)) (stored_at_banners host)
   pub flags : FlagsPass l.exec l.override (raises_in host) (takes_in board)
   pub pieces : PiecesPass l.pieces l.left l.done l.stop (sent_in board) (known_in board) (pieces_of pulse) (got_since pulse) (counted pulse) (uncounted pulse) (halts_of pulse)

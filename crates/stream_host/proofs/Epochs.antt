@@ -19,7 +19,7 @@ use Rattle.stream_host.specs.Steps.Step.{at_port, read_some, read_end, read_fail
 use Rattle.stream_host.specs.Conduct.{Conducted, MayMark, MayStore}
 use Rattle.stream_host.proofs.Links.{lfs_push, lfs_linked, behind_append, behind_ended, all_no_lf}
 use Rattle.stream_host.proofs.Keeping.{stored_is, none_next, linked_line}
-use Rattle.stream_host.proofs.Raised.{free_by, both, banners_first, IsMarked, marks_are, fresh_calm, last_greeted, early_greeted, rising_is, banners_low}
+use Rattle.stream_host.proofs.Raised.{free_by, both, banners_first, IsMarked, marks_are, fresh_calm, AreStored, stored_so_far, last_greeted, early_greeted, rising_is, banners_low}
 
 -- ---- the answers of an epoch
 
@@ -220,16 +220,19 @@ few_answers : (r : Reply) (h : Journal) (from : ℕ) → AnswersLines (got r ∷
 few_answers r h from lines stands =
     let f = lines.few in let d = lfs_drop from (last_of lines.greeted).1 (stored_of h) (by_stands stands) in omega arith
   where
+    are : AreStored (marks_of h) lines.greeted
+    are = stored_so_far (got r ∷ port_log h) lines.greeted lines.are.stored
+
     by_stands : Stands (marks_of h) (banners_of (at_port (got r) ∷ h)) (to_store h) (stored_of h) from → from ≤ (last_of lines.greeted).1
     by_stands (inl s) =
         let each = lines.are.each in
-        let e = last_greeted (marks_of h) lines.greeted lines.are.stored (elim s.0 [
+        let e = last_greeted (marks_of h) lines.greeted are (elim s.0 [
           | inl none ↦ inl none
           | inr all ↦ inr (each ∙ all)
         ]) in let f = s.1 in omega arith
     by_stands (inr p) =
         let each = lines.are.each in
-        let e = early_greeted (marks_of h) lines.greeted (rising_is (port_log h)).0 lines.are.stored (elim p.0.one [
+        let e = early_greeted (marks_of h) lines.greeted (rising_is (port_log h)).0 are (elim p.0.one [
           | inl many ↦ inl (omega arith)
           | inr few ↦ inr few
         ]) in let f = p.1 in omega arith
@@ -374,7 +377,7 @@ room_is b h c may full = by_stands (epoch_is h c).stands
     by_stands : Stands (marks_of h) (banners_of h) (to_store h) (stored_of h) e.from → ⊥
     by_stands (inr p) = none_next (to_store h) b p.0.free may.next
     by_stands (inl s) =
-        let at = last_greeted (marks_of h) full.greeted full.are.stored (elim s.0 [
+        let at = last_greeted (marks_of h) full.greeted (stored_so_far (port_log h) full.greeted full.are.stored) (elim s.0 [
           | inl none ↦ inl none
           | inr all ↦ inr (full.are.each ∙ all)
         ]) in

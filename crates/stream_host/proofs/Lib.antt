@@ -1,6 +1,7 @@
 pub mod Texts
 pub mod Raised
 pub mod Epochs
+pub mod Greeting
 pub mod Awaiting
 pub mod Cutting
 pub mod Ending

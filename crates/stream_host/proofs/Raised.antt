@@ -5,10 +5,10 @@ use Rattle.std.proofs.lemmas.List.{nil_from_length, length-drop}
 use Rattle.std.proofs.lemmas.List.Sums.{sum_by-cons}
 use Rattle.status_report.specs.declared.Reply.{Reply}
 use Rattle.status_report.specs.Answering.{is_banner}
-use Rattle.serial_ring.specs.Marks.{Mark, latest, last_of, IsMark, AreRising}
+use Rattle.serial_ring.specs.Marks.{Mark, latest, last_of, IsMark, Follows, AreRising}
 use Rattle.stream_host.specs.Links.{banners_in, AreGreetings}
 use Rattle.stream_host.specs.Jobs.{resume, is_reset}
-use Rattle.stream_host.specs.Steps.{HostLog, Journal, port_log, stored_in, latest_got, marks_in, marks_of, resets_of, banners_of, awaits_banner, scanned_of, raw_of, to_store, due_of, more_served, resumes_next, polls_of, empty_polls, is_shut, has_limit, got_of}
+use Rattle.stream_host.specs.Steps.{HostLog, Journal, port_log, stored_in, latest_got, marks_in, marks_at_banners, marks_of, resets_of, banners_of, awaits_banner, scanned_of, raw_of, to_store, due_of, more_served, resumes_next, polls_of, empty_polls, is_shut, has_limit, got_of}
 use Rattle.stream_host.specs.Steps.PortStep.{stored, dropped, marked, raised, got, no_reply, shut}
 use Rattle.stream_host.specs.Steps.Step.{at_port, read_some, read_end, read_failed, scanned, line_over, wrote, gave_up, turned}
 use Rattle.stream_host.specs.Conduct.{Conducted, MayMark, MayRaise}
@@ -216,17 +216,45 @@ fresh_calm h c may = by_test (awaits_banner h) refl
 
 -- ---- the marks of the Banners got
 
-numbers : (marks : List ℕ) (greeted : List Mark) → AreGreetings marks greeted → length greeted ≤ (last_of greeted).0 + 1
+-- marks of Banners, the latest first: the start, and then some of these marks, each behind the one before it
+abbrev pub AreStored : List ℕ → List Mark → Type 0
+AreStored marks [] = Unit {0}
+AreStored marks (m ∷ earlier) = Follows marks earlier m × AreStored marks earlier
+
+more_stored : (bytes : ℕ) (marks : List ℕ) (greeted : List Mark) → AreStored marks greeted → AreStored (bytes ∷ marks) greeted
+more_stored bytes marks [] are = tt
+more_stored bytes marks (m ∷ []) are = are
+more_stored bytes marks (m ∷ before ∷ earlier) are = ((are.0.0, inr are.0.1), more_stored bytes marks (before ∷ earlier) are.1)
+
+-- those of the Banners got are some of the marks stored so far
+pub stored_so_far : (h : HostLog) (greeted : List Mark) → AreGreetings (marks_at_banners h) greeted → AreStored (marks_in h) greeted
+stored_so_far [] [] are = tt
+stored_so_far [] (m ∷ earlier) are = absurd are
+stored_so_far (stored b ∷ h) greeted are = stored_so_far h greeted are
+stored_so_far (dropped b ∷ h) greeted are = stored_so_far h greeted are
+stored_so_far (marked ∷ h) greeted are = more_stored (length (stored_in h)) (marks_in h) greeted (stored_so_far h greeted are)
+stored_so_far (raised b down ∷ h) greeted are = stored_so_far h greeted are
+stored_so_far (got r ∷ h) greeted are = by_banner (is_banner r) greeted (stored_so_far h) are
+  where
+    by_banner : (t : Bool) (all : List Mark) → ((some : List Mark) → AreGreetings (marks_at_banners h) some → AreStored (marks_in h) some)
+        → AreGreetings (cond t (marks_in h ∷ marks_at_banners h) (marks_at_banners h)) all → AreStored (marks_in h) all
+    by_banner true [] before are = absurd are
+    by_banner true (m ∷ earlier) before are = (are.0, before earlier are.1)
+    by_banner false all before are = before all are
+stored_so_far (no_reply ∷ h) greeted are = stored_so_far h greeted are
+stored_so_far (shut ∷ h) greeted are = stored_so_far h greeted are
+
+numbers : (marks : List ℕ) (greeted : List Mark) → AreStored marks greeted → length greeted ≤ (last_of greeted).0 + 1
 numbers marks [] are = omega arith
 numbers marks (m ∷ []) are = omega arith
 numbers marks (m ∷ before ∷ earlier) are = let n = numbers marks (before ∷ earlier) are.1 in let f = are.0.0 in omega arith
 
-low_mark : (marks : List ℕ) (m : Mark) → IsMark marks m → m.0 ≤ length marks
+pub low_mark : (marks : List ℕ) (m : Mark) → IsMark marks m → m.0 ≤ length marks
 low_mark [] m is = let e = ap (λ (k : Mark). k.0) is in omega arith
 low_mark (b ∷ earlier) m (inl is) = let e = ap (λ (k : Mark). k.0) is in omega arith
 low_mark (b ∷ earlier) m (inr is) = let l = low_mark earlier m is in omega arith
 
-low_greeted : (marks : List ℕ) (greeted : List Mark) → AreGreetings marks greeted → (last_of greeted).0 ≤ length marks
+low_greeted : (marks : List ℕ) (greeted : List Mark) → AreStored marks greeted → (last_of greeted).0 ≤ length marks
 low_greeted marks [] are = omega arith
 low_greeted marks (m ∷ []) are = let e = ap (λ (k : Mark). k.0) are.0 in omega arith
 low_greeted marks (m ∷ before ∷ earlier) are = low_mark marks m are.0.1
@@ -237,7 +265,7 @@ last_mark (b ∷ earlier) m (inl is) e = ap (λ (k : Mark). k.1) is
 last_mark (b ∷ earlier) m (inr is) e = absurd (let l = low_mark earlier m is in omega arith)
 
 -- where as many were got as there are marks, and one, the last is of the latest mark
-pub last_greeted : (marks : List ℕ) (greeted : List Mark) → AreGreetings marks greeted → (length marks ≡ 0) ⊎ (length greeted ≡ length marks + 1) → (last_of greeted).1 ≡ latest marks
+pub last_greeted : (marks : List ℕ) (greeted : List Mark) → AreStored marks greeted → (length marks ≡ 0) ⊎ (length greeted ≡ length marks + 1) → (last_of greeted).1 ≡ latest marks
 last_greeted [] [] are some = refl
 last_greeted [] (m ∷ []) are some = ap (λ (k : Mark). k.1) are.0
 last_greeted [] (m ∷ before ∷ earlier) are some = ap (λ (k : Mark). k.1) are.0.1
@@ -255,7 +283,7 @@ early_mark (b ∷ earlier) m rising (inr is) many =
     let l = low_mark earlier m is in let e = last_mark earlier m is (omega arith) in omega arith
 
 -- where one Banner is awaited, the last that was got is of the mark before the latest, or the latest itself
-pub early_greeted : (marks : List ℕ) (greeted : List Mark) → AreRising marks → AreGreetings marks greeted → (length marks ≤ length greeted) ⊎ (length marks ≤ 1) → latest (drop 1 marks) ≤ (last_of greeted).1
+pub early_greeted : (marks : List ℕ) (greeted : List Mark) → AreRising marks → AreStored marks greeted → (length marks ≤ length greeted) ⊎ (length marks ≤ 1) → latest (drop 1 marks) ≤ (last_of greeted).1
 early_greeted [] greeted rising are some = omega arith
 early_greeted (b ∷ []) greeted rising are some = omega arith
 early_greeted (b ∷ a ∷ marks) greeted rising are (inr few) = absurd (omega arith)
@@ -283,7 +311,8 @@ banners_low (at_port (dropped b) ∷ h) c = absurd c.0
 banners_low (at_port marked ∷ h) c = let m = banners_low h c.1 in omega arith
 banners_low (at_port (raised b down) ∷ h) c = banners_low h c.1
 banners_low (at_port (got r) ∷ h) c =
-    let p = c.0.lines in let n = numbers (marks_of h) p.greeted p.are.stored in let l = low_greeted (marks_of h) p.greeted p.are.stored in let e = p.are.each in omega arith
+    let p = c.0.lines in let are = stored_so_far (got r ∷ port_log h) p.greeted p.are.stored in
+    let n = numbers (marks_of h) p.greeted are in let l = low_greeted (marks_of h) p.greeted are in let e = p.are.each in omega arith
 banners_low (at_port no_reply ∷ h) c = banners_low h c.1
 banners_low (at_port shut ∷ h) c = banners_low h c.1
 banners_low (read_some bytes ∷ h) c = banners_low h c.1

@@ -1,11 +1,14 @@
 -- What a host owes its port, and what the port promises.
-use Rattle.std.specs.Prelude.{◌≡◌, ℕ, ◌+◌, ◌^◌, ◌≤◌, ◌<◌, false, cond, nat_eq, List, [], ◌∷◌, length}
+use Rattle.std.specs.Prelude.{◌≡◌, ℕ, ◌+◌, ◌^◌, ◌≤◌, ◌<◌, Bool, true, false, cond, nat_eq, List, [], ◌∷◌, ◌++◌, length, reverse}
 use Rattle.code_table.specs.Tables.{query}
 use Rattle.status_report.specs.Answering.{receive_room, lfs_in}
-use Rattle.serial_ring.specs.Marks.{Mark}
+use Rattle.status_report.specs.declared.Reply.{Reply}
+use Rattle.serial_ring.specs.declared.view.LinkStep.{LinkStep}
+use Rattle.serial_ring.specs.Logs.{AnswersWell, taken_in, marked_in, answered_in, greeted_in}
+use Rattle.serial_ring.specs.Marks.{Mark, AreMarks}
 use Rattle.serial_ring.specs.Lists.{answers_behind_mark}
 use Rattle.stream_host.specs.Links.{behind_lf, behind_mark, banners_in, AreGreetings}
-use Rattle.stream_host.specs.Steps.{HostLog, stored_in, latest_got, marks_in, is_shut_in}
+use Rattle.stream_host.specs.Steps.{HostLog, stored_in, latest_got, marks_in, marks_at_banners, is_shut_in}
 use Rattle.stream_host.specs.Steps.PortStep.{raised}
 
 -- how often a report was asked for
@@ -31,10 +34,10 @@ TakesRaise b h = b ≡ query → queries_in h < 2 ^ 31
 abbrev pub TakesMark : HostLog → Type 0
 TakesMark h = length (marks_in h) + 1 < 2 ^ 32
 
--- these may be the marks of the Banners got, the latest first
+-- these may be the marks of the Banners got, the latest first: one of each, which was stored before its Banner was got
 pub record AreGreeted (h : HostLog) (greeted : List Mark) : Type 0 where
   pub each : length greeted ≡ banners_in (latest_got h)
-  pub stored : AreGreetings (marks_in h) greeted
+  pub stored : AreGreetings (marks_at_banners h) greeted
 
 -- So many bytes may not be taken yet: those stored behind the last mark whose Banner was got, after the last line that was
 -- answered since. A byte is dropped only where they leave no room.
@@ -48,3 +51,21 @@ pub record AnswersLines (h : HostLog) : Type 0 where
   pub greeted : List Mark
   pub are : AreGreeted h greeted
   pub few : answers_behind_mark (latest_got h) ≤ lfs_in (behind_mark greeted (stored_in h))
+
+-- What the two ends of a link know of each other, by what a host's port did, what a board's end did, and whether the board found the
+-- link closed. The bytes taken are the first of those stored, and all of them where the link was found closed, as it then is. Each mark
+-- that was loaded is one that was stored, or the start. The replies got are the first of those answered, each where it might be; and
+-- of the Banners got the board answered each for a mark that was stored before it was got.
+pub record PortsAgree (h : HostLog) (log : List LinkStep) (over : Bool) : Type 0 where
+  pub unread : List ℕ
+  pub bytes : stored_in h ≡ reverse (taken_in log) ++ unread
+  pub closes : over ≡ true → is_shut_in h ≡ true
+  pub all : over ≡ true → unread ≡ []
+  pub loads : AreMarks (marks_in h) (marked_in log)
+  pub well : AnswersWell log
+  pub untaken : List Reply
+  pub replies : answered_in log ≡ untaken ++ latest_got h
+  pub ungreeted : List Mark
+  pub greeted : List Mark
+  pub banners : greeted_in log ≡ ungreeted ++ greeted
+  pub are : AreGreeted h greeted

@@ -94,6 +94,12 @@ marks_in [] = []
 marks_in (marked ∷ h) = length (stored_in h) ∷ marks_in h
 marks_in (_ ∷ h) = marks_in h
 
+-- those that were stored when each Banner was got, the latest Banner first
+abbrev pub marks_at_banners : HostLog → List (List ℕ)
+marks_at_banners [] = []
+marks_at_banners (got r ∷ h) = cond (is_banner r) (marks_in h ∷ marks_at_banners h) (marks_at_banners h)
+marks_at_banners (_ ∷ h) = marks_at_banners h
+
 -- how many bytes were stored when each Banner was got, the latest first
 abbrev pub stored_at_banners : HostLog → List ℕ
 stored_at_banners [] = []

@@ -3,7 +3,10 @@
 ghost use Rattle.std.specs.Prelude.{◌≡◌, ℕ, ◌+◌, ◌*◌, ◌≤◌, ◌<◌, ◌⊎◌, Bool, true, false, List, [], ◌∷◌, ◌++◌, length, map, drop, reverse};
 ghost use Rattle.run_rules.specs.Lines.{lines_of, whole_lines};
 ghost use Rattle.run_rules.specs.Readings.{largest_job, largest_piece};
-ghost use Rattle.stream_host.specs.Links.{behind_lf, on_link};
+ghost use Rattle.serial_ring.specs.declared.view.LinkStep.{LinkStep};
+ghost use Rattle.serial_ring.specs.Logs.{greeted_in};
+ghost use Rattle.serial_ring.specs.Marks.{Mark};
+ghost use Rattle.stream_host.specs.Links.{behind_lf, on_link, AreInOrder};
 ghost use Rattle.status_report.specs.Answering.{receive_room, lfs_in, answers_in};
 ghost use Rattle.stream_host.specs.Jobs.{is_reset, lacks_banner, resets_scanned, sent_text, marks_behind, served_in, ends_sending, lines_read, lines_to_send, stop_by, or_reset, IsSent, IsSentSoFar};
 ghost use Rattle.stream_host.specs.declared.Reading.{Reading};
@@ -16,7 +19,7 @@ ghost use Rattle.stream_host.specs.Conduct.{AwaitsSome, Conducted, MayStore, Wai
 ghost use Rattle.outside.specs.Causes.{SourceState, SinkState};
 ghost use Rattle.stream_host.specs.declared.host.Host.{Host};
 ghost use Rattle.stream_host.specs.Hosts.{HostFits, HostRests, TellsJob, TellsText};
-ghost use Rattle.stream_host.specs.Ports.{SeemsFull};
+ghost use Rattle.stream_host.specs.Ports.{AreGreeted, PortsAgree, SeemsFull};
 ghost use Rattle.stream_host.specs.Epochs.{AreEnds, AreEpochs, ended_of, epoch_now, lines_now, got_now};
 ghost use Rattle.stream_host.specs.Ran.{AreAwaited, AreBorders, AreMarks, AreRaised, HostRan, HostRuns, SentNoMore, HasFinished, TellsConsole, end_of};
 
@@ -74,6 +77,14 @@ pub fn hosts_begin_epochs()
     ensures awaited { (h : Journal) → Conducted h → AreAwaited (scanned_of h) (cut_of h) (banners_of h) }
     ensures ends { (h : Journal) → Conducted h → (AreEnds (marks_of h) (ended_of h) ⊎ AreEnds (drop 1 (marks_of h)) (ended_of h)) × (awaits_banner h ≡ false → due_of h ≡ [] → AreEnds (marks_of h) (ended_of h)) }
     ensures epochs { (h : Journal) → Conducted h → AreEpochs (cut_of h) (live_of h) (got_of h) (ended_of h) (epoch_now h) × (answers_in (got_now h) ≤ length (lines_now h)) }
+{}
+
+/// The Banners that a host gets are of its marks, in order: the first is of the start of the link, and the n-th behind it of the n-th
+/// mark. Of each mark that it stored it got the Banner, but for the latest at most. So it is of those that the board at the other
+/// end has answered.
+pub fn hosts_get_banners_in_order()
+    ensures got { (h : Journal) (greeted : List Mark) → Conducted h → AreGreeted (port_log h) greeted → AreInOrder (marks_of h) greeted }
+    ensures answered { (h : Journal) (log : List LinkStep) (over : Bool) → Conducted h → PortsAgree (port_log h) log over → AreInOrder (marks_of h) (greeted_in log) }
 {}
 
 /// Behind an alarm nothing more of the job is read, scanned, stored or raised, whatever is done later.

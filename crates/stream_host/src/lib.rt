@@ -15,8 +15,9 @@ mod unanswered;
 
 pub use host::Host;
 pub use laws::{
-    hosts_begin_epochs, hosts_have_run, hosts_keep_to_their_count, hosts_raise_what_they_scan,
-    hosts_send_their_lines, hosts_stop_at_an_alarm, hosts_wait_for_answers, links_carry_lines,
+    hosts_begin_epochs, hosts_get_banners_in_order, hosts_have_run, hosts_keep_to_their_count,
+    hosts_raise_what_they_scan, hosts_send_their_lines, hosts_stop_at_an_alarm,
+    hosts_wait_for_answers, links_carry_lines,
 };
 pub use ports::HostPort;
 
