@@ -3,3 +3,4 @@ pub mod Hosting
 pub mod Queries
 pub mod Boarding
 pub mod Standing
+pub mod Agreeing

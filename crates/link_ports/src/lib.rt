@@ -8,10 +8,12 @@
 
 mod board;
 mod host;
+mod laws;
 #[cfg(test)]
 mod tests;
 mod thread;
 
 pub use board::BoardLink;
 pub use host::HostLink;
+pub use laws::ports_of_a_link_agree;
 pub use thread::{HostSide, run_host};
