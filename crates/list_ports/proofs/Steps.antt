@@ -1,7 +1,7 @@
 -- What calls of a port make of the lists and the logs, where a search does not find it.
-use Rattle.std.proofs.Common.{◌≡◌, ℕ, ◌+◌, ◌-◌, ◌<◌, ◌≤◌, ◌^◌, ◌⊎◌, inl, Bool, true, false, not, nat_eq, List, [], ◌∷◌, ◌++◌, length, map, reverse, refl, sym, ap, ◌∙◌, subst, arith, append_assoc, length-append, Some}
+use Rattle.std.proofs.Common.{◌≡◌, ℕ, ◌+◌, ◌-◌, ◌<◌, ◌≤◌, ◌^◌, ◌⊎◌, inl, Bool, true, false, not, nat_eq, List, [], ◌∷◌, ◌++◌, length, map, take, drop, reverse, refl, sym, ap, ◌∙◌, subst, arith, append_assoc, length-append, Some}
 use Rattle.std.proofs.lemmas.Bool.Decides.{nat_tests}
-use Rattle.std.proofs.lemmas.List.{reverse-append, reverse-reverse}
+use Rattle.std.proofs.lemmas.List.{reverse-append, reverse-reverse, take-append-drop}
 use Rattle.std.specs.declared.option.Option.{Option}
 use Rattle.step_line.specs.declared.Piece.{Piece}
 use Rattle.step_line.specs.Ordering.{ComesNext}
@@ -22,13 +22,13 @@ use Rattle.pulse_engine.specs.Logs.PieceEvent.{got as piece_came}
 use Rattle.status_report.specs.declared.Reply.{Reply}
 use Rattle.status_report.specs.declared.Reply.TheVariants as replies
 use Rattle.status_report.specs.Answering.{receive_room, answers_in, lfs_in}
-use Rattle.stream_host.specs.Ports.{TakesByte, TakesRaise, SeemsFull, AnswersLines}
+use Rattle.stream_host.specs.Ports.{TakesByte, TakesRaise, SeemsFull, AnswersLines, PortsAgree}
 use Rattle.code_table.specs.Tables.{query}
 use Rattle.stream_host.specs.Links.{banners_in}
 use Rattle.stream_host.specs.Steps.{stored_in, stored_at_banners, got_in, marks_in, marks_at_banners, is_shut_in}
 use Rattle.serial_ring.specs.Logs as link
-use Rattle.serial_ring.specs.Logs.{taken_at_banners}
-use Rattle.board_rules.proofs.LinkSteps.{same_taken}
+use Rattle.serial_ring.specs.Logs.{greeted_in, taken_at_banners}
+use Rattle.board_rules.proofs.LinkSteps.{taken_back, same_taken}
 use Rattle.stream_host.specs.Steps.{HostLog}
 use Rattle.stream_host.specs.Steps.PortStep.{stored, dropped, marked, raised, got}
 use Rattle.list_ports.specs.Asked.{AsksBetween, LooksFirst, AsksPass, report_is_up, raised_behind, words_behind, has_looked}
@@ -320,6 +320,23 @@ module _ (l : Listed) (host : HostLog) (board : BoardLog) (pulse : PieceLog) (j 
   some_left more = let e = j.pieces.left_is in omega arith
 
   -- ---- both
+
+  -- what host and board have done agrees
+  pub ports_agree : PortsAgree host (link_steps board) (has_closed_in board)
+  ports_agree = record {
+    unread = l.bytes;
+    bytes = j.bytes.fifo ∙ ap (λ (z : List ℕ). z ++ l.bytes) (taken_back board);
+    closes = λ over. sym j.bytes.shut_is ∙ (j.bytes.all over).0;
+    all = λ over. (j.bytes.all over).1;
+    loads = j.marks.loads;
+    well = j.marks.well;
+    untaken = reverse l.replies;
+    replies = marks.answered_is l.replies host board j.replies;
+    ungreeted = take (banners_in l.replies) (greeted_in (link_steps board));
+    greeted = drop (banners_in l.replies) (greeted_in (link_steps board));
+    banners = sym (take-append-drop (banners_in l.replies) (greeted_in (link_steps board)));
+    are = marks.are_greeted l.bytes l.closed (is_shut_in host) (has_closed_in board) l.replies l.stored l.mark host board j.bytes j.replies j.marks;
+  }
 
   -- what was published is what was got or dropped and what waits
   pub pieces_front : published_in board ≡ reverse (pieces_of pulse) ++ l.pieces

@@ -8,11 +8,13 @@
 mod board_port;
 mod flags;
 mod host_port;
+mod laws;
 mod lists;
 mod pulse_port;
 mod records;
 #[cfg(test)]
 mod tests;
 
+pub use laws::logs_of_lists_agree;
 pub use lists::Lists;
 pub use records::Records;
