@@ -4,6 +4,7 @@ use Rattle.std.proofs.lemmas.List.{reverse-append}
 use Rattle.status_report.specs.declared.Reply.{Reply}
 use Rattle.realtime_flags.specs.declared.words.Raise.{Raise}
 use Rattle.serial_ring.specs.declared.view.LinkStep.{LinkStep}
+use Rattle.serial_ring.specs.Lists.{AreAtMost}
 use Rattle.serial_ring.specs.Logs.{taken_in, marked_in}
 use Rattle.serial_ring.specs.Marks.{Mark, AreMarks}
 use Rattle.serial_ring.specs.Rule.{AreTied}
@@ -30,4 +31,8 @@ ports_agree room bytes marks closed log over replies greeted raises moments h kn
   greeted = greeted;
   banners = t.banners;
   are = d.greeted_are;
+  ungot = t.later;
+  of_got = t.of_got;
+  moments = t.taken_then;
+  in_time = subst (AreAtMost t.of_got) (sym d.moments_are) t.in_time;
 }

@@ -335,6 +335,10 @@ module _ (l : Listed) (host : HostLog) (board : BoardLog) (pulse : PieceLog) (j 
     ungreeted = take (banners_in l.replies) (greeted_in (link_steps board));
     greeted = drop (banners_in l.replies) (greeted_in (link_steps board));
     banners = sym (take-append-drop (banners_in l.replies) (greeted_in (link_steps board)));
+    ungot = take (length (taken_at_banners (link_steps board)) - length (stored_at_banners host)) (taken_at_banners (link_steps board));
+    of_got = drop (length (taken_at_banners (link_steps board)) - length (stored_at_banners host)) (taken_at_banners (link_steps board));
+    moments = sym (take-append-drop (length (taken_at_banners (link_steps board)) - length (stored_at_banners host)) (taken_at_banners (link_steps board)));
+    in_time = j.in_time;
     are = marks.are_greeted l.bytes l.closed (is_shut_in host) (has_closed_in board) l.replies l.stored l.mark host board j.bytes j.replies j.marks;
   }
 

@@ -4,11 +4,11 @@ use Rattle.code_table.specs.Tables.{query}
 use Rattle.status_report.specs.Answering.{receive_room, lfs_in}
 use Rattle.status_report.specs.declared.Reply.{Reply}
 use Rattle.serial_ring.specs.declared.view.LinkStep.{LinkStep}
-use Rattle.serial_ring.specs.Logs.{AnswersWell, taken_in, marked_in, answered_in, greeted_in}
+use Rattle.serial_ring.specs.Logs.{AnswersWell, taken_in, marked_in, answered_in, greeted_in, taken_at_banners}
 use Rattle.serial_ring.specs.Marks.{Mark, AreMarks}
-use Rattle.serial_ring.specs.Lists.{answers_behind_mark}
+use Rattle.serial_ring.specs.Lists.{AreAtMost, answers_behind_mark}
 use Rattle.stream_host.specs.Links.{behind_lf, behind_mark, banners_in, AreGreetings}
-use Rattle.stream_host.specs.Steps.{HostLog, stored_in, latest_got, marks_in, marks_at_banners, is_shut_in}
+use Rattle.stream_host.specs.Steps.{HostLog, stored_in, stored_at_banners, latest_got, marks_in, marks_at_banners, is_shut_in}
 use Rattle.stream_host.specs.Steps.PortStep.{raised}
 
 -- how often a report was asked for
@@ -55,7 +55,8 @@ pub record AnswersLines (h : HostLog) : Type 0 where
 -- What the two ends of a link know of each other, by what a host's port did, what a board's end did, and whether the board found the
 -- link closed. The bytes taken are the first of those stored, and all of them where the link was found closed, as it then is. Each mark
 -- that was loaded is one that was stored, or the start. The replies got are the first of those answered, each where it might be; and
--- of the Banners got the board answered each for a mark that was stored before it was got.
+-- of the Banners got the board answered each for a mark that was stored before it was got, and had then taken no more bytes than were
+-- stored as it was got.
 pub record PortsAgree (h : HostLog) (log : List LinkStep) (over : Bool) : Type 0 where
   pub unread : List ℕ
   pub bytes : stored_in h ≡ reverse (taken_in log) ++ unread
@@ -69,3 +70,7 @@ pub record PortsAgree (h : HostLog) (log : List LinkStep) (over : Bool) : Type 0
   pub greeted : List Mark
   pub banners : greeted_in log ≡ ungreeted ++ greeted
   pub are : AreGreeted h greeted
+  pub ungot : List ℕ
+  pub of_got : List ℕ
+  pub moments : taken_at_banners log ≡ ungot ++ of_got
+  pub in_time : AreAtMost of_got (stored_at_banners h)
