@@ -8,11 +8,13 @@ use Rattle.serial_ring.specs.Lists.{AreAtMost}
 use Rattle.serial_ring.specs.Marks.{Mark, AreMarks}
 use Rattle.serial_ring.specs.Rule.{AreTied}
 use Rattle.status_report.specs.declared.Reply.{Reply}
+use Rattle.stream_host.specs.Ports.{PortsAgree}
 use Rattle.stream_host.specs.Steps as hosts
 use Rattle.board_rules.specs.Ports as ports
 use Rattle.board_rules.proofs.LinkSteps.{taken_back, answered_back}
 use Rattle.board_epochs.specs.Epochs.{Epochs, log_of}
 use Rattle.epoch_links.specs.Drops.{AreAnsweredOver}
+use Rattle.epoch_links.proofs.Answers.{same_got}
 use Rattle.epoch_links.specs.Links.{AreLastAtMost, AreLinkedOver, EndsHave}
 
 none_before : (xs ys : List ℕ) → ys ≡ xs ++ ys → xs ≡ []
@@ -62,3 +64,27 @@ lists_linked host r waiting front found loads in_time =
       banners = sym (take-append-drop n moments);
       in_time = in_time;
     }
+
+-- ---- two ports that agree
+
+module _ (host : hosts.Journal) (r : Epochs) (a : PortsAgree (hosts.port_log host) (ports.link_steps (log_of r)) (ports.has_closed_in (log_of r))) where
+  pub ports_linked : AreLinkedOver host r
+  ports_linked = record {
+    rest = a.unread;
+    front = a.bytes ∙ ap (λ (bytes : List ℕ). bytes ++ a.unread) (sym (taken_back (log_of r)));
+    closes = a.closes;
+    all = a.all;
+    loads = a.loads;
+    ungot = a.ungot;
+    of_got = a.of_got;
+    banners = a.moments;
+    in_time = a.in_time;
+  }
+
+  pub ports_answered : AreAnsweredOver host r
+  ports_answered = record {
+    rest = reverse a.untaken;
+    is =
+        answered_back (log_of r) ∙ (ap (λ (rs : List Reply). reverse rs) a.replies ∙ (reverse-append a.untaken (hosts.latest_got (hosts.port_log host))
+        ∙ ap (λ (rs : List Reply). rs ++ reverse a.untaken) (sym (same_got (hosts.port_log host)))));
+  }

@@ -16,6 +16,7 @@ ghost use Rattle.serial_ring.specs.Rule.{AreTied};
 ghost use Rattle.status_report.specs.declared.Reply.{Reply as AnyReply};
 ghost use Rattle.step_line.specs.Logs.{NewestFirst};
 ghost use Rattle.stream_host.specs.Conduct.{Conducted as HostConducted};
+ghost use Rattle.stream_host.specs.Ports.{PortsAgree};
 ghost use Rattle.stream_host.specs.Steps.{Journal as HostJournal, port_log, stored_of, stored_at_banners, marks_of, is_shut, has_limit, cut_of, raw_of, resets_of};
 ghost use Rattle.board_rules.specs.Ports.{taken_in, link_steps, has_closed_in};
 ghost use Rattle.board_epochs.specs.Epochs.{Closed, Epochs, AreClosed, AreEpochs, closed_log, log_of};
@@ -58,12 +59,13 @@ pub fn links_are_cut_at_the_same_places()
 
 /// The lists of the two ends of one link, which are brought together, go together so: a front of the bytes is taken, each mark that was
 /// loaded was stored, no byte was taken before it was stored, and the replies got are the first of those answered. Those of a link that is
-/// plain lists do, where what was stored is what was taken and what waits.
+/// plain lists do, where what was stored is what was taken and what waits. So do those of any link of which the logs of the ports agree.
 pub fn ends_of_a_link_are_linked()
     ensures linked { (room : ℕ) (stored marks : List ℕ) (closed : Bool) (log : List AnyStep) (over : Bool) (got : List AnyReply) (greeted : List LinkMark) (moments : List ℕ) (host : HostJournal) (r : Epochs) →
         AreTied room stored marks closed log over got greeted moments → EndsHave stored marks closed log over got moments host r → AreLinkedOver host r }
     ensures answered { (room : ℕ) (stored marks : List ℕ) (closed : Bool) (log : List AnyStep) (over : Bool) (got : List AnyReply) (greeted : List LinkMark) (moments : List ℕ) (host : HostJournal) (r : Epochs) →
         AreTied room stored marks closed log over got greeted moments → EndsHave stored marks closed log over got moments host r → AreAnsweredOver host r }
+    ensures ports { (host : HostJournal) (r : Epochs) → PortsAgree (port_log host) (link_steps (log_of r)) (has_closed_in (log_of r)) → AreLinkedOver host r × AreAnsweredOver host r }
     ensures lists { (host : HostJournal) (r : Epochs) (waiting : List ℕ) → stored_of host ≡ taken_in (log_of r) ++ waiting → (has_closed_in (log_of r) ≡ true → (is_shut host ≡ true) × (waiting ≡ [])) →
         AreMarks (marks_of host) (marked_in (link_steps (log_of r))) → AreLastAtMost (taken_at_banners (link_steps (log_of r))) (stored_at_banners (port_log host)) → AreLinkedOver host r }
 {}
