@@ -23,7 +23,7 @@ ghost use Rattle.step_line.specs.Asking.{IsPlannedMove};
 ghost use Rattle.step_line.specs.Asking.Asked.{a_move};
 ghost use Rattle.step_line.specs.declared.planned_move.PlannedMove.{PlannedMove as AnyMove};
 ghost use Rattle.line_interpreter.specs.Desks.{IsReady, standing, Begun};
-ghost use Rattle.line_interpreter.specs.Resets.{parser_anew};
+ghost use Rattle.line_interpreter.specs.Resets.{state_anew};
 
 use crate::kept::KeptLine;
 use crate::tasks::{Body, Line, Todo};
@@ -65,6 +65,24 @@ fn fault_number(fault: WordFault) -> u8
     match fault {
         WordFault::Letter => 1,
         WordFault::Number => 2,
+    }
+}
+
+/// What a reset leaves of a state, with the machine at this place: the settings, and the offsets but that of G92. All else of
+/// the parser begins anew there.
+fn state_anew(state: State, at: Steps3) -> State
+    requires state { IsState state }
+    requires place { IsPlace at }
+    ensures is { result ≡ state_anew at state }
+    ensures valid { IsState result }
+{
+    let mut parser = Parser::opening();
+    parser.offsets = state.parser.offsets;
+    parser.offsets.g92 = Nm3 { x: 0, y: 0, z: 0 };
+    parser.rebase(at, &state.settings.limits.per_mm);
+    State {
+        parser,
+        settings: state.settings,
     }
 }
 
@@ -343,18 +361,27 @@ impl Desk {
         self.begin(Body::Closing);
     }
 
-    /// Lines are judged from this state on, behind so many more lines; what greets behind a reset is to be told.
-    pub(crate) fn open_behind(&mut self, state: State, dropped: u32, alarm: bool, locked: bool)
+    /// A reset is worked behind the answered lines, which leave this state, with the machine at this place: lines are judged
+    /// from what the reset leaves on, behind so many more lines, and what greets behind it is to be told.
+    pub(crate) fn open_behind(
+        &mut self,
+        answered: State,
+        at: Steps3,
+        dropped: u32,
+        alarm: bool,
+        locked: bool,
+    )
         requires ready { IsReady self.old }
-        requires state { IsState state }
+        requires state { IsState answered }
+        requires place { IsPlace at }
         requires few { self.old.number + dropped < 2 ^ 32 }
-        ensures same { self.new ≡ record self.old { state = state; number = self.old.number + dropped; line = self.new.line } }
+        ensures same { self.new ≡ record self.old { state = state_anew at answered; number = self.old.number + dropped; line = self.new.line } }
         ensures left { work_left self.new.line self.new.state ≡ telling (greeting alarm locked) }
         ensures ready { IsReady self.new }
         ensures settled { IsSettled self.new.line self.new.state }
     {
         self.begin(Body::Greets(alarm, locked));
-        self.state = state;
+        self.state = state_anew(answered, at);
         self.number += dropped;
     }
 
@@ -414,27 +441,6 @@ impl Desk {
         self.state
             .parser
             .rebase(at, &self.state.settings.limits.per_mm);
-    }
-
-    /// A reset leaves the offsets but that of G92, and the settings; all else of the parser begins anew, at the place. The banner
-    /// is to be told.
-    pub(crate) fn reset(&mut self, at: Steps3, number: u32)
-        requires place { IsPlace at }
-        requires number { 1 ≤ number }
-        requires ready { IsReady self.old }
-        ensures state { self.new.state ≡ record { parser = parser_anew at self.old.state.parser self.old.state.settings.limits.per_mm; settings = self.old.state.settings } }
-        ensures number { self.new.number ≡ number }
-        ensures left { work_left self.new.line self.new.state ≡ telling (Reply.Banner ∷ []) }
-        ensures ready { IsReady self.new }
-        ensures settled { IsSettled self.new.line self.new.state }
-    {
-        let mut parser = Parser::opening();
-        parser.offsets = self.state.parser.offsets;
-        parser.offsets.g92 = Nm3 { x: 0, y: 0, z: 0 };
-        parser.rebase(at, &self.state.settings.limits.per_mm);
-        self.state.parser = parser;
-        self.number = number;
-        self.line = Line::opening();
     }
 
     /// What there was to do next is done.

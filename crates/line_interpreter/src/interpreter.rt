@@ -21,7 +21,7 @@ ghost use Rattle.step_line.specs.Asking.Asked.{a_move};
 ghost use Rattle.step_line.specs.declared.planned_move.PlannedMove.{PlannedMove as AnyMove};
 ghost use Rattle.line_interpreter.specs.Interpreting.{stands_before};
 ghost use Rattle.line_interpreter.specs.Desks.{kind_told};
-ghost use Rattle.line_interpreter.specs.Resets.{parser_anew};
+ghost use Rattle.line_interpreter.specs.Resets.{state_anew};
 
 use crate::desk::{Accepted, Desk};
 use crate::kept::KeptLine;
@@ -86,14 +86,24 @@ impl Interpreter {
         self.desk.close();
     }
 
-    /// A reset is worked: lines are judged from this state on, behind so many more lines. Its alarm is told, where there is
-    /// one, and the banner, and that the machine is locked, where it is. What was left to do is dropped.
-    pub fn open_behind(&mut self, state: State, dropped: u32, alarm: bool, locked: bool)
-        requires state { IsState state }
+    /// A reset is worked behind the answered lines, which leave this state, with the machine at this place, in steps from its
+    /// zero. Of the state its settings stay, and its offsets but that of G92; all else of the parser begins anew there. So
+    /// many more lines were dropped. The reset's alarm is told, where there is one, the banner, and that the machine is
+    /// locked, where it is. What was left to do is dropped.
+    pub fn open_behind(
+        &mut self,
+        answered: State,
+        at: Steps3,
+        dropped: u32,
+        alarm: bool,
+        locked: bool,
+    )
+        requires state { IsState answered }
+        requires place { IsPlace at }
         requires few { self.old.number + dropped < 2 ^ 32 }
-        ensures { self.new ≡ record { state = state; number = self.old.number + dropped; left = telling (greeting alarm locked) } }
+        ensures { self.new ≡ record { state = state_anew at answered; number = self.old.number + dropped; left = telling (greeting alarm locked) } }
     {
-        self.desk.open_behind(state, dropped, alarm, locked);
+        self.desk.open_behind(answered, at, dropped, alarm, locked);
     }
 
     /// What there is to do next; nothing exactly where nothing is left.
@@ -157,7 +167,8 @@ impl Interpreter {
     /// The state behind the lines that were begun.
     #[inline]
     pub fn state(&self) -> State
-        ensures { result ≡ self.now.state }
+        ensures is { result ≡ self.now.state }
+        ensures valid { IsState result }
     {
         self.desk.state
     }
@@ -177,20 +188,6 @@ impl Interpreter {
         ensures { self.new ≡ record self.old { state = record self.old.state { parser = rebased self.old.state.parser at self.old.state.settings.limits.per_mm } } }
     {
         self.desk.rebase(at);
-    }
-
-    /// A reset comes: the parser begins anew at this place, in steps from the machine's zero, with its offsets but that of G92; the
-    /// settings stay. The next line has this number, and the banner is to be told. What was left to do is not done.
-    pub fn reset(&mut self, at: Steps3, number: u32)
-        requires place { IsPlace at }
-        requires number { 1 ≤ number }
-        ensures { self.new ≡ record {
-          state = record { parser = parser_anew at self.old.state.parser self.old.state.settings.limits.per_mm; settings = self.old.state.settings };
-          number = number;
-          left = telling (replies.Banner ∷ []);
-        } }
-    {
-        self.desk.reset(at, number);
     }
 
     /// What there was to do next is done.
