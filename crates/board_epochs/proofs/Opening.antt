@@ -29,12 +29,12 @@ stands : (locked : Bool) → stands_still (cond locked motions.Alarm motions.Idl
 stands true = refl
 stands false = refl
 
-behind : (r : Reset) (s : State) → MayOpen (opens_behind r s)
-behind r s = let g = greets r.number r.dropped r.alarm r.locked r refl refl in record { stands = stands r.locked; greets = g.0; banner = g.1; few = g.2 }
+pub opens_next : (r : Reset) (s : State) → MayOpen (opens_behind r s)
+opens_next r s = let g = greets r.number r.dropped r.alarm r.locked r refl refl in record { stands = stands r.locked; greets = g.0; banner = g.1; few = g.2 }
 
 pub opens : (state : State) (es : NewestFirst Closed) → MayOpen (opening_behind state es)
 opens state [] = record { stands = refl; greets = (record { answers = refl; reports = refl; parts = refl }, tt); banner = refl; few = omega arith }
-opens state (e ∷ es) = behind (reset_of (ticks_made es) (opening_behind state es) e.journal e.work) (answered_state (opening_behind state es) e.journal)
+opens state (e ∷ es) = opens_next (reset_of (ticks_made es) (opening_behind state es) e.journal e.work) (answered_state (opening_behind state es) e.journal)
 
 pub placed : (state : State) (es : NewestFirst Closed) → IsOpening state → IsPlaced (opening_behind state es)
 placed state [] opening = sym (ap (λ (p : Parser). p.pos_steps) opening.parser)
