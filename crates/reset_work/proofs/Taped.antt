@@ -15,32 +15,38 @@ use Rattle.board_rules.specs.Ports.{BoardLog, IsMarkedPast, MayBeDone, link_step
 use Rattle.board_rules.specs.Ports.PortStep.{found_mark, published, loaded}
 use Rattle.reset_work.specs.Tapes.{IsTape}
 
-pub answers : (left ticks done : ℕ) (l : BoardLog) (r : Reply) → IsTape left ticks done l → IsTape left ticks done (said r ∷ l)
-answers left ticks done l (replies.Report x) t = record { bytes = t.bytes; marks = t.marks; ticks_are = t.ticks_are; known = t.known; below = t.below; few = t.few }
-answers left ticks done l r t = record { bytes = t.bytes; marks = t.marks; ticks_are = t.ticks_are; known = t.known; below = t.below; few = t.few }
+pub answers : (stored left ticks done : ℕ) (l : BoardLog) (r : Reply) → IsTape stored left ticks done l → IsTape stored left ticks done (said r ∷ l)
+answers stored left ticks done l (replies.Report x) t = record { bytes = t.bytes; marks = t.marks; ticks_are = t.ticks_are; known = t.known; below = t.below; few = t.few }
+answers stored left ticks done l r t = record { bytes = t.bytes; marks = t.marks; ticks_are = t.ticks_are; known = t.known; below = t.below; few = t.few }
 
-none_past : (n bytes : ℕ) (earlier : Type 0) → bytes ≤ 3 → (earlier → n < 3) → (n < bytes) ⊎ earlier → n < 3
-none_past n bytes earlier few before (inl past) = omega (arith, past, few)
-none_past n bytes earlier few before (inr past) = before past
+none_past : (stored n bytes : ℕ) (earlier : Type 0) → bytes ≤ stored → (earlier → n < stored) → (n < bytes) ⊎ earlier → n < stored
+none_past stored n bytes earlier few before (inl past) = omega (arith, past, few)
+none_past stored n bytes earlier few before (inr past) = before past
 
-pub marks : (left ticks done m bytes : ℕ) (l : BoardLog) → bytes ≤ 3 → IsTape left ticks done l → IsTape left ticks done (found_mark m bytes ∷ l)
-marks left ticks done m bytes l few t =
-    record { bytes = t.bytes; marks = λ n past. none_past n bytes (MarkedPast n (marked_in (link_steps l))) few (t.marks n) past; ticks_are = t.ticks_are; known = t.known; below = t.below; few = t.few }
+pub marks : (stored left ticks done m bytes : ℕ) (l : BoardLog) → bytes ≤ stored → IsTape stored left ticks done l → IsTape stored left ticks done (found_mark m bytes ∷ l)
+marks stored left ticks done m bytes l few t =
+    record { bytes = t.bytes; marks = λ n past. none_past stored n bytes (MarkedPast n (marked_in (link_steps l))) few (t.marks n) past; ticks_are = t.ticks_are; known = t.known; below = t.below; few = t.few }
 
-pub not_empty : {A : Type 0} (ticks done : ℕ) (l : BoardLog) → IsTape 0 ticks done l → IsMarkedPast l → A
-not_empty ticks done l t past = absurd (let n = t.marks _ past in let b = t.bytes in omega (arith, n, b))
+pub not_empty : {A : Type 0} (stored ticks done : ℕ) (l : BoardLog) → IsTape stored 0 ticks done l → IsMarkedPast l → A
+not_empty stored ticks done l t past = absurd (let n = t.marks _ past in let b = t.bytes in omega (arith, n, b))
+
+-- more is stored
+pub stores : (stored left ticks done n : ℕ) (l : BoardLog) → IsTape stored left ticks done l → IsTape (stored + n) (left + n) ticks done l
+stores stored left ticks done n l t =
+    let b = t.bytes in
+    record { bytes = omega (arith, b); marks = λ m past. let e = t.marks m past in omega (arith, e); ticks_are = t.ticks_are; known = t.known; below = t.below; few = t.few }
 
 -- ---- what is done
 
-pub later_done : (left ticks done later : ℕ) (l : BoardLog) → done ≤ later → later ≤ ticks → IsTape left ticks done l → IsTape left ticks later (loaded later ∷ l)
-later_done left ticks done later l le within t =
+pub later_done : (stored left ticks done later : ℕ) (l : BoardLog) → done ≤ later → later ≤ ticks → IsTape stored left ticks done l → IsTape stored left ticks later (loaded later ∷ l)
+later_done stored left ticks done later l le within t =
     let s = sent_in l in
     let few = t.few in
     let f = fewer_later (reverse s.since) (done - ring.ticks_at s.halts) (later - ring.ticks_at s.halts) (omega (arith, le)) in
     record { bytes = t.bytes; marks = t.marks; ticks_are = t.ticks_are; known = omega arith; below = within; few = omega (arith, few, f) }
 
-pub may_be_done : (left ticks done later : ℕ) (l : BoardLog) → done ≤ later → later ≤ ticks → IsTape left ticks done l → MayBeDone later l
-may_be_done left ticks done later l le within t =
+pub may_be_done : (stored left ticks done later : ℕ) (l : BoardLog) → done ≤ later → later ≤ ticks → IsTape stored left ticks done l → MayBeDone later l
+may_be_done stored left ticks done later l le within t =
     let s = sent_in l in
     let few = t.few in let known = t.known in let is = t.ticks_are in
     let f = fewer_later (reverse s.since) (done - ring.ticks_at s.halts) (later - ring.ticks_at s.halts) (omega (arith, le)) in
@@ -64,8 +70,8 @@ last_alone (q ∷ ps) p done all =
     let behind = last_alone ps p (done - tick_count q) (omega (arith, e, all)) in
     omega (arith, here, behind)
 
-pub publishes : (left ticks done n : ℕ) (l : BoardLog) (p : Piece) → n ≡ tick_count p → IsTape left ticks done l → IsTape left (ticks + n) ticks (published p ∷ l)
-publishes left ticks done n l p is t =
+pub publishes : (stored left ticks done n : ℕ) (l : BoardLog) (p : Piece) → n ≡ tick_count p → IsTape stored left ticks done l → IsTape stored left (ticks + n) ticks (published p ∷ l)
+publishes stored left ticks done n l p is t =
     let s = sent_in l in
     let e = together p s.since in
     let all = t.ticks_are in let known = t.known in let below = t.below in

@@ -12,15 +12,16 @@ use Rattle.board_epochs.specs.Work.{Work}
 use Rattle.reset_work.specs.declared.reset.ResetWork.{ResetWork}
 use Rattle.reset_work.specs.Working.{IsBetween}
 
--- Of three bytes so many are left. So many ticks are published, and so many of them are done: of all pieces but the last, at least.
-pub record IsTape (left ticks done : ℕ) (l : BoardLog) : Type 0 where
-  pub bytes : length (taken_in l) + left ≡ 3
-  pub marks : (n : ℕ) → MarkedPast n (marked_in (link_steps l)) → n < 3
+-- Of the bytes that are stored so many are left, and no mark is behind more of them. So many ticks are published, and so many of them are
+-- done: of all pieces but the last, at least.
+pub record IsTape (stored left ticks done : ℕ) (l : BoardLog) : Type 0 where
+  pub bytes : length (taken_in l) + left ≡ stored
+  pub marks : (n : ℕ) → MarkedPast n (marked_in (link_steps l)) → n < stored
   pub ticks_are : ring.ticks_published (sent_in l) ≡ ticks
   pub known : known_in l ≤ done
   pub below : done ≤ ticks
   pub few : ring.unfinished_in (sent_in l) done ≤ 1
 
--- a reset is worked on it, between two turns
+-- a reset is worked on one with three bytes, between two turns
 abbrev pub IsWorkedOn : (left ticks done : ℕ) → ResetWork → Type 0
-IsWorkedOn left ticks done it = (state : State) × (es : NewestFirst Closed) × (h : Journal) × (w : Work) × IsBetween (IsTape left ticks done) it state es h w
+IsWorkedOn left ticks done it = (state : State) × (es : NewestFirst Closed) × (h : Journal) × (w : Work) × IsBetween (IsTape 3 left ticks done) it state es h w

@@ -51,7 +51,7 @@ impl Tape {
 impl BoardPort for Tape {
     ghost Rest = { Unit {0} };
 
-    ghost stands = { λ tape rest l. IsTape tape.left tape.ticks tape.done l };
+    ghost stands = { λ tape rest l. IsTape 3 tape.left tape.ticks tape.done l };
 
     fn byte(&mut self) -> ByteIn {
         if self.left == 0 {
