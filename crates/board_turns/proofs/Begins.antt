@@ -162,7 +162,6 @@ begun first was now t h o j none is other still =
       input = j.reads;
       flight = record { known = k.flight.known; found = k.flight.found; flies = k.flight.flies };
       owes_is = k.owes_is;
-      reset_is = k.reset_is;
       resetting_is = k.resetting_is;
       taken_is = k.taken_is;
       answered_is = k.answered_is;
@@ -250,7 +249,6 @@ begun_limited first was now m h o j none is runs =
       input = j.reads;
       flight = record { known = k.flight.known; found = k.flight.found; flies = k.flight.flies };
       owes_is = k.owes_is;
-      reset_is = k.reset_is;
       resetting_is = k.resetting_is;
       taken_is = k.taken_is;
       answered_is = k.answered_is;
@@ -290,7 +288,6 @@ begun_unlocked first was now m h o j none alarm one runs =
       input = j.reads;
       flight = record { known = k.flight.known; found = k.flight.found; flies = k.flight.flies };
       owes_is = k.owes_is;
-      reset_is = k.reset_is;
       resetting_is = k.resetting_is;
       taken_is = k.taken_is;
       answered_is = k.answered_is;

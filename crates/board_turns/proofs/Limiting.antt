@@ -177,7 +177,6 @@ halts first c m i h k at alarm runs is = record {
   input = k.input;
   flight = record { known = k.flight.known; found = k.flight.found; flies = k.flight.flies };
   owes_is = k.owes_is;
-  reset_is = k.reset_is;
   resetting_is = k.resetting_is;
   taken_is = k.taken_is;
   answered_is = k.answered_is;

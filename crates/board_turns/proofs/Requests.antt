@@ -7,7 +7,7 @@ use Rattle.feed_hold.specs.Motions.Call.{on_exec}
 use Rattle.board_rules.specs.Openings.{Opening}
 use Rattle.overrides.specs.Percents.{IsOverrides, taken}
 use Rattle.planner_runs.specs.declared.Action.TheVariants.{Override}
-use Rattle.board_rules.specs.Ports.{has_changes, has_reset_in}
+use Rattle.board_rules.specs.Ports.{has_changes}
 use Rattle.board_rules.specs.Ports.PortStep.{took_exec, took_ovr}
 use Rattle.board_rules.specs.Steps.{Journal, has_limited, port_log, given_of, hand_of, plan_of, motion_of}
 use Rattle.board_rules.specs.Steps.Step.{at_port, did, became}
@@ -24,9 +24,9 @@ use Rattle.board_turns.specs.Boards.{Keeps}
 use Rattle.board_rules.proofs.Uncut.{cut_obeyed}
 
 -- a word of requests is taken
-pub takes_word : (first : Opening) (c : Board) (owes reset resetting : Bool) (word : Exec) (h : Journal) → Keeps first c h → MayTakeRequests word h → owes ≡ owes_report (at_port (took_exec word) ∷ h)
-    → reset ≡ has_reset_in (port_log (at_port (took_exec word) ∷ h)) → resetting ≡ has_reset (at_port (took_exec word) ∷ h) → Keeps first (record c { owes = owes; reset = reset; resetting = resetting }) (at_port (took_exec word) ∷ h)
-takes_word first c owes reset resetting word h k may is resets asks = record {
+pub takes_word : (first : Opening) (c : Board) (owes resetting : Bool) (word : Exec) (h : Journal) → Keeps first c h → MayTakeRequests word h → owes ≡ owes_report (at_port (took_exec word) ∷ h)
+    → resetting ≡ has_reset (at_port (took_exec word) ∷ h) → Keeps first (record c { owes = owes; resetting = resetting }) (at_port (took_exec word) ∷ h)
+takes_word first c owes resetting word h k may is asks = record {
   placed = k.placed;
   short = k.short;
   conducted = (may, k.conducted);
@@ -35,7 +35,6 @@ takes_word first c owes reset resetting word h k may is resets asks = record {
   input = k.input;
   flight = record { known = k.flight.known; found = k.flight.found; flies = k.flight.flies };
   owes_is = is;
-  reset_is = resets;
   resetting_is = asks;
   taken_is = k.taken_is;
   answered_is = k.answered_is;
@@ -71,7 +70,6 @@ obeys first c m word h k may runs = record {
   input = k.input;
   flight = record { known = k.flight.known; found = k.flight.found; flies = k.flight.flies };
   owes_is = k.owes_is;
-  reset_is = k.reset_is;
   resetting_is = k.resetting_is;
   taken_is = k.taken_is;
   answered_is = k.answered_is;
@@ -98,7 +96,6 @@ takes_changes first c word h k = record {
   input = k.input;
   flight = record { known = k.flight.known; found = k.flight.found; flies = k.flight.flies };
   owes_is = k.owes_is;
-  reset_is = k.reset_is;
   resetting_is = k.resetting_is;
   taken_is = k.taken_is;
   answered_is = k.answered_is;
@@ -130,7 +127,6 @@ changes first c m word h k some range runs = record {
   input = k.input;
   flight = record { known = k.flight.known; found = k.flight.found; flies = k.flight.flies };
   owes_is = k.owes_is;
-  reset_is = k.reset_is;
   resetting_is = k.resetting_is;
   taken_is = k.taken_is;
   answered_is = k.answered_is;

@@ -62,7 +62,6 @@ sent first c m f p h k is timely runs flies = record {
   input = k.input;
   flight = record { known = k.flight.known; found = k.flight.found; flies = flies k.flight.known k.flight.flies };
   owes_is = k.owes_is;
-  reset_is = k.reset_is;
   resetting_is = k.resetting_is;
   taken_is = k.taken_is;
   answered_is = k.answered_is;
@@ -89,7 +88,6 @@ not_sent first c done h k some full = record {
   input = k.input;
   flight = record { known = k.flight.known; found = k.flight.found; flies = k.flight.flies };
   owes_is = k.owes_is;
-  reset_is = k.reset_is;
   resetting_is = k.resetting_is;
   taken_is = k.taken_is;
   answered_is = k.answered_is;
@@ -116,7 +114,6 @@ looked first c done h k may = record {
   input = k.input;
   flight = record { known = k.flight.known; found = let a = k.flight.found in let b = may.later in omega (arith, a, b); flies = k.flight.flies };
   owes_is = k.owes_is;
-  reset_is = k.reset_is;
   resetting_is = k.resetting_is;
   taken_is = k.taken_is;
   answered_is = k.answered_is;
@@ -153,7 +150,6 @@ told first c i s r h k next plain unowed empty is state = record {
   input = k.input;
   flight = record { known = k.flight.known; found = k.flight.found; flies = k.flight.flies };
   owes_is = k.owes_is;
-  reset_is = k.reset_is;
   resetting_is = k.resetting_is;
   taken_is = k.taken_is;
   answered_is = state ∙ ap (λ (x : State). cond (is_answer r) x c.answered) k.lines.state_is ∙ ap (cond (is_answer r) (before_of first h).state) k.answered_is;
@@ -180,7 +176,6 @@ not_told first c h k next = record {
   input = k.input;
   flight = record { known = k.flight.known; found = k.flight.found; flies = k.flight.flies };
   owes_is = k.owes_is;
-  reset_is = k.reset_is;
   resetting_is = k.resetting_is;
   taken_is = k.taken_is;
   answered_is = k.answered_is;
@@ -207,7 +202,6 @@ report_told first c r h k may = record {
   input = k.input;
   flight = record { known = k.flight.known; found = k.flight.found; flies = k.flight.flies };
   owes_is = refl;
-  reset_is = k.reset_is;
   resetting_is = k.resetting_is;
   taken_is = k.taken_is;
   answered_is = k.answered_is;
@@ -238,7 +232,6 @@ report_kept first c h k owed = record {
   input = k.input;
   flight = record { known = k.flight.known; found = k.flight.found; flies = k.flight.flies };
   owes_is = sym owed;
-  reset_is = k.reset_is;
   resetting_is = k.resetting_is;
   taken_is = k.taken_is;
   answered_is = k.answered_is;
@@ -265,7 +258,6 @@ polled_empty first c h k may = record {
   input = k.input;
   flight = record { known = k.flight.known; found = k.flight.found; flies = k.flight.flies };
   owes_is = k.owes_is;
-  reset_is = k.reset_is;
   resetting_is = k.resetting_is;
   taken_is = k.taken_is;
   answered_is = k.answered_is;
@@ -292,7 +284,6 @@ polled_closed first c h k may = record {
   input = k.input;
   flight = record { known = k.flight.known; found = k.flight.found; flies = k.flight.flies };
   owes_is = k.owes_is;
-  reset_is = k.reset_is;
   resetting_is = k.resetting_is;
   taken_is = k.taken_is;
   answered_is = k.answered_is;
@@ -322,7 +313,6 @@ added_move first c m i mv h k next planned room runs is = record {
   input = k.input;
   flight = record { known = k.flight.known; found = k.flight.found; flies = k.flight.flies };
   owes_is = k.owes_is;
-  reset_is = k.reset_is;
   resetting_is = k.resetting_is;
   taken_is = k.taken_is;
   answered_is = k.answered_is;
@@ -368,7 +358,6 @@ took_segment first c m s h k moves empty next runs = record {
   input = k.input;
   flight = record { known = k.flight.known; found = k.flight.found; flies = k.flight.flies };
   owes_is = k.owes_is;
-  reset_is = k.reset_is;
   resetting_is = k.resetting_is;
   taken_is = k.taken_is;
   answered_is = k.answered_is;
@@ -408,7 +397,6 @@ marked first c m i mark h k next good empty rest runs is = record {
   input = k.input;
   flight = record { known = k.flight.known; found = k.flight.found; flies = k.flight.flies };
   owes_is = k.owes_is;
-  reset_is = k.reset_is;
   resetting_is = k.resetting_is;
   taken_is = k.taken_is;
   answered_is = k.answered_is;
@@ -436,7 +424,6 @@ rested first c i h k next drained stands is = record {
   input = k.input;
   flight = record { known = k.flight.known; found = k.flight.found; flies = k.flight.flies };
   owes_is = k.owes_is;
-  reset_is = k.reset_is;
   resetting_is = k.resetting_is;
   taken_is = k.taken_is;
   answered_is = k.answered_is;
@@ -465,7 +452,6 @@ evens first c m i h k next drained stands runs is = record {
   input = k.input;
   flight = record { known = k.flight.known; found = k.flight.found; flies = k.flight.flies };
   owes_is = k.owes_is;
-  reset_is = k.reset_is;
   resetting_is = k.resetting_is;
   taken_is = k.taken_is;
   answered_is = k.answered_is;
@@ -493,7 +479,6 @@ held_for_pause first c m i h k next drained stands runs is = record {
   input = k.input;
   flight = record { known = k.flight.known; found = k.flight.found; flies = k.flight.flies };
   owes_is = k.owes_is;
-  reset_is = k.reset_is;
   resetting_is = k.resetting_is;
   taken_is = k.taken_is;
   answered_is = k.answered_is;
@@ -522,7 +507,6 @@ ended first c m i h k next drained stands closes runs is = record {
   input = k.input;
   flight = record { known = k.flight.known; found = k.flight.found; flies = k.flight.flies };
   owes_is = k.owes_is;
-  reset_is = k.reset_is;
   resetting_is = k.resetting_is;
   taken_is = k.taken_is;
   answered_is = k.answered_is;
@@ -556,7 +540,6 @@ started first c m jog h k stands may runs = record {
   input = k.input;
   flight = record { known = k.flight.known; found = k.flight.found; flies = k.flight.flies };
   owes_is = k.owes_is;
-  reset_is = k.reset_is;
   resetting_is = k.resetting_is;
   taken_is = k.taken_is;
   answered_is = k.answered_is;
@@ -594,7 +577,6 @@ drained first c m h k was may runs = record {
   input = k.input;
   flight = record { known = k.flight.known; found = k.flight.found; flies = k.flight.flies };
   owes_is = k.owes_is;
-  reset_is = k.reset_is;
   resetting_is = k.resetting_is;
   taken_is = k.taken_is;
   answered_is = k.answered_is;

@@ -58,7 +58,6 @@ stops first c m h k slows stopped runs = record {
   input = k.input;
   flight = record { known = k.flight.known; found = k.flight.found; flies = k.flight.flies };
   owes_is = k.owes_is;
-  reset_is = k.reset_is;
   resetting_is = k.resetting_is;
   taken_is = k.taken_is;
   answered_is = k.answered_is;
@@ -101,7 +100,6 @@ locks first c m h k slows stopped runs = record {
   input = k.input;
   flight = record { known = k.flight.known; found = k.flight.found; flies = k.flight.flies };
   owes_is = k.owes_is;
-  reset_is = k.reset_is;
   resetting_is = k.resetting_is;
   taken_is = k.taken_is;
   answered_is = k.answered_is;
@@ -132,7 +130,6 @@ cancel_over first c m h k cancelled was found runs = record {
   input = k.input;
   flight = record { known = k.flight.known; found = k.flight.found; flies = k.flight.flies };
   owes_is = k.owes_is;
-  reset_is = k.reset_is;
   resetting_is = k.resetting_is;
   taken_is = k.taken_is;
   answered_is = k.answered_is;
@@ -237,7 +234,6 @@ cut_made first c m i k at h keeps uncut found number place left same state runs 
   input = keeps.input;
   flight = record { known = keeps.flight.known; found = keeps.flight.found; flies = keeps.flight.flies };
   owes_is = keeps.owes_is;
-  reset_is = keeps.reset_is;
   resetting_is = keeps.resetting_is;
   taken_is = keeps.taken_is;
   answered_is = keeps.answered_is;

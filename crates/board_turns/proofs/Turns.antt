@@ -35,7 +35,6 @@ closes first c i h k unreset may is = record {
   input = k.input;
   flight = record { known = k.flight.known; found = k.flight.found; flies = k.flight.flies };
   owes_is = k.owes_is;
-  reset_is = k.reset_is;
   resetting_is = k.resetting_is;
   taken_is = k.taken_is;
   answered_is = k.answered_is;
@@ -62,7 +61,6 @@ ends first c f t h k may = record {
   input = k.input;
   flight = record { known = k.flight.known; found = k.flight.found; flies = k.flight.flies };
   owes_is = k.owes_is;
-  reset_is = k.reset_is;
   resetting_is = k.resetting_is;
   taken_is = k.taken_is;
   answered_is = k.answered_is;
@@ -88,7 +86,6 @@ begins_turn first c h k unready = record {
   input = k.input;
   flight = record { known = k.flight.known; found = k.flight.found; flies = k.flight.flies };
   owes_is = k.owes_is;
-  reset_is = k.reset_is;
   resetting_is = k.resetting_is;
   taken_is = k.taken_is;
   answered_is = k.answered_is;
@@ -115,7 +112,6 @@ room_found first c bytes h k = record {
   input = k.input;
   flight = record { known = k.flight.known; found = k.flight.found; flies = k.flight.flies };
   owes_is = k.owes_is;
-  reset_is = k.reset_is;
   resetting_is = k.resetting_is;
   taken_is = k.taken_is;
   answered_is = k.answered_is;
@@ -142,7 +138,6 @@ other_beat first c b h k = record {
   input = k.input;
   flight = record { known = k.flight.known; found = k.flight.found; flies = k.flight.flies };
   owes_is = k.owes_is;
-  reset_is = k.reset_is;
   resetting_is = k.resetting_is;
   taken_is = k.taken_is;
   answered_is = k.answered_is;
@@ -168,7 +163,6 @@ other_flags first c f h k = record {
   input = k.input;
   flight = record { known = k.flight.known; found = k.flight.found; flies = k.flight.flies };
   owes_is = k.owes_is;
-  reset_is = k.reset_is;
   resetting_is = k.resetting_is;
   taken_is = k.taken_is;
   answered_is = k.answered_is;
@@ -195,7 +189,6 @@ other_flight first c f h k flown = record {
   input = k.input;
   flight = flown;
   owes_is = k.owes_is;
-  reset_is = k.reset_is;
   resetting_is = k.resetting_is;
   taken_is = k.taken_is;
   answered_is = k.answered_is;

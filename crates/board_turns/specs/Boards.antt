@@ -13,7 +13,6 @@ use Rattle.code_table.specs.declared.flags.Exec.{Exec}
 use Rattle.std.specs.Option.{option_to_list}
 use Rattle.std.specs.declared.option.Option.{Option}
 use Rattle.board_rules.specs.Openings.{Opening, IsPlaced}
-use Rattle.board_rules.specs.Ports.{has_reset_in}
 use Rattle.board_rules.specs.Steps.{Step, Journal, port_log, taken_of, has_limited, published_of, known_of, open_of, whole_of, before_of, left_of, closed_tells, given_of, hand_of, plan_of, motion_of}
 use Rattle.board_rules.specs.Steps.Step.{turned}
 use Rattle.board_rules.specs.Turns.{this_turn, unobeyed_of, owes_report, moving, is_full, is_halting, awaits_unlock, awaits_motion, has_jogged, changes_taken, flags_taken, tries_of, missed_of, waits_of}
@@ -63,7 +62,6 @@ pub record Keeps (first : Opening) (board : Board) (h : Journal) : Type 0 where
   pub input : Reads board.input (open_of h) (whole_of h)
   pub flight : IsFlown first board.flight h
   pub owes_is : board.owes ≡ owes_report h
-  pub reset_is : board.reset ≡ has_reset_in (port_log h)
   pub resetting_is : board.resetting ≡ has_reset h
   pub taken_is : board.taken ≡ length (taken_of h)
   pub answered_is : board.answered ≡ answered_state first h
@@ -88,7 +86,6 @@ pub record KeepsBetween (first : Opening) (board : Board) (h : Journal) : Type 0
   pub input : Reads board.input (open_of h) (whole_of h)
   pub flight : IsFlown first board.flight h
   pub owes_is : board.owes ≡ owes_report h
-  pub reset_is : board.reset ≡ has_reset_in (port_log h)
   pub resetting_is : board.resetting ≡ has_reset h
   pub taken_is : board.taken ≡ length (taken_of h)
   pub answered_is : board.answered ≡ answered_state first h

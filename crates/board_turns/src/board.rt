@@ -64,7 +64,6 @@ pub struct Board {
     pub(crate) input: Input,
     pub(crate) flags: Flags,
     pub(crate) owes: bool,
-    pub(crate) reset: bool,
     /// A word that asks for a reset was taken, and not dropped.
     pub(crate) resetting: bool,
     /// How many bytes were taken.
@@ -118,7 +117,6 @@ impl Board {
             input: Input::new(),
             flags: Flags::None,
             owes: false,
-            reset: false,
             resetting: false,
             taken: 0,
             answered,

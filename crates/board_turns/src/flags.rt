@@ -62,12 +62,11 @@ impl Board {
         ensures goes_on { (rest : P.Rest) (first : Opening) (h : Journal) → P.stands port.old rest first (port_log h) → Keeps first self.old h → unobeyed_of h ≡ [] → has_jog_to_start first h ≡ false
             → (word : AnyExec) × (mid : Journal) × HasSettled first h mid × P.stands port.new rest first (port_log (asked first word mid)) × Keeps first self.new (asked first word mid)
             × (self.new.flags ≡ flags_behind (owes_report (at_port (took_exec word) ∷ mid)) word) }
-        ensures same { self.new ≡ record self.old { machine = self.new.machine; flight = self.new.flight; lines = self.new.lines; cut = self.new.cut; flags = self.new.flags; owes = self.new.owes; reset = self.new.reset; resetting = self.new.resetting } }
+        ensures same { self.new ≡ record self.old { machine = self.new.machine; flight = self.new.flight; lines = self.new.lines; cut = self.new.cut; flags = self.new.flags; owes = self.new.owes; resetting = self.new.resetting } }
     {
         self.settle(port);
         let word = port.take_exec();
         self.resetting = self.resets_behind(word);
-        self.reset = asks_reset(word) | self.reset;
         self.owes = asks_report(word) | self.owes;
         let waiting = to_obey(word);
         if self.owes {

@@ -25,7 +25,6 @@ returns-then-byte-eq10-clause-kept c = λ first h k may room. record {
   input = rw c.if-byte-eq10.true (c.finish.ensures (open_of h) (whole_of h) k.input);
   flight = record { known = k.flight.known; found = k.flight.found; flies = k.flight.flies };
   owes_is = k.owes_is;
-  reset_is = k.reset_is;
   resetting_is = k.resetting_is;
   taken_is = taken_more c.args.byte h c.args.self.now.taken k.taken_is;
   answered_is = k.answered_is;
@@ -51,7 +50,6 @@ returns-else-byte-eq10-clause-kept c = λ first h k may room. record {
   input = rw (other c.args.byte c.if-byte-eq10.false) (c.push.ensures (open_of h) false (subst (λ (whole : Bool). Reads c.args.self.now.input (open_of h) whole) may.polls.partial k.input));
   flight = record { known = k.flight.known; found = k.flight.found; flies = k.flight.flies };
   owes_is = k.owes_is;
-  reset_is = k.reset_is;
   resetting_is = k.resetting_is;
   taken_is = taken_more c.args.byte h c.args.self.now.taken k.taken_is;
   answered_is = k.answered_is;

@@ -17,7 +17,6 @@ returns c = (
       input = c.new-3.ensures;
       flight = record { known = 0; found = omega arith; flies = c.new-2.ensures };
       owes_is = refl;
-      reset_is = refl;
       resetting_is = refl;
       taken_is = refl;
       answered_is = c.state-answered.ensures;

@@ -1,5 +1,5 @@
 use Rattle.std.proofs.Common.{◌≡◌, ◌||◌, sym, ap, ◌∙◌, subst}
-use Rattle.board_rules.specs.Ports.{asks_report, asks_reset}
+use Rattle.board_rules.specs.Ports.{asks_report}
 use Rattle.board_rules.specs.Steps.{Journal, port_log}
 use Rattle.board_rules.specs.Turns.{owes_report}
 use Rattle.board_rules.specs.Conduct.{MayTakeRequests}
@@ -21,15 +21,14 @@ returns-then-self-clause-goes_on g c = λ rest first h stands k none no_jog.
     let word = c.take_exec-word.result in
     let may : MayTakeRequests word j = record { obeyed = n.3.passes.words ∙ none; few = λ e. c.take_exec-word.ensures.few e rest first (port_log j) n.1 } in
     let owes_is = ap (λ b. b || c.settle.new.self.owes) c.asks_report.ensures ∙ ap (λ b. asks_report word || b) n.2.owes_is in
-    let reset_is = ap (λ b. b || c.settle.new.self.reset) c.asks_reset.ensures ∙ ap (λ b. asks_reset word || b) n.2.reset_is in
     let owed : owes_report (taken word j) ≡ _ = sym owes_is ∙ c.if-self.true in
     let is = asked_owed first word j owed in
-    let board = record c.settle.new.self { reset = c.asks_reset.result || c.settle.new.self.reset; owes = c.asks_report.result || c.settle.new.self.owes; resetting = c.resets_behind-self.result } in (
+    let board = record c.settle.new.self { owes = c.asks_report.result || c.settle.new.self.owes; resetting = c.resets_behind-self.result } in (
       word,
       j,
       n.3,
       subst (λ (x : Journal). g.P.EpochPort.stands c.take_exec-word.new.self rest first (port_log x)) (sym is) (c.take_exec-word.ensures.taken rest first (port_log j) n.1),
-      subst (λ (x : Journal). Keeps first (record board { flags = words.Report c.to_obey-waiting.result }) x) (sym is) (other_flags first board (words.Report c.to_obey-waiting.result) (taken word j) (takes_word first c.settle.new.self (c.asks_report.result || c.settle.new.self.owes) (c.asks_reset.result || c.settle.new.self.reset) c.resets_behind-self.result word j n.2 may owes_is reset_is (c.resets_behind-self.ensures first j n.2))),
+      subst (λ (x : Journal). Keeps first (record board { flags = words.Report c.to_obey-waiting.result }) x) (sym is) (other_flags first board (words.Report c.to_obey-waiting.result) (taken word j) (takes_word first c.settle.new.self (c.asks_report.result || c.settle.new.self.owes) c.resets_behind-self.result word j n.2 may owes_is (c.resets_behind-self.ensures first j n.2))),
       ap (λ w. words.Report w) c.to_obey-waiting.ensures ∙ sym (ap (λ b. flags_behind b word) owed),
     )
 
@@ -41,10 +40,9 @@ returns-clause-goes_on g c = λ rest first h stands k none no_jog.
     let left = n.3.passes.words ∙ none in
     let takes : MayTakeRequests word j = record { obeyed = left; few = λ e. c.take_exec-word.ensures.few e rest first (port_log j) n.1 } in
     let owes_is = ap (λ b. b || c.settle.new.self.owes) c.asks_report.ensures ∙ ap (λ b. asks_report word || b) n.2.owes_is in
-    let reset_is = ap (λ b. b || c.settle.new.self.reset) c.asks_reset.ensures ∙ ap (λ b. asks_reset word || b) n.2.reset_is in
     let unowed : owes_report (taken word j) ≡ _ = sym owes_is ∙ c.if-self.false in
     let is = asked_free first word j unowed in
-    let kept = other_flags first (record c.settle.new.self { reset = c.asks_reset.result || c.settle.new.self.reset; owes = c.asks_report.result || c.settle.new.self.owes; resetting = c.resets_behind-self.result }) words.None (taken word j) (takes_word first c.settle.new.self (c.asks_report.result || c.settle.new.self.owes) (c.asks_reset.result || c.settle.new.self.reset) c.resets_behind-self.result word j n.2 takes owes_is reset_is (c.resets_behind-self.ensures first j n.2)) in
+    let kept = other_flags first (record c.settle.new.self { owes = c.asks_report.result || c.settle.new.self.owes; resetting = c.resets_behind-self.result }) words.None (taken word j) (takes_word first c.settle.new.self (c.asks_report.result || c.settle.new.self.owes) c.resets_behind-self.result word j n.2 takes owes_is (c.resets_behind-self.ensures first j n.2)) in
     let waits = c.to_obey-waiting.ensures in
     let may = subst (λ w. MayObeyNow first w (taken word j)) (sym waits) (obeys_at_once first word h j (halts_by first c.settle.new.self j n.2) n.3 no_jog left unowed) in
     let obeyed = subst (λ w. Keeps first c.obey_waiting.new.self (obeying first w (taken word j))) waits (c.obey_waiting.ensures.goes_on first (taken word j) kept may) in (
