@@ -52,7 +52,7 @@ alike_behind : (s t : State) (es : NewestFirst Closed) → AreAlike (opening_beh
 alike_behind s t [] = record { motion = refl; tells = refl }
 alike_behind s t (e ∷ es) =
     let same : motion_of (opening_behind s es) e.journal ≡ motion_of (opening_behind t es) e.journal =
-        (let was = alike_behind s t es in motion_any (opening_behind s es) (opening_behind t es) was.motion e.journal) in
+    (let was = alike_behind s t es in motion_any (opening_behind s es) (opening_behind t es) was.motion e.journal) in
     record { motion = ap (λ (m : Motion). cond (is_moving m || is_alarm m) motions.Alarm motions.Idle) same; tells = ap greets same }
 
 pub number_any : (s t : State) (es : NewestFirst Closed) (f : Flags) (h : Journal) → number_of (opening_behind s es) f h ≡ number_of (opening_behind t es) f h
