@@ -58,12 +58,12 @@ room_learned first b f h done k may room =
     room first.place (published_of h) k.flight.known k.flight.flies (omega (arith, few))
 
 -- it knows each tick that is found done
-pub learned_all : (first : Opening) (b : Board) (f : Flying) (done : ℕ) (h : Journal) → Keeps first b h → MayBeDone done (port_log h)
-    → ((published : List Piece) (known : ℕ) → Flies first.place b.flight published known → Flies first.place f published (max known (min done (ticks_together published)))) → Flies first.place f (published_of h) done
-learned_all first b f done h k may learns =
-    let known = k.flight.known in
-    let a = k.flight.found in
+pub learned_all : (first : Opening) (was f : Flying) (done : ℕ) (h : Journal) → Conducted first h → IsFlown first was h → MayBeDone done (port_log h)
+    → ((published : List Piece) (known : ℕ) → Flies first.place was published known → Flies first.place f published (max known (min done (ticks_together published)))) → Flies first.place f (published_of h) done
+learned_all first was f done h conducted flown may learns =
+    let known = flown.known in
+    let a = flown.found in
     let c = may.later in
-    let d = done_within first h done k.conducted may in
+    let d = done_within first h done conducted may in
     let same : max known (min done (ticks_together (published_of h))) ≡ done = omega (arith, a, c, d) in
-    subst (λ n. Flies first.place f (published_of h) n) same (learns (published_of h) known k.flight.flies)
+    subst (λ n. Flies first.place f (published_of h) n) same (learns (published_of h) known flown.flies)

@@ -25,3 +25,4 @@ pub mod Numbers
 pub mod AnyState
 pub mod Over
 pub mod Resetting
+pub mod Opening

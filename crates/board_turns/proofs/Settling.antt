@@ -73,7 +73,7 @@ pub found_stopped : (first : Opening) (b : Board) (f : Flying) (done : ℕ) (h :
 found_stopped first b f done h k slowed may all learns = record {
   stopped = record { slowed = slowed_looked first done h slowed; done = all ∙ k.machine.given_is };
   load = refl;
-  flies = learned_all first b f done h k may learns;
+  flies = learned_all first b.flight f done h k.conducted k.flight may learns;
 }
 
 -- a board whose flight has learned that

@@ -21,6 +21,7 @@ ghost use Rattle.board_rules.specs.Conduct.{IsNextTask, MayTake, MayPoll};
 ghost use Rattle.board_turns.specs.Boards.{Keeps, EpochFits, GoingFits, GoingTurned, BoardIsOver, GoingBetween, IsFree, TakesFlags, takes_no_word, board_number};
 ghost use Rattle.board_turns.specs.Turning.{IsNextMove, HasPiece, IsReady, MayRun, MayAwait, MayJudge, IsLooked, NeedsNoWait, IsWholeLine, HasPolled, HasStopped, PassesNothing, DidAlone, HasLooked, HasAdded, HasFilled, HasBegun, Tried, HasTried, BoardWorked, IsHeldUp, IsJudged, GoesOn, LetsLines, HasSettled, IsPassed, WorksOn};
 
+use crate::answered::Answered;
 use crate::input::Input;
 use board_machine::Machine;
 use code_table::Exec;
@@ -29,7 +30,7 @@ use feed_hold::Motion;
 use flight::Flight;
 use line_interpreter::{Accepted, Interpreter, Todo};
 use outside::{On, Turn};
-use run_rules::{Machine as Found, State};
+use run_rules::Machine as Found;
 use serial_ring::ByteIn;
 use step_line::Mark;
 
@@ -69,7 +70,7 @@ pub struct Board {
     /// How many bytes were taken.
     pub(crate) taken: u32,
     /// The state behind the answered lines.
-    pub(crate) answered: State,
+    pub(crate) answered: Answered,
     pub(crate) beat: Beat,
     pub(crate) closing: bool,
     /// The last that was accepted of G-code and jogs is a jog.
@@ -109,7 +110,7 @@ impl Board {
         ensures { (state : AnyState) × IsOpening state × EpochFits (first_opening state) result [] }
     {
         let lines = Interpreter::new();
-        let answered = lines.state();
+        let answered = Answered::behind(&lines);
         Board {
             machine: Machine::new(),
             flight: Flight::new(),

@@ -1,6 +1,7 @@
 //! The board: it takes the bytes of a job, carries out its lines, and answers them.
 #![tactic(auto)]
 
+mod answered;
 mod board;
 mod flags;
 mod input;

@@ -20,12 +20,12 @@ ghost use Rattle.board_machine.specs.Machines.{marks_cut};
 ghost use Rattle.flight.specs.Flights.{flight_room};
 ghost use Rattle.board_turns.specs.Turning.{IsNextMove, HasPiece, IsReady, MayRun, MayHaveLooked, MayHaveTold, MayFinish, HasAdded, HasFilled, Tried, HasTried, GoesOn, WorksOn};
 
+use crate::answered::Answered;
 use crate::board::{Beat, Board, Flags};
 use board_machine::is_cut;
 use epoch_ports::EpochPort;
 use line_interpreter::Todo;
 use outside::{On, Turn};
-use run_rules::State;
 use status_report::Reply;
 use step_line::{Mark, Piece};
 
@@ -160,13 +160,12 @@ impl Board {
         reply == Reply::Bye && self.machine.hand.is_some()
     }
 
-    /// The state behind the answered lines, once this reply is told.
-    fn answered_behind(&self, reply: Reply) -> State
-        ensures { result ≡ cond (is_answer reply) self.now.lines.state self.now.answered }
+    /// Keeps the state behind the answered lines, where this reply answers one.
+    fn keep_answered(&mut self, reply: Reply)
+        ensures { self.new ≡ record self.old { answered = cond (is_answer reply) self.old.lines.state self.old.answered } }
     {
-        match reply {
-            Reply::Ok | Reply::Error(_) => self.lines.state(),
-            _ => self.answered,
+        if let Reply::Ok | Reply::Error(_) = reply {
+            self.answered = Answered::behind(&self.lines);
         }
     }
 
@@ -177,7 +176,7 @@ impl Board {
             → (reply ≡ Reply.Bye → hand_of h ≡ []) → Keeps first self.new (at_port (answered reply) ∷ h) }
         ensures same { self.new ≡ record self.old { lines = self.new.lines; answered = self.new.answered } }
     {
-        self.answered = self.answered_behind(reply);
+        self.keep_answered(reply);
         self.lines.done();
     }
 

@@ -1,13 +1,18 @@
-//! What a board tells of itself where a reset may be worked.
+//! When a reset may be worked behind a board's epoch, and how the next one opens behind it.
 
-ghost use Rattle.std.specs.Prelude.{◌≡◌, ◌↔◌, length, true};
-ghost use Rattle.board_epochs.specs.Epochs.{last_line};
+ghost use Rattle.std.specs.Prelude.{◌≡◌, ◌↔◌, ℕ, ◌+◌, ◌^◌, ◌≤◌, [], length, true, false};
+ghost use Rattle.status_report.specs.Answering.{lfs_in};
+ghost use Rattle.board_epochs.specs.Epochs.{last_line, next_opening};
 ghost use Rattle.board_epochs.specs.Resets.{MayReset};
+ghost use Rattle.board_epochs.specs.Work.{Work, halted_in};
 ghost use Rattle.board_rules.specs.Openings.{Opening};
-ghost use Rattle.board_rules.specs.Steps.{Journal, taken_of};
-ghost use Rattle.board_turns.specs.Boards.{EpochFits, GoingBetween};
+ghost use Rattle.board_rules.specs.Ports.{MayBeDone, taken_in};
+ghost use Rattle.board_rules.specs.Steps.{Journal, port_log, taken_of};
+ghost use Rattle.board_turns.specs.Boards.{EpochFits, GoingBetween, Reads};
 
-use crate::board::Board;
+use crate::answered::Answered;
+use crate::board::{Beat, Board, Flags};
+use flight::Flight;
 use line_interpreter::Todo;
 
 impl Board {
@@ -38,5 +43,60 @@ impl Board {
             return false;
         }
         !matches!(self.lines.todo(), Todo::Tell)
+    }
+
+    /// What was owed, asked for or taken in the epoch before counts for nothing, and what it has kept of a line is dropped.
+    fn forget(&mut self)
+        ensures input { Reads self.new.input [] false }
+        ensures same { self.new ≡ record self.old {
+          input = self.new.input;
+          flags = Flags.None;
+          owes = false;
+          resetting = false;
+          taken = 0;
+          beat = Beat.Motion;
+          closing = false;
+          jogged = false;
+          alarmed = false;
+          cut = false;
+        } }
+    {
+        self.input.clear();
+        self.flags = Flags::None;
+        self.owes = false;
+        self.resetting = false;
+        self.taken = 0;
+        self.beat = Beat::Motion;
+        self.closing = false;
+        self.jogged = false;
+        self.alarmed = false;
+        self.cut = false;
+    }
+
+    /// Opens the next epoch behind a reset that is worked whole: the pulse has halted behind so many ticks of this epoch, and so
+    /// many line feeds were dropped. What is planned, in hand, asked for or not answered is dropped. The machine stands where it
+    /// was halted, and is locked where it was moving, or in alarm. The answered lines leave settings and offsets, but for that
+    /// of G92; all else of the parser begins anew, and the board greets.
+    #[inline(never)]
+    pub fn open_behind(&mut self, halted: u64, dropped: u32)
+        requires { (base : ℕ) × (first : Opening) × (h : Journal) × (w : Work) × EpochFits first self.old h × MayReset first h × (halted_in w ≡ base + halted) × MayBeDone halted (port_log h)
+            × (dropped ≡ lfs_in (taken_in (port_log w))) × ((next_opening base first h w).lines ≤ 2 ^ 31) }
+        ensures { (base : ℕ) (first : Opening) (h : Journal) (w : Work) → EpochFits first self.old h → MayReset first h → halted_in w ≡ base + halted → MayBeDone halted (port_log h)
+            → dropped ≡ lfs_in (taken_in (port_log w)) → (next_opening base first h w).lines ≤ 2 ^ 31 → EpochFits (next_opening base first h w) self.new [] }
+    {
+        self.flight.learn(halted);
+        let at = self.flight.place();
+        let moving = self.machine.reset();
+        let lines = dropped + u32::from(self.input.whole);
+        self.lines.open_behind(
+            self.answered.state(),
+            at,
+            lines,
+            moving,
+            self.machine.is_locked(),
+        );
+        self.answered = Answered::behind(&self.lines);
+        self.flight = Flight::starting_at(at);
+        self.forget();
     }
 }

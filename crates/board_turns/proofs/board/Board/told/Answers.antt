@@ -1,6 +1,15 @@
+use Rattle.std.proofs.Common.{◌∙◌, ◌∷◌, cond, drop, refl, sym, ap, subst}
+use Rattle.status_report.specs.Answering.{is_answer}
+use Rattle.board_rules.specs.Ports.PortStep.{answered}
+use Rattle.board_rules.specs.Steps.Step.{at_port}
+use Rattle.board_turns.specs.declared.board.Board.{Board}
+use Rattle.board_turns.specs.Boards.{Keeps}
 use Rattle.board_turns.proofs.Steps.{told}
 use Rattle.board_turns.proofs.board.Board.told.Goals as goal
 
 pub returns-clause-told : goal.returns-clause-told
 returns-clause-told c = λ first h k next plain unowed empty.
-    told first c.args.self.now c.done.new.self c.answered_behind-self.result c.args.reply h k next plain unowed empty c.done.ensures c.answered_behind-self.ensures
+    let s = c.args.self.now in
+    let one_less = c.done.ensures ∙ ap (λ (b : Board). record b.lines { left = drop 1 b.lines.left }) c.keep_answered.ensures in
+    subst (λ (b : Board). Keeps first (record b { lines = c.done.new.self }) (at_port (answered c.args.reply) ∷ h)) (sym c.keep_answered.ensures)
+    (told first s c.done.new.self (cond (is_answer c.args.reply) s.lines.state s.answered) c.args.reply h k next plain unowed empty one_less refl)
