@@ -1,33 +1,33 @@
--- What the fields of a controller tell of all that it did: it kept to the rules, and it has ended where it rests.
-use Rattle.std.proofs.Common.{refl, sym, ◌∙◌, subst}
+-- What the fields of a controller tell of all that it did: its epochs keep to their rules, and the open one has ended where it rests.
+use Rattle.std.proofs.Common.{sym, ◌∙◌, subst}
+use Rattle.std.specs.declared.option.Option.{Option}
 use Rattle.run_rules.specs.declared.State.{State}
 use Rattle.run_rules.specs.States.{IsOpening}
-use Rattle.board_rules.specs.Breaking.{Doings, HasEnded, IsConducted, ending_of}
-use Rattle.board_rules.specs.Breaking.Doings.{goes, broke}
+use Rattle.board_epochs.specs.Epochs.{Epochs, AreEpochs}
+use Rattle.board_epochs.specs.Epochs.Epochs.{goes, resets}
 use Rattle.board_turns.specs.Boards.{BoardIsOver}
+use Rattle.reset_work.specs.declared.reset.ResetWork.{ResetWork}
 use Rattle.controller.specs.declared.controller.Controller.{Controller}
-use Rattle.controller.specs.declared.controller.Stage.{Stage}
-use Rattle.controller.specs.Boards.{BoardFits, BoardRests, rests_at}
-use Rattle.controller.proofs.Breaking.{over_at_rest}
+use Rattle.controller.specs.Boards.{BoardFits, BoardRests, HaveFinished, rests_at}
 
--- what a board has done is what its rules allow, from an opening state on; it has ended where the board rests
-pub record Kept (board : Controller) (d : Doings) : Type 0 where
+-- what a board has done is what its rules allow, from an opening state on; the open epoch is finished where the board rests
+pub record Kept (board : Controller) (e : Epochs) : Type 0 where
   pub first : State
   pub opening : IsOpening first
-  pub conducted : IsConducted first d
-  pub ended : BoardRests board → HasEnded first d
+  pub epochs : AreEpochs first e
+  pub ended : BoardRests board → HaveFinished first e
 
-pub kept_by : (board : Controller) (d : Doings) → BoardFits board d → Kept board d
-kept_by board (goes h) f = record {
-  first = f.first;
-  opening = f.opening;
-  conducted = f.fits.keeps.conducted;
-  ended = λ rests. (let over : BoardIsOver board.board = subst (λ (s : Stage). rests_at s board.board) f.stage rests in
-      record { left = sym f.fits.keeps.lines.left_is ∙ over.none; closed = f.fits.keeps.closed over.closing });
+pub kept_by : (board : Controller) (e : Epochs) → BoardFits board e → Kept board e
+kept_by board (goes es h) f = let fits = f.2 in record {
+  first = f.0;
+  opening = f.1;
+  epochs = fits.epochs;
+  ended = λ rests. (let over : BoardIsOver board.board = subst (λ (r : Option ResetWork). rests_at r board.board) fits.none rests in
+      record { left = sym fits.board.keeps.lines.left_is ∙ over.none; closed = fits.board.keeps.closed over.closing });
 }
-kept_by board (broke since before) f = record {
-  first = f.first;
-  opening = f.opening;
-  conducted = f.conducted;
-  ended = λ rests. over_at_rest board since before f rests (ending_of since before) refl;
+kept_by board (resets es h w) f = let fits = f.2 in record {
+  first = f.0;
+  opening = f.1;
+  epochs = fits.epochs;
+  ended = λ rests. absurd (subst (λ (r : Option ResetWork). rests_at r board.board) fits.works rests);
 }

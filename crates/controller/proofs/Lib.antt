@@ -1,3 +1,4 @@
-pub mod First
-pub mod Breaking
+pub mod Going
+pub mod Working
+pub mod Turns
 pub mod Kept

@@ -1,80 +1,112 @@
--- What the fields of a controller say of what it has done.
-use Rattle.std.specs.Prelude.{◌≡◌, ℕ, true, [], ◌∷◌, ◌++◌, List}
+-- What the fields of a controller say of what it has done, epoch by epoch.
+use Rattle.std.specs.Prelude.{◌≡◌, ◌⊎◌, ℕ, ◌+◌, ◌<◌, true, Some, None, [], ◌∷◌, ◌++◌, List}
 use Rattle.std.specs.List.{list_any}
+use Rattle.std.specs.declared.option.Option.{Option}
 use Rattle.outside.specs.declared.Turn.{Turn}
 use Rattle.outside.specs.declared.Turn.TheVariants.{Did}
 use Rattle.run_rules.specs.declared.State.{State}
 use Rattle.run_rules.specs.States.{IsOpening}
-use Rattle.board_rules.specs.Openings.{first_opening}
-use Rattle.board_rules.specs.Ports.{has_reset_in}
-use Rattle.board_rules.specs.Steps.{Step, Journal, port_log}
+use Rattle.step_line.specs.Logs.{NewestFirst}
+use Rattle.board_rules.specs.Conduct.{IsFinished}
+use Rattle.board_rules.specs.Steps.{Step, Journal}
 use Rattle.board_rules.specs.Steps.Step.{turned}
 use Rattle.board_rules.specs.Turns.{this_turn, moving}
-use Rattle.board_rules.specs.Breaking.{Doings, Ending, IsConducted, ending_of, turn_of}
-use Rattle.board_rules.specs.Breaking.Doings.{goes, broke}
-use Rattle.board_rules.specs.Breaking.Ending.{publishes_end, tells_bye, over}
+use Rattle.board_epochs.specs.Epochs.{Closed, Epochs, AreEpochs, closed_log, last_line, log_behind, opening_behind}
+use Rattle.board_epochs.specs.Epochs.Epochs.{goes, resets}
+use Rattle.board_epochs.specs.Resets.{MayReset}
+use Rattle.board_epochs.specs.Work.{Work, IsWorked}
+use Rattle.reset_work.specs.Counting.{IsCounted}
+use Rattle.reset_work.specs.Working.{IsWorking, number_of}
+use Rattle.reset_work.specs.declared.reset.ResetWork.{ResetWork}
 use Rattle.board_turns.specs.declared.board.Board.{Board}
-pub use Rattle.board_turns.specs.Boards.{EpochFits, GoingTurned, BoardIsOver}
+pub use Rattle.board_turns.specs.Boards.{EpochFits, BoardIsOver}
 use Rattle.board_turns.specs.Boards.{board_number}
 use Rattle.controller.specs.declared.controller.Controller.{Controller}
-use Rattle.controller.specs.declared.controller.Stage.{Stage}
-use Rattle.controller.specs.declared.controller.Stage.TheVariants as stages
 
--- how far the end of a run is that a reset has ended
-abbrev pub stage_of : Ending → Stage
-stage_of publishes_end = stages.PublishesEnd
-stage_of tells_bye = stages.TellsBye
-stage_of over = stages.Over
+-- ---- what the fields say
 
--- a run that no reset has ended is over with its board
-abbrev pub rests_at : Stage → Board → Type 0
-rests_at stages.Goes board = BoardIsOver board
-rests_at stages.PublishesEnd board = ⊥
-rests_at stages.TellsBye board = ⊥
-rests_at stages.Over board = Unit {0}
+-- The open epoch goes on from a run's first state: it keeps to its rules behind the closed ones, the board fits it from where it opens, and
+-- no reset may be worked now.
+pub record GoesFits (state : State) (c : Controller) (es : NewestFirst Closed) (h : Journal) : Type 0 where
+  pub epochs : AreEpochs state (goes es h)
+  pub none : c.reset ≡ None
+  pub board : EpochFits (opening_behind state es) c.board h
+  pub counts : IsCounted c.counts es
+  pub unready : MayReset (opening_behind state es) h → ⊥
+
+-- A reset is being worked behind it, and is not worked whole. The board is as the epoch has left it.
+pub record ResetsFits (state : State) (c : Controller) (es : NewestFirst Closed) (h : Journal) (w : Work) : Type 0 where
+  pub epochs : AreEpochs state (resets es h w)
+  pub work : ResetWork
+  pub works : c.reset ≡ Some work
+  pub board : EpochFits (opening_behind state es) c.board h
+  pub counts : IsCounted c.counts es
+  pub working : IsWorking work (last_line (opening_behind state es) h) (log_behind (closed_log es) h) w
+  pub unworked : IsWorked (log_behind (closed_log es) h) w → ⊥
+
+-- what they say of all that it did from this state on
+abbrev pub FitsFrom : State → Controller → Epochs → Type 0
+FitsFrom state c (goes es h) = GoesFits state c es h
+FitsFrom state c (resets es h w) = ResetsFits state c es h w
+
+-- a run begins with an opening state
+abbrev pub BoardFits : Controller → Epochs → Type 0
+BoardFits c e = (state : State) × IsOpening state × FitsFrom state c e
+
+-- ---- whether it is over
+
+-- a run is over with its board, and not while a reset is worked
+abbrev pub rests_at : Option ResetWork → Board → Type 0
+rests_at None board = BoardIsOver board
+rests_at (Some work) board = ⊥
 
 -- a controller whose run is over: nothing is left to do
 abbrev pub BoardRests : Controller → Type 0
-BoardRests c = rests_at c.stage c.board
+BoardRests c = rests_at c.reset c.board
 
--- What the fields of a controller say whose run no reset has ended. Where a word that asks for a reset was taken, the run is over.
-pub record GoesFits (c : Controller) (h : Journal) : Type 0 where
-  pub first : State
-  pub opening : IsOpening first
-  pub stage : c.stage ≡ stages.Goes
-  pub fits : EpochFits (first_opening first) c.board h
-  pub rests : has_reset_in (port_log h) ≡ true → BoardIsOver c.board
+-- epochs of which the open one is closed by its end, and nothing is left to do
+abbrev pub HaveFinished : State → Epochs → Type 0
+HaveFinished state (goes es h) = IsFinished (opening_behind state es) h
+HaveFinished state (resets es h w) = ⊥
 
--- What they say where a reset has ended it.
-pub record BrokenFits (c : Controller) (since before : Journal) : Type 0 where
-  pub first : State
-  pub opening : IsOpening first
-  pub conducted : IsConducted first (broke since before)
-  pub stage : c.stage ≡ stage_of (ending_of since before)
+-- ---- a turn
 
--- what they say of all that it did
-abbrev pub BoardFits : Controller → Doings → Type 0
-BoardFits c (goes h) = GoesFits c h
-BoardFits c (broke since before) = BrokenFits c since before
+-- what was done last: in the open epoch, or for the reset that is being worked
+abbrev pub latest : Epochs → Journal
+latest (goes es h) = h
+latest (resets es h w) = w
 
 -- between two turns
-abbrev pub IsBetween : Doings → Type 0
-IsBetween d = turn_of d ≡ []
+abbrev pub IsBetween : Epochs → Type 0
+IsBetween e = this_turn (latest e) ≡ []
 
--- a turn of a run that a reset has ended adds what was done in it, and its answer; where that is Did, something moves
-pub record EndTurned (t : Turn) (since next : Journal) : Type 0 where
+-- what a turn did, and its answer, are added to that
+abbrev pub added : Turn → List Step → Epochs → Epochs
+added t steps (goes es h) = goes es (turned t ∷ (steps ++ h))
+added t steps (resets es h w) = resets es h (turned t ∷ (steps ++ w))
+
+-- a reset is worked from now on, or the next epoch begins behind it; neither does anything
+abbrev pub parted : Epochs → Epochs
+parted (goes es h) = resets es h []
+parted (resets es h w) = goes (record { journal = h; work = w } ∷ es) []
+
+-- so much is counted beside a board's own number while its epoch goes on: a reset's work begins below that
+abbrev pub going_number : ℕ
+going_number = 15
+
+-- the number of the work, if there is one
+abbrev pub work_number : Option ResetWork → ℕ
+work_number None = 0
+work_number (Some work) = number_of work
+
+-- the number of a board, which no state changes
+abbrev pub number_in : State → Controller → Epochs → ℕ
+number_in state c (goes es h) = going_number + board_number (opening_behind state es) c.board h
+number_in state c (resets es h w) = work_number c.reset
+
+-- A turn adds what was done in it, and its answer. Behind that a reset is worked as soon as it may be, and the next epoch begins as soon as
+-- it is worked. Where the answer is Did, something moves, or the board's number falls.
+pub record BoardTurned (t : Turn) (was is : Controller) (e next : Epochs) : Type 0 where
   pub steps : List Step
-  pub are : next ≡ turned t ∷ (steps ++ since)
-  pub moves : t ≡ Did → list_any moving (this_turn (steps ++ since)) ≡ true
-
--- A turn adds what was done in it. Where it took a word that asks for a reset, the run is ended behind it.
-abbrev pub BoardTurned : Turn → Controller → Controller → Doings → Doings → Type 0
-BoardTurned t was is (goes h) (goes next) = (state : State) → GoingTurned (first_opening state) t was.board is.board h next
-BoardTurned t was is (goes h) (broke since next) = (since ≡ []) × ((state : State) → GoingTurned (first_opening state) t was.board is.board h next)
-BoardTurned t was is (broke since h) (goes next) = ⊥
-BoardTurned t was is (broke since h) (broke next before) = (before ≡ h) × EndTurned t since next
-
--- the number of a board, which no state changes: where a reset has ended its run, each turn that answers Did moves something
-abbrev pub number_in : State → Controller → Doings → ℕ
-number_in state c (goes h) = board_number (first_opening state) c.board h
-number_in state c (broke since before) = 0
+  pub are : (next ≡ added t steps e) ⊎ (next ≡ parted (added t steps e))
+  pub moves : t ≡ Did → (list_any moving (this_turn (steps ++ latest e)) ≡ true) ⊎ ((state : State) → number_in state is next < number_in state was e)

@@ -1,9 +1,11 @@
-//! The board over its run: it takes the bytes of a job, carries out its lines, and answers them, until the job ends or a reset ends
-//! it.
+//! The board over its run: it takes the bytes of a job, carries out its lines, and answers them, until the job ends. A reset begins
+//! a new epoch.
 #![tactic(auto)]
 
 mod controller;
-mod ending;
+mod epochs;
+mod laws;
 
 pub use board_rules::BoardPort;
 pub use controller::Controller;
+pub use laws::controllers_keep_to_epochs;

@@ -1,18 +1,26 @@
-use Rattle.std.proofs.Common.{rules, refl}
-use Rattle.board_rules.specs.Openings.{first_opening}
-use Rattle.board_rules.specs.Steps.{port_log}
-use Rattle.controller.proofs.First.{run_since, serves_first, stood_first}
-use Rattle.controller.proofs.Breaking.{never_reset}
+use Rattle.std.proofs.Common.{sym, ◌∙◌, subst}
+use Rattle.board_epochs.specs.Epochs.{opening_behind}
+use Rattle.reset_work.specs.Counting.{IsCounted}
+use Rattle.controller.specs.declared.controller.Controller.{Controller}
+use Rattle.controller.proofs.Going.{still_goes, reset_begins}
 use Rattle.controller.proofs.controller.Controller.go_on.Goals as goal
 
-pub turn-requires : goal.turn-requires
-turn-requires g c =
+pub begin_reset-requires : goal.begin_reset-requires
+begin_reset-requires g c =
     let r = c.requires in
-    record { stands = ((run_since r.0 r.1, _), first_opening r.1, r.2, (refl, serves_first g.P.BoardPort.Rest (g.P.BoardPort.stands c.args.port.now) r.0 r.1 r.2 r.3 r.4.keeps.conducted), r.4, r.5, never_reset (first_opening r.1) r.2 r.6) }
+    let w = c.turn_board-turn.ensures.goes_on r.0 r.1 r.2 r.3 r.4 r.5 r.6 in
+    (r.1, r.2, w.next, w.epochs, w.fits, subst (λ (x : Controller). IsCounted x.counts r.2) (sym c.turn_board-turn.ensures.same) r.5.counts)
 
-pub returns-clause-goes_on : goal.returns-clause-goes_on
-returns-clause-goes_on g c = λ rest state h at f between unreset.
-    let s = serves_first g.P.BoardPort.Rest (g.P.BoardPort.stands c.args.port.now) rest state h at f.keeps.conducted in
-    let n = c.turn.ensures.goes_on (run_since rest state, _) (first_opening state) h (refl, s) f between (never_reset (first_opening state) h unreset) in
-    let stood = stood_first g.P.BoardPort.Rest (g.P.BoardPort.stands c.turn.new.port.port.now) c.turn.new.port.base rest state (port_log n.0) n.1.1 in
-    (n.0, search rules, n.2, n.3, n.4)
+pub returns-then-may_reset-clause-goes_on : goal.returns-then-may_reset-clause-goes_on
+returns-then-may_reset-clause-goes_on g c = λ rest state es h at f between.
+    let w = c.turn_board-turn.ensures.goes_on rest state es h at f between in
+    let may = (c.may_reset.ensures (opening_behind state es) w.next w.fits w.between).0 c.if-may_reset.true in
+    let counts = subst (λ (x : Controller). IsCounted x.counts es) (sym c.turn_board-turn.ensures.same) f.counts in
+    reset_begins (g.P.BoardPort.stands c.turn_board-turn.new.port rest) c.turn_board-turn.result state c.args.self.now c.begin_reset.new.self c.turn_board-turn.new.self.board es h w
+    (c.begin_reset.ensures.begins state es w.next w.epochs may w.fits counts) c.begin_reset.ensures.few
+
+pub returns-else-may_reset-clause-goes_on : goal.returns-else-may_reset-clause-goes_on
+returns-else-may_reset-clause-goes_on g c = λ rest state es h at f between.
+    let w = c.turn_board-turn.ensures.goes_on rest state es h at f between in
+    still_goes (g.P.BoardPort.stands c.turn_board-turn.new.port rest) c.turn_board-turn.result state c.args.self.now c.turn_board-turn.new.self es h w f c.turn_board-turn.ensures.same
+    (λ may. absurd (let e = sym c.if-may_reset.false ∙ (c.may_reset.ensures (opening_behind state es) w.next w.fits w.between).1 may in cc))

@@ -1,0 +1,13 @@
+//! A law of controllers.
+
+ghost use Rattle.run_rules.specs.declared.State.{State};
+ghost use Rattle.run_rules.specs.States.{IsOpening};
+ghost use Rattle.board_epochs.specs.Epochs.{Epochs, AreEpochs};
+ghost use Rattle.controller.specs.Boards.{BoardFits, BoardRests, HaveFinished};
+ghost use Rattle.controller.specs.declared.controller.Controller.{Controller};
+
+/// What a controller has done keeps to the rules of epochs, from an opening state on. Where nothing is left to do its open epoch is
+/// finished: the run is closed.
+pub fn controllers_keep_to_epochs()
+    ensures { (c : Controller) (e : Epochs) → BoardFits c e → (state : State) × IsOpening state × AreEpochs state e × (BoardRests c → HaveFinished state e) }
+{}
