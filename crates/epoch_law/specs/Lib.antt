@@ -3,3 +3,4 @@ pub mod Joined
 pub mod Runs
 pub mod Journals
 pub mod SoFar
+pub mod Devices

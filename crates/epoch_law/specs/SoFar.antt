@@ -1,10 +1,15 @@
--- What host and board have done so far, over epochs.
-use Rattle.std.specs.Prelude.{◌≡◌, ◌⊎◌, ℕ, ◌≤◌, false, List, [], ◌∷◌, map}
+-- What host, board and pulse have done so far, over epochs, and what a run so far is.
+use Rattle.std.specs.Prelude.{◌≡◌, ◌⊎◌, ℕ, ◌≤◌, Bool, false, List, [], ◌∷◌, ◌++◌, map}
+use Rattle.std.specs.Io.KnownBytes.{Consumes}
 use Rattle.std.specs.List.{AllByRecursion, flat_map}
 use Rattle.flight.specs.Places.{origin}
 use Rattle.outside.specs.Causes.{SourceState, SinkState}
+use Rattle.outside.specs.Writing.{Wrote}
 use Rattle.planner_runs.specs.Runs.{fresh_plan}
+use Rattle.run_law.specs.Runs.{Sinks, slows_in}
+use Rattle.run_rules.specs.Reports.{AreReported}
 use Rattle.run_rules.specs.States.{IsOpening}
+use Rattle.run_rules.specs.Told.{replies_text}
 use Rattle.run_rules.specs.declared.State.{State}
 use Rattle.run_texts.specs.Besides.{CutsHaveCauses}
 use Rattle.run_texts.specs.Courses.{Passed, cuts_in}
@@ -12,11 +17,19 @@ use Rattle.run_texts.specs.Fronts.{BeginsWith}
 use Rattle.run_texts.specs.Parts.{parts_of}
 use Rattle.run_texts.specs.Points.{Point, opening}
 use Rattle.run_texts.specs.Sent.{Sent, sent_of}
-use Rattle.run_texts.specs.SoFar.{LeadsTo}
+use Rattle.run_texts.specs.SoFar.{LeadsTo, FitsSoFar}
 use Rattle.run_texts.specs.Told.{told_in}
 use Rattle.status_report.specs.Answering.{without_reports}
 use Rattle.status_report.specs.declared.Reply.{Reply}
-use Rattle.status_report.specs.declared.Reply.TheVariants.{Banner}
+use Rattle.status_report.specs.declared.Reply.TheVariants.{Banner, Bye}
+use Rattle.step_line.specs.declared.Mark.TheVariants as marks
+use Rattle.step_line.specs.declared.Record.{Record}
+use Rattle.step_line.specs.declared.Record.TheVariants as kinds
+use Rattle.step_record.specs.declared.forms.Form.{Form}
+use Rattle.step_record.specs.Forms.{text_in}
+use Rattle.stream_host.specs.declared.Reading.{Reading}
+use Rattle.stream_host.specs.Epochs as host
+use Rattle.stream_host.specs.Jobs.{stop_by, IsSentSoFar}
 use Rattle.stream_host.specs.Ran.{HostRuns}
 use Rattle.epoch_courses.specs.Drives.{Driven, AreDriven}
 use Rattle.epoch_courses.specs.Told.{without_byes}
@@ -26,7 +39,10 @@ use Rattle.epoch_effects.specs.Reports.{HasReported, AreOpened, resets_of}
 use Rattle.epoch_effects.specs.Words.{AreTakenIn}
 use Rattle.epoch_links.specs.Links.{AwaitsBanners, EndsEpochs}
 use Rattle.epoch_links.specs.Pieces.{joined, items_in, IsFrontOf}
+use Rattle.epoch_records.specs.Epochs.{Epoch}
+use Rattle.epoch_records.specs.SoFar.{AreRunSoFar, ArePutSoFar}
 use Rattle.epoch_law.specs.Ran.{HostDid, BoardDid, IsRest}
+use Rattle.epoch_law.specs.Runs.{HasEffects, HasCauses}
 
 -- A host runs over epochs: it has stored and marked a front of its lines and the resets that came of them and of a rest.
 pub record Sending (job_was job_is : SourceState) (console_was console_is : SinkState) (d : HostDid) : Type 0 where
@@ -65,3 +81,74 @@ pub record BoardRuns (d : BoardDid) : Type 0 where
   pub answered_are : d.answered ≡ flat_map (λ e. e.answered) effects
   pub pieces : AllByRecursion ArePublished effects
   pub taken_are : AreTakenIn d.words (map (λ e. e.taken) effects)
+
+-- ---- a run so far
+
+-- What was scanned and sent of the job so far: some of it was read, and some lines of it were sent, and a rest was scanned behind them. The
+-- lines, and the replies that were got, are those of epochs, each but the first begun by a Banner, at whose end the lines that have no
+-- answer are forgotten. Each line that lives, asks for a report and is answered has one, behind the answers to the lines before it.
+pub record IsScannedSoFar (job_was job_is : SourceState) (read : List ℕ) (reading : Reading) (scanned : List ℕ) (lines : List (List ℕ)) (rest : List ℕ) (got : List Reply) : Type 0 where
+  pub taken : Consumes job_was.left job_is.left read
+  pub sent : IsSentSoFar read reading scanned lines (stop_by reading scanned)
+  pub is_rest : IsRest scanned lines rest
+  pub live : List (List ℕ)
+  pub ended : List host.Epoch
+  pub now : host.Epoch
+  pub epochs : host.AreEpochs lines live got ended now
+  pub reported : AreReported live got
+
+-- What was told so far: the board has answered a front of the banner, what the course tells, and Bye, with reports among that; a front of
+-- what it answered was got, and a front of its text is on the console.
+pub record IsToldSoFar (was is : Sinks) (course : List Passed) (answered got : List Reply) : Type 0 where
+  pub told : BeginsWith (Banner ∷ (told_in course ++ Bye ∷ [])) (without_reports answered)
+  pub got_of : BeginsWith answered got
+  pub failed : Bool
+  pub waiting : List ℕ
+  pub console : Wrote was.console is.console failed waiting (replies_text got)
+
+-- behind the records of epochs so far nothing is put, or the end, or the mark of the reset that is being worked
+abbrev pub MayEndSoFar : List Record → Type 0
+MayEndSoFar [] = Unit {0}
+MayEndSoFar (kinds.End ∷ []) = Unit {0}
+MayEndSoFar (kinds.Mark (marks.Reset number) ∷ []) = Unit {0}
+MayEndSoFar _ = ⊥
+
+-- What was recorded so far: for each part of the course the planner was given what its lines ask for, or that is left to ask; epoch by
+-- epoch the pieces that it gave were run, and their records put, as far as ticks were made, of the open epoch, too. A front of what was put
+-- was taken, and a front of its text, in the form of the run, is with the steps.
+pub record IsRecordedSoFar (form : Form) (was is : Sinks) (course : List Passed) (drives : List Driven) (epochs : List Epoch) (made put taken : List Record) : Type 0 where
+  pub driven : AreDriven false origin fresh_plan (parts_of course) drives
+  pub run : AreRunSoFar (parts_of course) origin epochs
+  pub are : ArePutSoFar epochs made
+  pub ending : List Record
+  pub put_are : put ≡ made ++ ending
+  pub may : MayEndSoFar ending
+  pub taken_of : BeginsWith put taken
+  pub failed : Bool
+  pub waiting : List ℕ
+  pub steps : Wrote was.steps is.steps failed waiting (text_in form taken)
+
+-- A run so far, over epochs: what was read, scanned and sent of the job; what was answered and got, and what was put and taken; that these
+-- texts fit so far, by one course; and beside this course how it was told and run so far, what words of flags have done, and what caused
+-- cuts. One line at most of each epoch is begun and not answered, and reports are judged by the ticks that were made, which hold all of
+-- the lines up to the last answered one that settles (`doing`).
+pub record IsSoFar (form : Form) (job_was job_is : SourceState) (was is : Sinks) : Type 0 where
+  pub read : List ℕ
+  pub reading : Reading
+  pub scanned : List ℕ
+  pub lines : List (List ℕ)
+  pub rest : List ℕ
+  pub answered : List Reply
+  pub got : List Reply
+  pub made : List Record
+  pub put : List Record
+  pub records : List Record
+  pub drives : List Driven
+  pub epochs : List Epoch
+  pub effects : List EpochEffects
+  pub sending : IsScannedSoFar job_was job_is read reading scanned lines rest got
+  pub fits : FitsSoFar (sent_of lines rest) (slows_in scanned) (without_byes got) made
+  pub telling : IsToldSoFar was is fits.course answered got
+  pub recording : IsRecordedSoFar form was is fits.course drives epochs made put records
+  pub doing : HasEffects scanned fits.first fits.course drives epochs got effects
+  pub causes : HasCauses fits.first (sent_of lines rest) fits.course
