@@ -1,5 +1,5 @@
 -- What host, board and pulse have done fits the texts.
-use Rattle.std.proofs.Common.{◌≡◌, ◌⊎◌, Bool, true, false, not, ◌&&◌, List, [], ◌∷◌, ◌++◌, drop, refl, sym, ap, ◌∙◌, subst, append-nil, arith, ◌||◌}
+use Rattle.std.proofs.Common.{◌≡◌, ◌⊎◌, inl, inr, Bool, true, false, not, ◌&&◌, List, [], ◌∷◌, ◌++◌, drop, refl, sym, ap, ◌∙◌, subst, append-nil, arith, ◌||◌}
 use Rattle.std.proofs.lemmas.List.{append_cancel_left}
 use Rattle.std.proofs.lemmas.List.Elements.{filter-append}
 use Rattle.flight.specs.Places.{origin}
@@ -27,11 +27,12 @@ use Rattle.epoch_links.proofs.Cutting.{cut_at_marks, one_of_each}
 use Rattle.epoch_links.proofs.Joining.{fronts, wholes}
 use Rattle.epoch_links.proofs.Leaving.{left_behind}
 use Rattle.epoch_records.specs.Epochs.{ArePut}
-use Rattle.epoch_records.specs.Publishing.{halts_in, but_none}
+use Rattle.epoch_records.specs.Publishing.{published_in, halts_in, but_none}
+use Rattle.epoch_records.specs.Stretches.{pieces_of_all, AreEpochsOf}
 use Rattle.epoch_records.proofs.Epochs.{stretches_put}
 use Rattle.epoch_records.proofs.Over.{are_recorded}
-use Rattle.epoch_records.proofs.Publishing.{some_epochs_of_stretches}
-use Rattle.epoch_law.specs.Joined.{AreConnected, ArePassed}
+use Rattle.epoch_records.proofs.Publishing.{epochs_of_stretches, some_epochs_of_stretches}
+use Rattle.epoch_law.specs.Joined.{AreConnected, AreSameHalts, ArePassed}
 use Rattle.epoch_law.specs.Ran.{HostDid, HasSent, BoardDid, BoardRan, PulseDid, PulseRan}
 use Rattle.epoch_law.proofs.Alarms.{course_so}
 use Rattle.epoch_law.proofs.Halts.{none_reversed}
@@ -42,10 +43,15 @@ use Rattle.epoch_law.proofs.Sending.{cancels_scanned}
 
 -- what a pulse puts is put of the epochs that were published
 pub put_of_epochs : (b : BoardDid) (p : PulseDid) (board : BoardRan b) → PulseRan p → ArePassed b p → ArePut board.epochs p.put
-put_of_epochs b p board pulse passed =
-    stretches_put board.epochs pulse.stretches pulse.last p.put
-    (some_epochs_of_stretches board.epochs p.halts pulse.stretches pulse.last board.over (pulse.pieces ∙ passed.pieces ∙ board.published_are) pulse.halted
-    (passed.halts ∙ ap but_none board.halts_are ∙ none_reversed (halts_in 0 0 board.epochs))) pulse.put
+put_of_epochs b p board pulse passed = stretches_put board.epochs pulse.stretches pulse.last p.put (by_halts passed.halts) pulse.put
+  where
+    pieces : pieces_of_all pulse.stretches ++ pulse.last ≡ published_in board.epochs
+    pieces = pulse.pieces ∙ passed.pieces ∙ board.published_are
+
+    by_halts : AreSameHalts b.halts p.halts → AreEpochsOf [] board.epochs pulse.stretches pulse.last
+    by_halts (inl all) = epochs_of_stretches board.epochs p.halts pulse.stretches pulse.last board.over pieces pulse.halted (all ∙ board.halts_are)
+    by_halts (inr some) =
+        some_epochs_of_stretches board.epochs p.halts pulse.stretches pulse.last board.over pieces pulse.halted (some ∙ ap but_none board.halts_are ∙ none_reversed (halts_in 0 0 board.epochs))
 
 -- and these are the records of the parts of the course
 pub put_recorded : (b : BoardDid) (p : PulseDid) (board : BoardRan b) → PulseRan p → ArePassed b p → AreRecorded origin (parts_of board.course) p.put
