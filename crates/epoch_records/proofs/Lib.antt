@@ -12,3 +12,6 @@ pub mod SoFar
 pub mod Cutting
 pub mod WorkedParts
 pub mod Settling
+pub mod Halts
+pub mod Open
+pub mod PutSoFar

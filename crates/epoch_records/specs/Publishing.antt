@@ -1,5 +1,5 @@
 -- What is published of epochs, and which halts they have.
-use Rattle.std.specs.Prelude.{◌≡◌, ℕ, ◌+◌, ◌≤◌, nat_eq, cond, List, [], ◌∷◌, ◌++◌, length}
+use Rattle.std.specs.Prelude.{◌≡◌, ◌⊎◌, ℕ, ◌+◌, ◌≤◌, nat_eq, cond, List, [], ◌∷◌, ◌++◌, length}
 use Rattle.step_line.specs.Finishing.{ticks_together}
 use Rattle.step_line.specs.declared.Piece.{Piece}
 use Rattle.step_line.specs.declared.Piece.TheVariants as pieces
@@ -22,6 +22,10 @@ halts_in published done (e ∷ (f ∷ es)) = (published + length e.pieces, done 
 abbrev pub but_none : List (ℕ × ℕ) → List (ℕ × ℕ)
 but_none [] = []
 but_none (halt ∷ halts) = cond (nat_eq halt.0 0) (but_none halts) (halt ∷ but_none halts)
+
+-- The halts that were stored are those that were seen; or those but for one at no pieces, where none is stored then.
+abbrev pub AreSameHalts : (seen stored : List (ℕ × ℕ)) → Type 0
+AreSameHalts seen stored = (stored ≡ seen) ⊎ (stored ≡ but_none seen)
 
 -- Each epoch but the last is ended by a mark, and no more ticks are made in it than its pieces have; the last is ended by the end, and all
 -- are made.

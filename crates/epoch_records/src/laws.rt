@@ -30,9 +30,9 @@ ghost use Rattle.step_line.specs.declared.Record.{Record as AnyRecord};
 ghost use Rattle.units.specs.declared.Steps3.{Steps3};
 ghost use Rattle.epoch_records.specs.Cutting.{HaveTicks, IsCutAmong};
 ghost use Rattle.epoch_records.specs.Epochs.{Epoch, IsPut, ArePut};
-ghost use Rattle.epoch_records.specs.Publishing.{published_in, halts_in, but_none, AreOver};
+ghost use Rattle.epoch_records.specs.Publishing.{published_in, halts_in, but_none, AreOver, AreSameHalts};
 ghost use Rattle.epoch_records.specs.Runs.{AskForNoEnding, IsBrokenOff, IsCutOff, IsRunOut, AreRun};
-ghost use Rattle.epoch_records.specs.SoFar.{AreRunSoFar, ArePutSoFar};
+ghost use Rattle.epoch_records.specs.SoFar.{AreRunSoFar, ArePutSoFar, IsPutSoFar, Phase, ArePublishedSoFar, HaltsUnseen};
 ghost use Rattle.epoch_records.specs.Stretches.{stretches_in, pieces_since, pieces_of_all, EndStretches, ArePutOver, ArePutSince, AreEpochsOf};
 
 /// What is put of a planner run that a reset has broken off, by a halt amid a piece, are records of its part: the first ticks that its
@@ -135,4 +135,16 @@ pub fn pulses_record_parts()
 pub fn epochs_are_made_so_far()
     ensures { (parts : List Part) (place : Steps3) (epochs : List Epoch) (records : List AnyRecord) → AreRunSoFar parts place epochs → ArePutSoFar epochs records →
         AreMadeSoFar place parts records }
+{}
+
+/// At any moment a pulse has put what is put so far of the epochs of which pieces are published, where it has got or dropped the first of
+/// these, and has halted where the halts were seen (`seen`), or once more (`unseen`). Of the open epoch so many ticks are made as are
+/// put of it.
+pub fn pulses_put_epochs_so_far()
+    ensures seen { (phase : Phase) (closed : List Epoch) (now : Epoch) (published : List AnyPiece) (halts stored : NewestFirst (ℕ × ℕ)) (stretches : List Stretch) (last : List AnyPiece) (records : List AnyRecord) →
+        ArePublishedSoFar phase closed now (length (ticks_among records)) published halts → BeginsWith published (pieces_of_all stretches ++ last) → AreSameHalts halts stored →
+        EndStretches stored stretches → ArePutSince stretches last records → IsPutSoFar (closed ++ now ∷ []) records }
+    ensures unseen { (phase : Phase) (closed : List Epoch) (now : Epoch) (published : List AnyPiece) (halts stored : NewestFirst (ℕ × ℕ)) (stretches : List Stretch) (last : List AnyPiece) (records : List AnyRecord) →
+        ArePublishedSoFar phase closed now (length (ticks_among records)) published halts → HaltsUnseen phase (length (ticks_among records)) published (pieces_of_all stretches ++ last) halts stored →
+        EndStretches stored stretches → ArePutSince stretches last records → IsPutSoFar (closed ++ now ∷ []) records }
 {}
