@@ -5,3 +5,4 @@ pub mod Ends
 pub mod Runs
 pub mod Sent
 pub mod SoFar
+pub mod Open

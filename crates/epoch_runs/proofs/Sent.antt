@@ -24,6 +24,9 @@ use Rattle.board_epochs.proofs.Working.{with_mark, works_end}
 use Rattle.epoch_courses.proofs.Halted.{halted_behind, made_there}
 use Rattle.epoch_records.specs.Epochs.{Epoch}
 use Rattle.epoch_records.specs.Publishing.{published_in, halts_in, AreOver}
+use Rattle.epoch_records.specs.SoFar.{done_in}
+use Rattle.epoch_records.proofs.Halts.{done_on, halts_on}
+use Rattle.epoch_records.proofs.PutSoFar.{published_both}
 use Rattle.epoch_runs.specs.Epochs.{reset_epoch, last_epoch, closed_epochs, epochs_of, halts_seen, pieces_sent}
 
 -- ---- that they are over
@@ -39,23 +42,19 @@ epochs_over state es h c = closed_over state es (last_epoch h) [] c (refl, refl)
 
 -- ---- their pieces
 
-published_on : (xs : List Epoch) (e : Epoch) → published_in (xs ++ e ∷ []) ≡ published_in xs ++ (e.pieces ++ e.closing ∷ [])
-published_on [] e = refl
-published_on (x ∷ xs) e = ap (λ (ps : List Piece). x.pieces ++ x.closing ∷ ps) (published_on xs e) ∙ sym (append_assoc x.pieces (x.closing ∷ published_in xs) (e.pieces ++ e.closing ∷ []))
-
 -- more pieces are published on others
 sent_more : (s : Sent) (ps : List Piece) → pieces_sent (onto s (reverse ps)) ≡ pieces_sent s ++ ps
 sent_more s ps =
     ap reverse (append_assoc (reverse ps) s.since s.older) ∙ reverse-append (reverse ps) (ring.published_in s) ∙ ap (λ (qs : List Piece). pieces_sent s ++ qs) (reverse-reverse ps)
 
-sent_behind : (first : Opening) (h : Journal) (before : BoardLog) → Conducted first h → sent_in (log_behind before h) ≡ onto (sent_in before) (reverse (published_of h))
+pub sent_behind : (first : Opening) (h : Journal) (before : BoardLog) → Conducted first h → sent_in (log_behind before h) ≡ onto (sent_in before) (reverse (published_of h))
 sent_behind first h before c = sent_on (known_in before) (port_log h) before (journals_never_stop first h c)
 
-pieces_behind : (first : Opening) (h : Journal) (before : BoardLog) → Conducted first h → pieces_sent (sent_in (log_behind before h)) ≡ pieces_sent (sent_in before) ++ published_of h
+pub pieces_behind : (first : Opening) (h : Journal) (before : BoardLog) → Conducted first h → pieces_sent (sent_in (log_behind before h)) ≡ pieces_sent (sent_in before) ++ published_of h
 pieces_behind first h before c = ap pieces_sent (sent_behind first h before c) ∙ sent_more (sent_in before) (published_of h)
 
 -- and the mark of a reset, behind its halt
-mark_more : (number : ℕ) (s : Sent) (done : ℕ) → pieces_sent (with_mark number s done) ≡ pieces_sent s ++ pieces.Mark (marks.Reset number) ∷ []
+pub mark_more : (number : ℕ) (s : Sent) (done : ℕ) → pieces_sent (with_mark number s done) ≡ pieces_sent s ++ pieces.Mark (marks.Reset number) ∷ []
 mark_more number s done = reverse-append (pieces.Mark (marks.Reset number) ∷ []) (ring.published_in s)
 
 -- where the work of a reset leaves the ring
@@ -63,7 +62,7 @@ worked : (state : State) (e : Closed) (es : NewestFirst Closed) → AreClosed st
     → (sent_in (closed_log (e ∷ es)) ≡ with_mark (last_line (opening_behind state es) e.journal) (sent_in (log_behind (closed_log es) e.journal)) (halted_in e.work)) × (ticks_made (e ∷ es) ≡ halted_in e.work + 1)
 worked state e es c = works_end (last_line (opening_behind state es) e.journal) (log_behind (closed_log es) e.journal) e.work c.0.resetting.works c.0.worked.done
 
-closed_pieces : (state : State) (es : NewestFirst Closed) → AreClosed state es → pieces_sent (sent_in (closed_log es)) ≡ published_in (closed_epochs state es)
+pub closed_pieces : (state : State) (es : NewestFirst Closed) → AreClosed state es → pieces_sent (sent_in (closed_log es)) ≡ published_in (closed_epochs state es)
 closed_pieces state [] c = refl
 closed_pieces state (e ∷ es) c =
     let first = opening_behind state es in
@@ -71,7 +70,7 @@ closed_pieces state (e ∷ es) c =
     ap pieces_sent (worked state e es c).0 ∙ mark_more (last_line first e.journal) (sent_in (log_behind (closed_log es) e.journal)) (halted_in e.work)
     ∙ ap (λ (ps : List Piece). ps ++ mark) (pieces_behind first e.journal (closed_log es) c.0.resetting.epoch.conducted ∙ ap (λ (ps : List Piece). ps ++ published_of e.journal) (closed_pieces state es c.1))
     ∙ append_assoc (published_in (closed_epochs state es)) (published_of e.journal) mark
-    ∙ sym (published_on (closed_epochs state es) (reset_epoch (ticks_made es) first e.journal e.work))
+    ∙ sym (published_both (closed_epochs state es) (reset_epoch (ticks_made es) first e.journal e.work ∷ []))
 
 all_out : (first : Opening) (h : Journal) → Conducted first h → IsFinished first h → published_of h ≡ planned_of h ++ pieces.End ∷ []
 all_out first h c over =
@@ -84,51 +83,18 @@ epochs_sent state es h c over =
     pieces_behind first h (closed_log es) c.1.conducted
     ∙ ap (λ (ps : List Piece). ps ++ published_of h) (closed_pieces state es c.0)
     ∙ ap (λ (ps : List Piece). published_in (closed_epochs state es) ++ ps) (all_out first h c.1.conducted over)
-    ∙ sym (published_on (closed_epochs state es) (last_epoch h))
+    ∙ sym (published_both (closed_epochs state es) (last_epoch h ∷ []))
 
 -- ---- their halts
 
--- how many ticks are done behind epochs, each with the mark that ends it
-abbrev done_behind : List Epoch → ℕ
-done_behind [] = 0
-done_behind (e ∷ es) = e.done + 1 + done_behind es
-
-done_on : (xs : List Epoch) (e : Epoch) → done_behind (xs ++ e ∷ []) ≡ done_behind xs + (e.done + 1)
-done_on [] e = omega arith
-done_on (x ∷ xs) e = let more = done_on xs e in omega (arith, more)
-
-closed_done : (state : State) (es : NewestFirst Closed) → AreClosed state es → done_behind (closed_epochs state es) ≡ ticks_made es
+pub closed_done : (state : State) (es : NewestFirst Closed) → AreClosed state es → done_in (closed_epochs state es) ≡ ticks_made es
 closed_done state [] c = refl
 closed_done state (e ∷ es) c =
     let one = reset_epoch (ticks_made es) (opening_behind state es) e.journal e.work in
     let on = done_on (closed_epochs state es) one in let was = closed_done state es c.1 in let now = (worked state e es c).1 in let low = halted_behind state e es c in
     omega (arith, on, was, now, low)
 
-halts_more : (p d : ℕ) (x e : Epoch) (xs more : List Epoch) → halts_in p d (x ∷ (xs ++ e ∷ more)) ≡ (p + length x.pieces, d + x.done) ∷ halts_in (p + length x.pieces + 1) (d + x.done + 1) (xs ++ e ∷ more)
-halts_more p d x e [] more = refl
-halts_more p d x e (y ∷ xs) more = refl
-
--- one epoch more has one halt more
-halts_on : (p d : ℕ) (xs : List Epoch) (e f : Epoch) → halts_in p d (xs ++ e ∷ f ∷ []) ≡ halts_in p d (xs ++ e ∷ []) ++ (p + length (published_in xs) + length e.pieces, d + done_behind xs + e.done) ∷ []
-halts_on p d [] e f =
-    let a : p + length e.pieces ≡ p + 0 + length e.pieces = omega arith in
-    let b : d + e.done ≡ d + 0 + e.done = omega arith in
-    ap (λ (n : ℕ). let h : ℕ × ℕ = (n, d + e.done) in h ∷ []) a ∙ ap (λ (n : ℕ). let h : ℕ × ℕ = (p + 0 + length e.pieces, n) in h ∷ []) b
-halts_on p d (x ∷ xs) e f =
-    let q : ℕ = p + length x.pieces + 1 in
-    let c : ℕ = d + x.done + 1 in
-    let many = length-append x.pieces (x.closing ∷ published_in xs) in
-    let a : q + length (published_in xs) + length e.pieces ≡ p + length (published_in (x ∷ xs)) + length e.pieces = omega (arith, many) in
-    let b : c + done_behind xs + e.done ≡ d + done_behind (x ∷ xs) + e.done = omega arith in
-    let first : ℕ × ℕ = (p + length x.pieces, d + x.done) in
-    let others = halts_in q c (xs ++ e ∷ []) in
-    halts_more p d x e xs (f ∷ [])
-    ∙ ap (λ (hs : List (ℕ × ℕ)). first ∷ hs) (halts_on q c xs e f
-    ∙ ap (λ (n : ℕ). let h : ℕ × ℕ = (n, c + done_behind xs + e.done) in others ++ h ∷ []) a
-    ∙ ap (λ (n : ℕ). let h : ℕ × ℕ = (p + length (published_in (x ∷ xs)) + length e.pieces, n) in others ++ h ∷ []) b)
-    ∙ ap (λ (hs : List (ℕ × ℕ)). hs ++ (p + length (published_in (x ∷ xs)) + length e.pieces, d + done_behind (x ∷ xs) + e.done) ∷ []) (sym (halts_more p d x e xs []))
-
-closed_halts : (state : State) (es : NewestFirst Closed) (f : Epoch) → AreClosed state es → halts_in 0 0 (closed_epochs state es ++ f ∷ []) ≡ reverse (halts_seen (sent_in (closed_log es)))
+pub closed_halts : (state : State) (es : NewestFirst Closed) (f : Epoch) → AreClosed state es → halts_in 0 0 (closed_epochs state es ++ f ∷ []) ≡ reverse (halts_seen (sent_in (closed_log es)))
 closed_halts state [] f c = refl
 closed_halts state (e ∷ es) f c =
     let first = opening_behind state es in
@@ -145,11 +111,11 @@ closed_halts state (e ∷ es) f c =
     let done = closed_done state es c.1 in
     let low = halted_behind state e es c in
     let a : 0 + length (published_in xs) + length (published_of e.journal) ≡ length (ring.published_in s) = omega (arith, out, both, turned) in
-    let b : 0 + done_behind xs + one.done ≡ halted_in e.work = omega (arith, done, low) in
+    let b : 0 + done_in xs + one.done ≡ halted_in e.work = omega (arith, done, low) in
     ap (halts_in 0 0) (append_assoc xs (one ∷ []) (f ∷ []))
     ∙ halts_on 0 0 xs one f
-    ∙ ap (λ (hs : List (ℕ × ℕ)). hs ++ (0 + length (published_in xs) + length (published_of e.journal), 0 + done_behind xs + one.done) ∷ []) (closed_halts state es one c.1)
-    ∙ ap (λ (n : ℕ). let h : ℕ × ℕ = (n, 0 + done_behind xs + one.done) in reverse (halts_seen was) ++ h ∷ []) a
+    ∙ ap (λ (hs : List (ℕ × ℕ)). hs ++ (0 + length (published_in xs) + length (published_of e.journal), 0 + done_in xs + one.done) ∷ []) (closed_halts state es one c.1)
+    ∙ ap (λ (n : ℕ). let h : ℕ × ℕ = (n, 0 + done_in xs + one.done) in reverse (halts_seen was) ++ h ∷ []) a
     ∙ ap (λ (n : ℕ). let h : ℕ × ℕ = (length (ring.published_in s), n) in reverse (halts_seen was) ++ h ∷ []) b
     ∙ ap (λ (hs : List (ℕ × ℕ)). reverse hs ++ seen ∷ []) (sym same)
     ∙ sym (reverse-append (seen ∷ []) (halts_seen s))

@@ -45,13 +45,13 @@ use Rattle.epoch_runs.proofs.Runs.{BrokenSo, broken_so, closed_run, marked_run}
 
 -- ---- what was published, but for the end
 
-none_out : (ps : List Piece) → NoEnds ps → without_end ps ≡ ps
+pub none_out : (ps : List Piece) → NoEnds ps → without_end ps ≡ ps
 none_out [] none = refl
 none_out (pieces.Segment s ∷ ps) none = ap (λ (qs : List Piece). pieces.Segment s ∷ qs) (none_out ps none.1)
 none_out (pieces.Mark m ∷ ps) none = ap (λ (qs : List Piece). pieces.Mark m ∷ qs) (none_out ps none.1)
 none_out (pieces.End ∷ ps) none = absurd (none.0 refl)
 
-out_on : (xs ys : List Piece) → without_end (xs ++ ys) ≡ without_end xs ++ without_end ys
+pub out_on : (xs ys : List Piece) → without_end (xs ++ ys) ≡ without_end xs ++ without_end ys
 out_on xs ys = filter-append (λ p. not (is_end p)) xs ys
 
 given_out : (first : Opening) (h : Journal) → Conducted first h → without_end (given_of h) ≡ planned_of h

@@ -1,5 +1,5 @@
 -- The epochs of a board, as the pulse has them.
-use Rattle.std.specs.Prelude.{ℕ, not, List, [], ◌∷◌, ◌++◌, map, reverse}
+use Rattle.std.specs.Prelude.{ℕ, ◌-◌, not, List, [], ◌∷◌, ◌++◌, map, reverse}
 use Rattle.std.specs.List.{filter}
 use Rattle.motion_ring.specs.Sides as ring
 use Rattle.motion_ring.specs.declared.lists.Sent.{Sent}
@@ -12,11 +12,14 @@ use Rattle.step_line.specs.declared.Piece.TheVariants as pieces
 use Rattle.board_rules.specs.Breaking.{is_end}
 use Rattle.board_rules.specs.Openings.{Opening}
 use Rattle.board_rules.specs.Steps.{Journal, published_of, planned_of}
-use Rattle.board_epochs.specs.Epochs.{Closed, Epochs, opening_behind, last_line, ticks_made}
+use Rattle.board_epochs.specs.Epochs.{Closed, Epochs, closed_log, log_behind, opening_behind, last_line, ticks_made}
 use Rattle.board_epochs.specs.Epochs.Epochs.{goes, resets}
-use Rattle.board_epochs.specs.Work.{Work}
+use Rattle.board_epochs.specs.Work.{Work, Stage, stage_of, halted_in}
+use Rattle.board_epochs.specs.Work.Stage.{drops_changes, awaits_mark, stops, awaits_halt, drops, publishes, awaits_done, over}
 use Rattle.epoch_courses.specs.Course.{made_at_halt}
 use Rattle.epoch_records.specs.Epochs.{Epoch}
+use Rattle.epoch_records.specs.SoFar.{Phase}
+use Rattle.epoch_records.specs.SoFar.Phase.{is_going, is_stopping, is_halted}
 
 -- One that a reset has ended: the pieces that were published in it, how many of their ticks were made at the halt, and the mark of
 -- the reset.
@@ -47,6 +50,36 @@ open_epoch made h = record { pieces = without_end (published_of h); done = made;
 abbrev pub epochs_so_far : State → (made : ℕ) → Epochs → List Epoch
 epochs_so_far state made (goes es h) = closed_epochs state es ++ open_epoch made h ∷ []
 epochs_so_far state made (resets es h w) = closed_epochs state es ++ open_epoch made h ∷ []
+
+-- how far the reset of the open epoch is
+abbrev pub phase_at : Stage → Phase
+phase_at drops_changes = is_going
+phase_at awaits_mark = is_going
+phase_at (stops n) = is_going
+phase_at (awaits_halt n) = is_stopping
+phase_at (drops n) = is_halted
+phase_at publishes = is_halted
+phase_at awaits_done = is_halted
+phase_at over = is_halted
+
+abbrev pub phase_of : Epochs → Phase
+phase_of (goes es h) = is_going
+phase_of (resets es h w) = phase_at (stage_of (log_behind (closed_log es) h) w)
+
+-- how many ticks of the open epoch are made, where so many are made in all: once it is halted those made by then
+abbrev pub made_in : Phase → (ticks base halted : ℕ) → ℕ
+made_in is_going ticks base halted = ticks - base
+made_in is_stopping ticks base halted = ticks - base
+made_in is_halted ticks base halted = halted - base
+
+abbrev pub made_of : (ticks : ℕ) → Epochs → ℕ
+made_of ticks (goes es h) = ticks - ticks_made es
+made_of ticks (resets es h w) = made_in (phase_of (resets es h w)) ticks (ticks_made es) (halted_in w)
+
+-- the epochs before the open one
+abbrev pub closed_of : State → Epochs → List Epoch
+closed_of state (goes es h) = closed_epochs state es
+closed_of state (resets es h w) = closed_epochs state es
 
 -- ---- as the ring has them
 

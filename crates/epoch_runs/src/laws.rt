@@ -2,12 +2,13 @@
 
 ghost use Rattle.std.specs.Prelude.{◌≡◌, ℕ, ◌≤◌, true, [], reverse};
 ghost use Rattle.flight.specs.Places.{origin};
+ghost use Rattle.motion_ring.specs.Sides.{ticks_published};
 ghost use Rattle.run_rules.specs.declared.State.{State};
 ghost use Rattle.run_texts.specs.Parts.{parts_of};
 ghost use Rattle.step_line.specs.Finishing.{ticks_together};
 ghost use Rattle.step_line.specs.Logs.{NewestFirst};
 ghost use Rattle.board_rules.specs.Conduct.{IsFinished};
-ghost use Rattle.board_rules.specs.Ports.{sent_in};
+ghost use Rattle.board_rules.specs.Ports.{known_in, sent_in};
 ghost use Rattle.board_rules.specs.Steps.{Journal, known_of, published_of};
 ghost use Rattle.board_epochs.specs.Epochs.{Closed, Epochs, AreEpochs, closed_log, log_behind, log_of, opening_behind};
 ghost use Rattle.board_epochs.specs.Epochs.Epochs.{goes, resets};
@@ -15,8 +16,8 @@ ghost use Rattle.board_epochs.specs.Work.{Work, stage_of};
 ghost use Rattle.epoch_courses.specs.Course.{is_marked, with_reset, closed_course, course_of, open_journal};
 ghost use Rattle.epoch_records.specs.Publishing.{published_in, halts_in, AreOver};
 ghost use Rattle.epoch_records.specs.Runs.{AreRun};
-ghost use Rattle.epoch_records.specs.SoFar.{AreRunSoFar};
-ghost use Rattle.epoch_runs.specs.Epochs.{epochs_of, epochs_so_far, without_end, halts_seen, pieces_sent};
+ghost use Rattle.epoch_records.specs.SoFar.{AreRunSoFar, ArePublishedSoFar};
+ghost use Rattle.epoch_runs.specs.Epochs.{closed_of, epochs_of, epochs_so_far, made_of, open_epoch, phase_of, without_end, halts_seen, pieces_sent};
 
 /// The epochs of a board that is done, as the pulse has them by their pieces and the ticks made of these, were run for the
 /// parts of its course: so what the pulse puts of them are the records of these parts. So were its epochs so far, while so
@@ -33,9 +34,15 @@ pub fn epochs_are_run_for_their_course()
 
 /// These epochs are those of the board's port: their pieces, with the marks of the resets between them and the end behind
 /// them, are those that it has published, and their halts are those that it has seen. Each but the last is ended by a mark,
-/// and no more of its ticks are made than were published; and all of the last one.
+/// and no more of its ticks are made than were published; and all of the last one. So it is at any moment while so many ticks are made in
+/// all, at least those that the board knows of, and no more than it has published (`so_far`): of the open epoch no fewer are made than
+/// its journal knows (`known`).
 pub fn epochs_are_those_of_the_port()
     ensures over { (state : State) (es : NewestFirst Closed) (h : Journal) → AreEpochs state (goes es h) → AreOver (epochs_of state es h) }
     ensures pieces { (state : State) (es : NewestFirst Closed) (h : Journal) → AreEpochs state (goes es h) → IsFinished (opening_behind state es) h → pieces_sent (sent_in (log_of (goes es h))) ≡ published_in (epochs_of state es h) }
     ensures halts { (state : State) (es : NewestFirst Closed) (h : Journal) → AreEpochs state (goes es h) → halts_seen (sent_in (log_of (goes es h))) ≡ reverse (halts_in 0 0 (epochs_of state es h)) }
+    ensures so_far { (state : State) (ticks : ℕ) (es : Epochs) → AreEpochs state es → known_in (log_of es) ≤ ticks → ticks ≤ ticks_published (sent_in (log_of es)) →
+        ArePublishedSoFar (phase_of es) (closed_of state es) (open_epoch (made_of ticks es) (open_journal es)) ticks (pieces_sent (sent_in (log_of es))) (halts_seen (sent_in (log_of es))) }
+    ensures known { (state : State) (ticks : ℕ) (es : Epochs) → AreEpochs state es → known_in (log_of es) ≤ ticks → ticks ≤ ticks_published (sent_in (log_of es)) →
+        known_of (open_journal es) ≤ made_of ticks es }
 {}

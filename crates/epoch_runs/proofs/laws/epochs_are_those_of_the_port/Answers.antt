@@ -1,3 +1,4 @@
+use Rattle.epoch_runs.proofs.Open.{epochs_open}
 use Rattle.epoch_runs.proofs.Sent.{epochs_over, epochs_sent, epochs_halted}
 use Rattle.epoch_runs.proofs.laws.epochs_are_those_of_the_port.Goals as goal
 
@@ -9,3 +10,9 @@ returns-clause-pieces c = epochs_sent
 
 pub returns-clause-halts : goal.returns-clause-halts
 returns-clause-halts c = epochs_halted
+
+pub returns-clause-so_far : goal.returns-clause-so_far
+returns-clause-so_far c = λ state ticks es are low high. (epochs_open state ticks es are low high).are
+
+pub returns-clause-known : goal.returns-clause-known
+returns-clause-known c = λ state ticks es are low high. (epochs_open state ticks es are low high).known
