@@ -1,5 +1,5 @@
 -- What the ring has of epochs so far, the last of which is open.
-use Rattle.std.proofs.Common.{◌≡◌, ◌⊎◌, inl, inr, ℕ, ◌+◌, ◌-◌, ◌≤◌, true, List, [], ◌∷◌, ◌++◌, length, reverse, refl, sym, ap, ◌∙◌, subst, append_assoc, append-nil, arith}
+use Rattle.std.proofs.Common.{◌≡◌, ◌⊎◌, inl, inr, ℕ, ◌+◌, ◌-◌, ◌≤◌, Bool, true, false, List, [], ◌∷◌, ◌++◌, length, reverse, refl, sym, ap, ◌∙◌, subst, append_assoc, append-nil, arith}
 use Rattle.std.proofs.lemmas.List.{length-append, length-reverse, reverse-reverse}
 use Rattle.motion_ring.specs.Sides as ring
 use Rattle.motion_ring.specs.declared.lists.Sent.{Sent}
@@ -28,7 +28,7 @@ use Rattle.board_epochs.specs.Work.{Work, Stage, Works, MayWorkAt, halted_in, st
 use Rattle.board_epochs.specs.Work.Stage.{drops_changes, awaits_mark, stops, awaits_halt, drops, publishes, awaits_done, over}
 use Rattle.board_epochs.proofs.Bounding.{halted_below, none_ended}
 use Rattle.board_epochs.proofs.Chaining.{begins_behind, known_there}
-use Rattle.board_epochs.proofs.Onto.{onto, ticks_are}
+use Rattle.board_epochs.proofs.Onto.{onto, ticks_are, goes_there}
 use Rattle.board_epochs.proofs.Prompting.{unended}
 use Rattle.board_epochs.proofs.Working.{Holds, holds, with_mark}
 use Rattle.epoch_courses.specs.Course.{is_marked, open_journal}
@@ -279,3 +279,28 @@ epochs_open state ticks (goes es h) c low high =
       known = omega (arith, known, low);
     }
 epochs_open state ticks (resets es h w) c low high = resets_open state ticks es h w c.0 c.1 low high
+
+-- ---- where a stop waits
+
+calm_there : (state : State) (es : NewestFirst Closed) (h : Journal) → AreClosed state es → Conducted (opening_behind state es) h → (sent_in (log_behind (closed_log es) h)).waits ≡ false
+calm_there state es h c is = ap (λ (s : Sent). s.waits) (sent_behind (opening_behind state es) h (closed_log es) is) ∙ goes_there (closed_log es) (begins_behind state es c)
+
+no_stop : {A : Type 0} (t : Bool) → t ≡ true → t ≡ false → A
+no_stop t waits calm = absurd (let e = sym waits ∙ calm in cc)
+
+by_waits : (number : ℕ) (before l : BoardLog) (halted : ℕ) (stage : Stage) → (sent_in before).waits ≡ false → Holds number before l halted stage → (sent_in l).waits ≡ true → phase_at stage ≡ is_stopping
+by_waits number before l halted drops_changes calm holds waits = no_stop (sent_in l).waits waits (ap (λ (s : Sent). s.waits) holds ∙ calm)
+by_waits number before l halted awaits_mark calm holds waits = no_stop (sent_in l).waits waits (ap (λ (s : Sent). s.waits) holds ∙ calm)
+by_waits number before l halted (stops n) calm holds waits = no_stop (sent_in l).waits waits (ap (λ (s : Sent). s.waits) holds ∙ calm)
+by_waits number before l halted (awaits_halt n) calm holds waits = refl
+by_waits number before l halted (drops n) calm holds waits = no_stop (sent_in l).waits waits (ap (λ (s : Sent). s.waits) holds.0)
+by_waits number before l halted publishes calm holds waits = no_stop (sent_in l).waits waits (ap (λ (s : Sent). s.waits) holds.0)
+by_waits number before l halted awaits_done calm holds waits = no_stop (sent_in l).waits waits (ap (λ (s : Sent). s.waits) holds)
+by_waits number before l halted over calm holds waits = no_stop (sent_in l).waits waits (ap (λ (s : Sent). s.waits) holds.0)
+
+pub stopping_there : (state : State) (es : Epochs) → AreEpochs state es → (sent_in (log_of es)).waits ≡ true → phase_of es ≡ is_stopping
+stopping_there state (goes es h) c waits = no_stop (sent_in (log_of (goes es h))).waits waits (calm_there state es h c.0 c.1.conducted)
+stopping_there state (resets es h w) c waits =
+    let there = log_behind (closed_log es) h in
+    let number = last_line (opening_behind state es) h in
+    by_waits number there (log_of (resets es h w)) (halted_in w) (stage_of there w) (calm_there state es h c.0 c.1.epoch.conducted) (holds number there w c.1.works) waits

@@ -17,6 +17,7 @@ ghost use Rattle.epoch_courses.specs.Course.{is_marked, with_reset, closed_cours
 ghost use Rattle.epoch_records.specs.Publishing.{published_in, halts_in, AreOver};
 ghost use Rattle.epoch_records.specs.Runs.{AreRun};
 ghost use Rattle.epoch_records.specs.SoFar.{AreRunSoFar, ArePublishedSoFar};
+ghost use Rattle.epoch_records.specs.SoFar.Phase.{is_stopping};
 ghost use Rattle.epoch_runs.specs.Epochs.{closed_of, epochs_of, epochs_so_far, made_of, open_epoch, phase_of, without_end, halts_seen, pieces_sent};
 
 /// The epochs of a board that is done, as the pulse has them by their pieces and the ticks made of these, were run for the
@@ -36,7 +37,7 @@ pub fn epochs_are_run_for_their_course()
 /// them, are those that it has published, and their halts are those that it has seen. Each but the last is ended by a mark,
 /// and no more of its ticks are made than were published; and all of the last one. So it is at any moment while so many ticks are made in
 /// all, at least those that the board knows of, and no more than it has published (`so_far`): of the open epoch no fewer are made than
-/// its journal knows (`known`).
+/// its journal knows (`known`). A stop waits for its halt only where the reset of the open epoch has stored it (`stops`).
 pub fn epochs_are_those_of_the_port()
     ensures over { (state : State) (es : NewestFirst Closed) (h : Journal) → AreEpochs state (goes es h) → AreOver (epochs_of state es h) }
     ensures pieces { (state : State) (es : NewestFirst Closed) (h : Journal) → AreEpochs state (goes es h) → IsFinished (opening_behind state es) h → pieces_sent (sent_in (log_of (goes es h))) ≡ published_in (epochs_of state es h) }
@@ -45,4 +46,5 @@ pub fn epochs_are_those_of_the_port()
         ArePublishedSoFar (phase_of es) (closed_of state es) (open_epoch (made_of ticks es) (open_journal es)) ticks (pieces_sent (sent_in (log_of es))) (halts_seen (sent_in (log_of es))) }
     ensures known { (state : State) (ticks : ℕ) (es : Epochs) → AreEpochs state es → known_in (log_of es) ≤ ticks → ticks ≤ ticks_published (sent_in (log_of es)) →
         known_of (open_journal es) ≤ made_of ticks es }
+    ensures stops { (state : State) (es : Epochs) → AreEpochs state es → (sent_in (log_of es)).waits ≡ true → phase_of es ≡ is_stopping }
 {}

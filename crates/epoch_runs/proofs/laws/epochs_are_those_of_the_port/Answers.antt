@@ -1,4 +1,4 @@
-use Rattle.epoch_runs.proofs.Open.{epochs_open}
+use Rattle.epoch_runs.proofs.Open.{epochs_open, stopping_there}
 use Rattle.epoch_runs.proofs.Sent.{epochs_over, epochs_sent, epochs_halted}
 use Rattle.epoch_runs.proofs.laws.epochs_are_those_of_the_port.Goals as goal
 
@@ -16,3 +16,6 @@ returns-clause-so_far c = λ state ticks es are low high. (epochs_open state tic
 
 pub returns-clause-known : goal.returns-clause-known
 returns-clause-known c = λ state ticks es are low high. (epochs_open state ticks es are low high).known
+
+pub returns-clause-stops : goal.returns-clause-stops
+returns-clause-stops c = stopping_there
