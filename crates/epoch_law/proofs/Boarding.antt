@@ -41,10 +41,11 @@ use Rattle.epoch_courses.proofs.Texts.{texts_now}
 use Rattle.epoch_courses.proofs.Told.{console_tells, finished_tell}
 use Rattle.epoch_effects.specs.Effects.{EpochEffects}
 use Rattle.epoch_effects.specs.Over.{effects_of, closed_effects}
+use Rattle.epoch_effects.proofs.Asking.{epochs_ask}
 use Rattle.epoch_effects.proofs.Causes.{cuts_caused}
 use Rattle.epoch_effects.proofs.Chain.{effects_are, taken_once}
 use Rattle.epoch_effects.proofs.Opened.{opened}
-use Rattle.epoch_effects.proofs.Telling.{epochs_report, epochs_publish, all_answered}
+use Rattle.epoch_effects.proofs.Telling.{epochs_report, epochs_lock, epochs_publish, all_answered}
 use Rattle.epoch_links.specs.Drops.{dropped_by}
 use Rattle.epoch_links.specs.Links.{EndsEpochs}
 use Rattle.epoch_links.specs.Pieces.{items_closed, items_in}
@@ -86,13 +87,13 @@ published_ticks first h c over =
     let all : published_of h ≡ planned_of h ++ pieces.End ∷ [] = sym (append-nil (published_of h)) ∙ ap (λ (ps : List Piece). published_of h ++ ps) (sym s.hand) ∙ sym (hand_is first h c) ∙ s.given in
     ap (flat_map ticks_of) all ∙ flat_map-append ticks_of (planned_of h) (pieces.End ∷ []) ∙ append-nil (flat_map ticks_of (planned_of h))
 
-made_on : (es : List EpochEffects) (ds : List Epoch) (e : EpochEffects) (d : Epoch) → AreMade es ds → take e.made (flat_map ticks_of e.pieces) ≡ take d.done (flat_map ticks_of d.pieces) → AreMade (es ++ e ∷ []) (ds ++ d ∷ [])
+pub made_on : (es : List EpochEffects) (ds : List Epoch) (e : EpochEffects) (d : Epoch) → AreMade es ds → take e.made (flat_map ticks_of e.pieces) ≡ take d.done (flat_map ticks_of d.pieces) → AreMade (es ++ e ∷ []) (ds ++ d ∷ [])
 made_on [] [] e d are same = (same, tt)
 made_on [] (x ∷ ds) e d are same = absurd are
 made_on (y ∷ es) [] e d are same = absurd are
 made_on (y ∷ es) (x ∷ ds) e d are same = (are.0, made_on es ds e d are.1 same)
 
-closed_made : (state : State) (es : NewestFirst Closed) → AreMade (closed_effects state es) (closed_epochs state es)
+pub closed_made : (state : State) (es : NewestFirst Closed) → AreMade (closed_effects state es) (closed_epochs state es)
 closed_made state [] = tt
 closed_made state (e ∷ es) = made_on (closed_effects state es) (closed_epochs state es) _ _ (closed_made state es) refl
 
@@ -160,6 +161,8 @@ module _ (state : State) (es : NewestFirst Closed) (h : Journal) (c : AreEpochs 
     doing = effects_are state made (goes es h) c known;
     opened = opened state made (goes es h) c;
     reports = epochs_report state made (goes es h) c known;
+    locks = epochs_lock state made (goes es h) c;
+    asking = epochs_ask state made (goes es h) c known;
     answered_are = all_answered state made (goes es h) c;
     pieces = epochs_publish state made (goes es h) c known;
     made = made_on (closed_effects state es) (closed_epochs state es) _ _ (closed_made state es) (ap (λ (rs : List Record). take made rs) (published_ticks first h c.1.conducted over));

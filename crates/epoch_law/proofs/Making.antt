@@ -106,6 +106,8 @@ module _ (form : Form) (job_was job_is : SourceState) (was is : Sinks) (end : Ho
     as_taken = board.doing;
     opened = board.opened;
     reports = board.reports;
+    locks = board.locks;
+    asking = board.asking;
     answered = subst (λ (rs : List Reply). BeginsWith rs h.got) board.answered_are begins;
     published = board.pieces;
     made = board.made;

@@ -29,7 +29,8 @@ use Rattle.epoch_courses.specs.Drives.{Driven, AreDriven}
 use Rattle.epoch_courses.specs.Told.{without_byes}
 use Rattle.epoch_effects.specs.Effects.{EpochEffects, AreEffects}
 use Rattle.epoch_effects.specs.Pieces.{ArePublished}
-use Rattle.epoch_effects.specs.Reports.{HasReported, AreOpened, resets_of}
+use Rattle.epoch_effects.specs.Asking.{AsksInTurn}
+use Rattle.epoch_effects.specs.Reports.{HasReported, TellsLock, AreOpened, resets_of}
 use Rattle.epoch_effects.specs.Words.{WordsTaken, AreTakenIn}
 use Rattle.epoch_links.specs.Links.{AwaitsBanners, HasBanners, EndsEpochs}
 use Rattle.epoch_links.specs.Pieces.{Pieces, joined, items_in, IsFrontOf, IsAllOf}
@@ -127,6 +128,8 @@ pub record BoardRan (d : BoardDid) : Type 0 where
   pub doing : AreEffects course drives effects
   pub opened : AreOpened first origin false (resets_of course) effects
   pub reports : AllByRecursion HasReported effects
+  pub locks : AllByRecursion TellsLock effects
+  pub asking : AllByRecursion AsksInTurn effects
   pub answered_are : d.answered ≡ flat_map (λ e. e.answered) effects
   pub pieces : AllByRecursion ArePublished effects
   pub made : AreMade effects epochs

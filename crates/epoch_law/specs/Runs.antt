@@ -37,7 +37,8 @@ use Rattle.epoch_courses.specs.Drives.{Driven, AreDriven}
 use Rattle.epoch_courses.specs.Told.{without_byes}
 use Rattle.epoch_effects.specs.Effects.{EpochEffects, AreEffects}
 use Rattle.epoch_effects.specs.Pieces.{ArePublished}
-use Rattle.epoch_effects.specs.Reports.{HasReported, AreOpened, resets_of}
+use Rattle.epoch_effects.specs.Asking.{AsksInTurn}
+use Rattle.epoch_effects.specs.Reports.{HasReported, TellsLock, AreOpened, resets_of}
 use Rattle.epoch_effects.specs.Words.{WordsTaken}
 use Rattle.epoch_records.specs.Epochs.{Epoch, ArePut}
 use Rattle.epoch_records.specs.Runs.{AreRun}
@@ -98,12 +99,16 @@ pub record IsScannedFor (scanned : List ℕ) (w : WordsTaken) : Type 0 where
 
 -- Epoch by epoch, overrides begin at 100 percent, and each change sets them to that or is asked for; nothing slows the machine down but a
 -- hold, a cancel or a change of overrides for which a word was taken, and an alarm. Reports fit the lines of their epoch, the opening that
--- the reset before it has left, and the ticks that were made in it; reports may be answered behind Bye that are not got. All of these words were scanned; so were as many `?` as there are
--- words that asked for reports, and as many `!` and 0x85 as words for a hold or a cancel.
+-- the reset before it has left, and the ticks that were made in it; while an epoch is locked they tell of an alarm, and behind the line
+-- that unlocks it only of one that a line has raised; reports may be answered behind Bye that are not got. Of each part all was asked that
+-- its lines but the last ask for. All words that were taken were scanned; so were as many `?` as there are words that asked for reports, and
+-- as many `!` and 0x85 as words for a hold or a cancel.
 pub record HasEffects (scanned : List ℕ) (first : State) (course : List Passed) (drives : List Driven) (epochs : List Epoch) (replies : List Reply) (effects : List EpochEffects) : Type 0 where
   pub as_taken : AreEffects course drives effects
   pub opened : AreOpened first origin false (resets_of course) effects
   pub reports : AllByRecursion HasReported effects
+  pub locks : AllByRecursion TellsLock effects
+  pub asking : AllByRecursion AsksInTurn effects
   pub answered : BeginsWith (flat_map (λ e. e.answered) effects) replies
   pub published : AllByRecursion ArePublished effects
   pub made : AreMade effects epochs
