@@ -27,15 +27,15 @@ use Rattle.epoch_links.proofs.Cutting.{cut_at_marks, one_of_each}
 use Rattle.epoch_links.proofs.Joining.{fronts, wholes}
 use Rattle.epoch_links.proofs.Leaving.{left_behind}
 use Rattle.epoch_records.specs.Epochs.{ArePut}
-use Rattle.epoch_records.specs.Publishing.{published_in, halts_in, but_none}
+use Rattle.epoch_records.specs.Publishing.{published_in, halts_in, but_none, AreSameHalts}
 use Rattle.epoch_records.specs.Stretches.{pieces_of_all, AreEpochsOf}
 use Rattle.epoch_records.proofs.Epochs.{stretches_put}
+use Rattle.epoch_records.proofs.Halts.{none_reversed}
 use Rattle.epoch_records.proofs.Over.{are_recorded}
 use Rattle.epoch_records.proofs.Publishing.{epochs_of_stretches, some_epochs_of_stretches}
-use Rattle.epoch_law.specs.Joined.{AreConnected, AreSameHalts, ArePassed}
+use Rattle.epoch_law.specs.Joined.{AreConnected, ArePassed}
 use Rattle.epoch_law.specs.Ran.{HostDid, HasSent, BoardDid, BoardRan, PulseDid, PulseRan}
 use Rattle.epoch_law.proofs.Alarms.{course_so}
-use Rattle.epoch_law.proofs.Halts.{none_reversed}
 use Rattle.epoch_law.proofs.Leading.{leads_with_more, follows_to_end, left_of_all}
 use Rattle.epoch_law.proofs.Sending.{cancels_scanned}
 

@@ -16,9 +16,10 @@ use Rattle.stream_host.proofs.Running.{has_run_of, ran_lines}
 use Rattle.epoch_links.proofs.Awaiting.{awaits, all_got, got_or_all}
 use Rattle.epoch_links.proofs.Sending.{sends_front, sends_all}
 use Rattle.epoch_records.specs.Stretches.{stretches_in, pieces_since}
-use Rattle.epoch_records.proofs.Pulsing.{all_pieces, halts_end, done_over}
+use Rattle.epoch_records.proofs.Pulsing.{all_pieces, halts_end, done_over, since_over}
 use Rattle.epoch_law.specs.Journals.{host_did, pulse_did}
 use Rattle.epoch_law.specs.Ran.{HasSent, IsRest, Sends, PulseRan}
+use Rattle.epoch_law.specs.SoFar.{PulseRuns}
 
 pub pulse_ran : (p : Pulsing) (h : PieceLog) (k : RecordLog) → PulseFits p h k → end_is_put k ≡ true → PulseRan (pulse_did h k)
 pulse_ran p h k fits end =
@@ -32,6 +33,9 @@ pulse_ran p h k fits end =
       before = reverse d.1.0;
       ends = ap reverse d.1.1 ∙ reverse-append (pieces.End ∷ []) d.1.0;
     }
+
+pub pulse_runs : (p : Pulsing) (h : PieceLog) (k : RecordLog) → PulseFits p h k → PulseRuns (pulse_did h k)
+pulse_runs p h k fits = record { stretches = stretches_in h; last = pieces_since h; pieces = all_pieces h; halted = halts_end h; put = since_over p h k fits }
 
 -- ---- the host
 

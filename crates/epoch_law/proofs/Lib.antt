@@ -1,6 +1,5 @@
 pub mod Leading
 pub mod Alarms
-pub mod Halts
 pub mod Sending
 pub mod Marking
 pub mod Causing
@@ -15,3 +14,5 @@ pub mod Fronts
 pub mod Connecting
 pub mod SoFar
 pub mod BoardingSoFar
+pub mod MakingSoFar
+pub mod Passing

@@ -1,5 +1,5 @@
 -- The end is published once, behind all else.
-use Rattle.std.proofs.Common.{◌≡◌, List, [], ◌∷◌, ◌++◌, refl, sym, ap, ◌∙◌, subst, append_assoc}
+use Rattle.std.proofs.Common.{◌≡◌, List, [], ◌∷◌, ◌++◌, sym, ◌∙◌, subst, append_assoc}
 use Rattle.run_rules.specs.declared.State.{State}
 use Rattle.step_line.specs.Logs.{NewestFirst}
 use Rattle.step_line.specs.declared.Mark.TheVariants as marks
@@ -11,15 +11,10 @@ use Rattle.board_rules.proofs.Breaking.{planned_none}
 use Rattle.board_epochs.specs.Epochs.{Closed, AreClosed, opening_behind, last_line}
 use Rattle.board_epochs.proofs.Bounding.{none_ended}
 use Rattle.board_epochs.proofs.Prompting.{unended}
-use Rattle.epoch_records.specs.Epochs.{Epoch}
 use Rattle.epoch_records.specs.Publishing.{published_in}
+use Rattle.epoch_records.proofs.PutSoFar.{published_both}
 use Rattle.epoch_runs.specs.Epochs.{closed_epochs, epochs_of}
 use Rattle.run_law.proofs.Fronts.{Others}
-
-published_on : (es : List Epoch) (e : Epoch) → published_in (es ++ e ∷ []) ≡ published_in es ++ (e.pieces ++ e.closing ∷ [])
-published_on [] e = refl
-published_on (d ∷ es) e =
-    ap (λ (ps : List Piece). d.pieces ++ d.closing ∷ ps) (published_on es e) ∙ sym (append_assoc d.pieces (d.closing ∷ published_in es) (e.pieces ++ e.closing ∷ []))
 
 others_on : (xs ys : List Piece) → Others pieces.End xs → Others pieces.End ys → Others pieces.End (xs ++ ys)
 others_on [] ys a b = b
@@ -30,12 +25,12 @@ closed_none state [] c = tt
 closed_none state (e ∷ es) c =
     let first = opening_behind state es in
     let is = c.0.resetting.epoch in
-    subst (Others pieces.End) (sym (published_on (closed_epochs state es) _))
+    subst (Others pieces.End) (sym (published_both (closed_epochs state es) (_ ∷ [])))
     (others_on (published_in (closed_epochs state es)) (published_of e.journal ++ pieces.Mark (marks.Reset (last_line first e.journal)) ∷ []) (closed_none state es c.1)
     (others_on (published_of e.journal) (pieces.Mark (marks.Reset (last_line first e.journal)) ∷ []) (none_ended first e.journal is.conducted (unended first e.journal is c.0.resetting.may)) ((λ e. absurd cc), tt)))
 
 pub before_all : (state : State) (es : NewestFirst Closed) (h : Journal) → published_in (epochs_of state es h) ≡ (published_in (closed_epochs state es) ++ planned_of h) ++ pieces.End ∷ []
-before_all state es h = published_on (closed_epochs state es) _ ∙ sym (append_assoc (published_in (closed_epochs state es)) (planned_of h) (pieces.End ∷ []))
+before_all state es h = published_both (closed_epochs state es) (_ ∷ []) ∙ sym (append_assoc (published_in (closed_epochs state es)) (planned_of h) (pieces.End ∷ []))
 
 pub none_before : (state : State) (es : NewestFirst Closed) (h : Journal) → AreClosed state es → Conducted (opening_behind state es) h → Others pieces.End (published_in (closed_epochs state es) ++ planned_of h)
 none_before state es h closed c = others_on (published_in (closed_epochs state es)) (planned_of h) (closed_none state es closed) (planned_none (opening_behind state es) h c)

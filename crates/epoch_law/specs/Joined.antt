@@ -1,11 +1,17 @@
 -- How what the actors have done goes together.
-use Rattle.std.specs.Prelude.{◌≡◌, ◌⊎◌, ℕ, ◌≤◌, Bool, List, length}
+use Rattle.std.specs.Prelude.{◌≡◌, ◌⊎◌, ℕ, ◌+◌, ◌≤◌, Bool, true, List, ◌∷◌, ◌++◌, length}
 use Rattle.std.specs.List.{AllByRecursion}
 use Rattle.run_rules.specs.Lines.{ended}
 use Rattle.status_report.specs.Answering.{receive_room}
 use Rattle.epoch_links.specs.Links.{AreLinked}
 use Rattle.epoch_links.specs.Pieces.{joined}
-use Rattle.epoch_records.specs.Publishing.{but_none}
+use Rattle.epoch_records.specs.Publishing.{AreSameHalts}
+use Rattle.epoch_records.specs.SoFar.{HaltsUnseen}
+use Rattle.epoch_runs.specs.Epochs.{halts_seen}
+use Rattle.motion_ring.specs.Sides.{published_in, ticks_published}
+use Rattle.motion_ring.specs.declared.lists.Sent.{Sent}
+use Rattle.pulse_engine.specs.Logs.{PieceLog, pieces_of, counted, uncounted, halts_of}
+use Rattle.step_line.specs.declared.Piece.{Piece}
 use Rattle.run_law.specs.Changes.{AreAskedIn}
 use Rattle.run_law.specs.Flags.{AreTaken}
 use Rattle.epoch_effects.specs.Words.{WordsTaken}
@@ -18,10 +24,6 @@ pub record AreRaisedFor (raised : List ℕ) (w : WordsTaken) : Type 0 where
   pub reset : Bool
   pub taken : AreTaken raised w.held w.slowed w.changed reset w.asked w.cancels
   pub changes : AreAskedIn raised w.changes
-
--- The halts that were stored are those that were seen; or those but for one at no pieces, where none is stored then.
-abbrev pub AreSameHalts : (seen stored : NewestFirst (ℕ × ℕ)) → Type 0
-AreSameHalts seen stored = (stored ≡ seen) ⊎ (stored ≡ but_none seen)
 
 -- The pieces of a ring: those published are those that the pulse got or dropped; and the halts that it stored are those that were seen.
 pub record ArePassed (b : BoardDid) (p : PulseDid) : Type 0 where
@@ -39,3 +41,27 @@ pub record AreConnected (h : HostDid) (b : BoardDid) : Type 0 where
 pub record ArePassedSome (b : BoardDid) (p : PulseDid) : Type 0 where
   pub pieces : BeginsWith b.published p.got
   pub halts : AreSameHalts b.halts p.halts
+
+-- The pieces of a ring so far, while so many ticks are put: it is so, or the pulse has halted once more, which was not seen.
+abbrev pub ArePassedSoFar : (ticks : ℕ) → BoardDid → PulseDid → Type 0
+ArePassedSoFar ticks b p = ArePassedSome b p ⊎ HaltsUnseen b.phase ticks b.published p.got b.halts p.halts
+
+-- ---- by logs
+
+-- A pulse has halted, which the board has not seen: a stop waits for its halt, all that was published was got or dropped, and no tick of it
+-- is left.
+pub record HasHaltedUnseen (sent : Sent) (h : PieceLog) : Type 0 where
+  pub waits : sent.waits ≡ true
+  pub all : published_in sent ≡ pieces_of h
+  pub none_left : uncounted h ≡ 0
+  pub halts_are : AreSameHalts ((length (published_in sent), counted h) ∷ halts_seen sent) (halts_of h)
+
+-- What a ring of pieces says of a board, which has found so many ticks done, and a pulse: the pieces got or dropped are the first of those
+-- published, no more ticks are found done than are counted, and those counted and those left of the last piece were published; and the
+-- halts are those that were seen, or one more.
+pub record ArePiecesPassed (sent : Sent) (known : ℕ) (h : PieceLog) : Type 0 where
+  pub rest : NewestFirst Piece
+  pub fifo : published_in sent ≡ rest ++ pieces_of h
+  pub known_is : known ≤ counted h
+  pub within : counted h + uncounted h ≤ ticks_published sent
+  pub halts : AreSameHalts (halts_seen sent) (halts_of h) ⊎ HasHaltedUnseen sent h

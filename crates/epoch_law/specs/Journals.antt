@@ -8,7 +8,7 @@ use Rattle.epoch_courses.specs.Told.{answered_by}
 use Rattle.epoch_effects.specs.Words.{words_taken}
 use Rattle.epoch_links.specs.Drops.{closed_of, dropped_by}
 use Rattle.epoch_links.specs.Taken.{taken_by}
-use Rattle.epoch_runs.specs.Epochs.{halts_seen, pieces_sent}
+use Rattle.epoch_runs.specs.Epochs.{halts_seen, phase_of, pieces_sent}
 use Rattle.pulse_engine.specs.Logs.{PieceLog, RecordLog, pieces_of, halts_of, records_put}
 use Rattle.epoch_law.specs.Ran.{HostDid, BoardDid, PulseDid}
 
@@ -32,6 +32,7 @@ board_did es = record {
   answered = answered_by es;
   published = pieces_sent (sent_in (log_of es));
   halts = halts_seen (sent_in (log_of es));
+  phase = phase_of es;
   dropped = map dropped_by (closed_of es);
 }
 

@@ -37,6 +37,7 @@ use Rattle.epoch_links.specs.Pieces.{Pieces, joined, items_in, IsFrontOf, IsAllO
 use Rattle.epoch_records.specs.Epochs.{Epoch}
 use Rattle.epoch_records.specs.Publishing.{published_in, halts_in, AreOver}
 use Rattle.epoch_records.specs.Runs.{AreRun}
+use Rattle.epoch_records.specs.SoFar.{Phase}
 use Rattle.epoch_records.specs.Stretches.{pieces_of_all, EndStretches, ArePutOver}
 
 -- ---- the host
@@ -75,8 +76,8 @@ pub record HasSent (job_was job_is : SourceState) (console_was console_is : Sink
 
 -- What a board has done at its port: the bytes that it took, epoch by epoch; the marks that it loaded; how many bytes were taken when each
 -- Banner was answered, the latest first; whether it found the link closed; the words of flags that it took; the replies that it answered;
--- the pieces that it published; the halts that it has seen, the latest first; and of each epoch that it has ended the lines that it
--- took and has not answered.
+-- the pieces that it published; the halts that it has seen, the latest first; how far the reset of its open epoch is; and of each epoch that
+-- it has ended the lines that it took and has not answered.
 pub record BoardDid : Type 0 where
   pub taken : Pieces
   pub loaded : List Mark
@@ -86,6 +87,7 @@ pub record BoardDid : Type 0 where
   pub answered : List Reply
   pub published : List Piece
   pub halts : NewestFirst (ℕ × ℕ)
+  pub phase : Phase
   pub dropped : List (List (List ℕ))
 
 -- the ticks that reports are judged by were recorded: they are those that were made in the epoch

@@ -1,7 +1,8 @@
 -- What host, board and pulse have done so far, over epochs, and what a run so far is.
-use Rattle.std.specs.Prelude.{◌≡◌, ◌⊎◌, ℕ, ◌≤◌, Bool, false, List, [], ◌∷◌, ◌++◌, map}
+use Rattle.std.specs.Prelude.{◌≡◌, ◌⊎◌, ℕ, ◌≤◌, Bool, false, List, [], ◌∷◌, ◌++◌, length, map}
 use Rattle.std.specs.Io.KnownBytes.{Consumes}
 use Rattle.std.specs.List.{AllByRecursion, flat_map}
+use Rattle.flight.specs.Halts.{Stretch}
 use Rattle.flight.specs.Places.{origin}
 use Rattle.outside.specs.Causes.{SourceState, SinkState}
 use Rattle.outside.specs.Writing.{Wrote}
@@ -11,7 +12,8 @@ use Rattle.run_rules.specs.Reports.{AreReported}
 use Rattle.run_rules.specs.States.{IsOpening}
 use Rattle.run_rules.specs.Told.{replies_text}
 use Rattle.run_rules.specs.declared.State.{State}
-use Rattle.run_texts.specs.Besides.{CutsHaveCauses}
+use Rattle.run_rules.specs.Lines.{ended}
+use Rattle.run_texts.specs.Besides.{CutsHaveCauses, DropsAreFew}
 use Rattle.run_texts.specs.Courses.{Passed, cuts_in}
 use Rattle.run_texts.specs.Fronts.{BeginsWith}
 use Rattle.run_texts.specs.Parts.{parts_of}
@@ -22,9 +24,8 @@ use Rattle.run_texts.specs.Told.{told_in}
 use Rattle.status_report.specs.Answering.{without_reports}
 use Rattle.status_report.specs.declared.Reply.{Reply}
 use Rattle.status_report.specs.declared.Reply.TheVariants.{Banner, Bye}
-use Rattle.step_line.specs.declared.Mark.TheVariants as marks
+use Rattle.step_line.specs.declared.Piece.{Piece}
 use Rattle.step_line.specs.declared.Record.{Record}
-use Rattle.step_line.specs.declared.Record.TheVariants as kinds
 use Rattle.step_record.specs.declared.forms.Form.{Form}
 use Rattle.step_record.specs.Forms.{text_in}
 use Rattle.stream_host.specs.declared.Reading.{Reading}
@@ -35,13 +36,15 @@ use Rattle.epoch_courses.specs.Drives.{Driven, AreDriven}
 use Rattle.epoch_courses.specs.Told.{without_byes}
 use Rattle.epoch_effects.specs.Effects.{EpochEffects, AreEffects}
 use Rattle.epoch_effects.specs.Pieces.{ArePublished}
-use Rattle.epoch_effects.specs.Reports.{HasReported, AreOpened, resets_of}
+use Rattle.epoch_effects.specs.Asking.{AsksInTurn}
+use Rattle.epoch_effects.specs.Reports.{HasReported, TellsLock, AreOpened, resets_of}
 use Rattle.epoch_effects.specs.Words.{AreTakenIn}
 use Rattle.epoch_links.specs.Links.{AwaitsBanners, EndsEpochs}
 use Rattle.epoch_links.specs.Pieces.{joined, items_in, IsFrontOf}
 use Rattle.epoch_records.specs.Epochs.{Epoch}
-use Rattle.epoch_records.specs.SoFar.{AreRunSoFar, ArePutSoFar}
-use Rattle.epoch_law.specs.Ran.{HostDid, BoardDid, IsRest}
+use Rattle.epoch_records.specs.SoFar.{AreRunSoFar, IsPutSoFar, ArePublishedSoFar}
+use Rattle.epoch_records.specs.Stretches.{pieces_of_all, EndStretches, ArePutSince}
+use Rattle.epoch_law.specs.Ran.{HostDid, BoardDid, PulseDid, IsRest, AreMade}
 use Rattle.epoch_law.specs.Runs.{HasEffects, HasCauses}
 
 -- A host runs over epochs: it has stored and marked a front of its lines and the resets that came of them and of a rest.
@@ -56,11 +59,12 @@ pub record Sending (job_was job_is : SourceState) (console_was console_is : Sink
 abbrev pub BeginWithBanner : List Reply → Type 0
 BeginWithBanner replies = (replies ≡ []) ⊎ ((behind : List Reply) × (replies ≡ Banner ∷ behind))
 
--- A board runs over epochs. What it took has taken a course so far, which leads to a point, where some of it is left that is not begun. It
--- has answered a front of what the course tells, the banner first, with reports among that. For each part of the course so far the planner
--- was given what its lines ask for, or that is left to ask. It has ended an epoch for each reset; each cut has a jog as its cause; and what
--- words of flags have done in each epoch is as they were taken.
-pub record BoardRuns (d : BoardDid) : Type 0 where
+-- A board runs over epochs, while so many ticks are put in all. What it took has taken a course so far, which leads to a point, where some of
+-- it is left that is not begun. It has answered a front of the banner, what the course tells, and Bye, with reports among that. For each part
+-- of the course so far the planner was given what its lines ask for, or that is left to ask; closed epochs and an open one were run for the
+-- parts, and these were published. It has ended an epoch for each reset, which drops the lines of its epoch that have no answer; each cut
+-- has a jog as its cause; and what words of flags have done in each epoch is as they were taken.
+pub record BoardRuns (ticks : ℕ) (d : BoardDid) : Type 0 where
   pub first : State
   pub opens : IsOpening first
   pub course : List Passed
@@ -69,18 +73,36 @@ pub record BoardRuns (d : BoardDid) : Type 0 where
   pub leads : LeadsTo (opening first) (items_in d.taken) course point left
   pub ends : EndsEpochs d.taken (joined d.taken) d.loaded d.at_answers
   pub causes : CutsHaveCauses (opening first) (items_in d.taken) course
+  pub drops : (room : ℕ) → AllByRecursion (λ ls. length (ended ls) ≤ room) d.dropped → DropsAreFew room 0 (items_in d.taken) course
   pub begins : BeginWithBanner (without_byes d.answered)
-  pub told : BeginsWith (Banner ∷ told_in course) (without_reports (without_byes d.answered))
+  pub told : BeginsWith (Banner ∷ (told_in course ++ Bye ∷ [])) (without_reports d.answered)
+  pub plain : BeginsWith (Banner ∷ told_in course) (without_reports (without_byes d.answered))
   pub drives : List Driven
   pub driven : AreDriven false origin fresh_plan (parts_of course) drives
+  pub closed : List Epoch
+  pub now : Epoch
+  pub run : AreRunSoFar (parts_of course) origin (closed ++ now ∷ [])
+  pub published_are : ArePublishedSoFar d.phase closed now ticks d.published d.halts
   pub few : cuts_in course ≤ d.words.cancels
   pub effects : List EpochEffects
   pub doing : AreEffects course drives effects
   pub opened : AreOpened first origin false (resets_of course) effects
   pub reports : AllByRecursion HasReported effects
+  pub locks : AllByRecursion TellsLock effects
+  pub asking : AllByRecursion AsksInTurn effects
   pub answered_are : d.answered ≡ flat_map (λ e. e.answered) effects
   pub pieces : AllByRecursion ArePublished effects
+  pub made : AreMade effects (closed ++ now ∷ [])
   pub taken_are : AreTakenIn d.words (map (λ e. e.taken) effects)
+
+-- A pulse runs. Halts part what it got or dropped into stretches; of each it put the first records, up to the ticks that it counted, and
+-- the first records of what it got behind the last halt.
+pub record PulseRuns (d : PulseDid) : Type 0 where
+  pub stretches : List Stretch
+  pub last : List Piece
+  pub pieces : pieces_of_all stretches ++ last ≡ d.got
+  pub halted : EndStretches d.halts stretches
+  pub put : ArePutSince stretches last d.put
 
 -- ---- a run so far
 
@@ -106,32 +128,22 @@ pub record IsToldSoFar (was is : Sinks) (course : List Passed) (answered got : L
   pub waiting : List ℕ
   pub console : Wrote was.console is.console failed waiting (replies_text got)
 
--- behind the records of epochs so far nothing is put, or the end, or the mark of the reset that is being worked
-abbrev pub MayEndSoFar : List Record → Type 0
-MayEndSoFar [] = Unit {0}
-MayEndSoFar (kinds.End ∷ []) = Unit {0}
-MayEndSoFar (kinds.Mark (marks.Reset number) ∷ []) = Unit {0}
-MayEndSoFar _ = ⊥
-
 -- What was recorded so far: for each part of the course the planner was given what its lines ask for, or that is left to ask; epoch by
--- epoch the pieces that it gave were run, and their records put, as far as ticks were made, of the open epoch, too. A front of what was put
--- was taken, and a front of its text, in the form of the run, is with the steps.
-pub record IsRecordedSoFar (form : Form) (was is : Sinks) (course : List Passed) (drives : List Driven) (epochs : List Epoch) (made put taken : List Record) : Type 0 where
+-- epoch the pieces that it gave were run. A front of what was put was taken, and a front of its text, in the form of the run, is with the
+-- steps.
+pub record IsRecordedSoFar (form : Form) (was is : Sinks) (course : List Passed) (drives : List Driven) (epochs : List Epoch) (put taken : List Record) : Type 0 where
   pub driven : AreDriven false origin fresh_plan (parts_of course) drives
   pub run : AreRunSoFar (parts_of course) origin epochs
-  pub are : ArePutSoFar epochs made
-  pub ending : List Record
-  pub put_are : put ≡ made ++ ending
-  pub may : MayEndSoFar ending
   pub taken_of : BeginsWith put taken
   pub failed : Bool
   pub waiting : List ℕ
   pub steps : Wrote was.steps is.steps failed waiting (text_in form taken)
 
--- A run so far, over epochs: what was read, scanned and sent of the job; what was answered and got, and what was put and taken; that these
--- texts fit so far, by one course; and beside this course how it was told and run so far, what words of flags have done, and what caused
--- cuts. One line at most of each epoch is begun and not answered, and reports are judged by the ticks that were made, which hold all of
--- the lines up to the last answered one that settles (`doing`).
+-- A run so far, over epochs: what was read, scanned and sent of the job; what was answered and got, and what was put and taken; that the
+-- records are put of epochs, of the open one as far as ticks are made, before its end; that these texts fit so far, by one course; and beside
+-- this course how it was told and run so far, what words of flags have done, and what caused cuts. One line at most of each epoch is begun
+-- and not answered, and reports are judged by the ticks that were made, which hold all of the lines up to the last answered one that settles
+-- (`doing`).
 pub record IsSoFar (form : Form) (job_was job_is : SourceState) (was is : Sinks) : Type 0 where
   pub read : List ℕ
   pub reading : Reading
@@ -140,15 +152,15 @@ pub record IsSoFar (form : Form) (job_was job_is : SourceState) (was is : Sinks)
   pub rest : List ℕ
   pub answered : List Reply
   pub got : List Reply
-  pub made : List Record
   pub put : List Record
-  pub records : List Record
+  pub taken : List Record
   pub drives : List Driven
   pub epochs : List Epoch
   pub effects : List EpochEffects
   pub sending : IsScannedSoFar job_was job_is read reading scanned lines rest got
-  pub fits : FitsSoFar (sent_of lines rest) (slows_in scanned) (without_byes got) made
+  pub put_are : IsPutSoFar epochs put
+  pub fits : FitsSoFar (sent_of lines rest) (slows_in scanned) (without_byes got) put_are.made
   pub telling : IsToldSoFar was is fits.course answered got
-  pub recording : IsRecordedSoFar form was is fits.course drives epochs made put records
+  pub recording : IsRecordedSoFar form was is fits.course drives epochs put taken
   pub doing : HasEffects scanned fits.first fits.course drives epochs got effects
   pub causes : HasCauses fits.first (sent_of lines rest) fits.course

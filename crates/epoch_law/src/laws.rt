@@ -1,22 +1,22 @@
 //! Laws of runs over epochs.
 
-ghost use Rattle.std.specs.Prelude.{◌≡◌, ℕ, ◌≤◌, Bool, true, List, ◌∷◌};
-ghost use Rattle.flight.specs.Places.{origin};
+ghost use Rattle.std.specs.Prelude.{◌≡◌, ℕ, ◌≤◌, Bool, true, List, ◌∷◌, length};
+ghost use Rattle.motion_ring.specs.Sides.{ticks_published};
 ghost use Rattle.outside.specs.Causes.{SourceState, SinkState};
-ghost use Rattle.pulse_engine.specs.Logs.{PieceLog, RecordLog, end_is_put};
+ghost use Rattle.pulse_engine.specs.Logs.{PieceLog, RecordLog, end_is_put, records_put};
 ghost use Rattle.pulse_engine.specs.Steps.{Pulsing};
 ghost use Rattle.pulse_engine.specs.Turns.{PulseFits};
 ghost use Rattle.realtime_flags.specs.Bits.{IsBalanced};
 ghost use Rattle.run_law.specs.Ran.{RecorderRan};
 ghost use Rattle.run_law.specs.Runs.{Sinks, run_end, slows_in};
+ghost use Rattle.run_law.specs.SoFar.{RecorderRuns};
 ghost use Rattle.run_rules.specs.States.{IsOpening};
 ghost use Rattle.run_rules.specs.declared.State.{State};
 ghost use Rattle.run_texts.specs.Fits.{FitsTexts};
 ghost use Rattle.run_texts.specs.Fronts.{BeginsWith};
-ghost use Rattle.run_texts.specs.Parts.{parts_of};
 ghost use Rattle.run_texts.specs.Sent.{sent_of};
-ghost use Rattle.run_texts.specs.SoFar.{AreMadeSoFar, FitsSoFar};
 ghost use Rattle.status_report.specs.declared.Reply.{Reply as AnyReply};
+ghost use Rattle.step_line.specs.Asking.{ticks_among};
 ghost use Rattle.step_line.specs.Logs.{NewestFirst};
 ghost use Rattle.step_line.specs.declared.Record.{Record as AnyRecord};
 ghost use Rattle.step_record.specs.declared.forms.Form.{Form};
@@ -26,21 +26,20 @@ ghost use Rattle.stream_host.specs.Ran.{HostEnd, HasFinished, TellsConsole, end_
 ghost use Rattle.stream_host.specs.Raises.{raises_in};
 ghost use Rattle.stream_host.specs.Steps.{Journal as HostJournal, HostLog, bytes_raised_in, scanned_of, raises_of};
 ghost use Rattle.board_rules.specs.Conduct.{IsFinished};
-ghost use Rattle.board_rules.specs.Ports.{BoardLog};
-ghost use Rattle.board_rules.specs.Steps.{Journal, known_of};
+ghost use Rattle.board_rules.specs.Ports.{BoardLog, known_in, sent_in};
+ghost use Rattle.board_rules.specs.Steps.{Journal};
 ghost use Rattle.board_rules.specs.Takes.{takes_in};
 ghost use Rattle.board_epochs.specs.Epochs.{Closed, Epochs, AreEpochs, log_of, opening_behind};
 ghost use Rattle.board_epochs.specs.Epochs.Epochs.{goes};
-ghost use Rattle.epoch_courses.specs.Course.{open_journal};
 ghost use Rattle.epoch_courses.specs.Told.{answered_by, without_byes};
 ghost use Rattle.epoch_effects.specs.Words.{words_taken};
 ghost use Rattle.epoch_links.specs.Drops.{AreAnsweredOver};
 ghost use Rattle.epoch_links.specs.Links.{AreLinkedOver};
-ghost use Rattle.epoch_law.specs.Joined.{AreConnected, ArePassed, ArePassedSome, AreRaisedFor};
+ghost use Rattle.epoch_law.specs.Joined.{AreConnected, ArePassed, ArePassedSome, ArePassedSoFar, ArePiecesPassed, AreRaisedFor};
 ghost use Rattle.epoch_law.specs.Journals.{host_did, board_did, pulse_did};
 ghost use Rattle.epoch_law.specs.Ran.{HostDid, HasSent, BoardDid, BoardRan, PulseDid, PulseRan};
 ghost use Rattle.epoch_law.specs.Runs.{IsRun};
-ghost use Rattle.epoch_law.specs.SoFar.{Sending, BeginWithBanner, BoardRuns};
+ghost use Rattle.epoch_law.specs.SoFar.{Sending, BeginWithBanner, BoardRuns, PulseRuns, IsSoFar};
 
 /// Where a host, a board and a pulse have run over epochs, the board has taken what the host has stored, the host has got what the board
 /// has answered, and the pulse has got or dropped what the board has published, the texts fit: the lines and resets that came of the job,
@@ -98,15 +97,33 @@ pub fn hosts_have_sent()
         (sent : HasSent job_was job_is console_was console_is (host_did h) (end_of h)) × (sent.ran.scanned ≡ scanned_of h) }
 {}
 
-/// Before they end, what a host and a board have done fits so far, where what was recorded is made of the parts of the board's course.
-pub fn actors_make_texts_that_fit_so_far()
-    ensures { (job_was job_is : SourceState) (console_was console_is : SinkState) (h : HostDid) (b : BoardDid) (records : List AnyRecord) →
-        (host : Sending job_was job_is console_was console_is h) → (board : BoardRuns b) → AreConnected h b → BeginsWith b.answered h.got → AreMadeSoFar origin (parts_of board.course) records →
-        FitsSoFar (sent_of host.runs.lines host.rest) (slows_in host.runs.scanned) (without_byes h.got) records }
+/// Before they end, a host, a board, a pulse and a recorder have done a run so far, if each has got a front of what the other gave; the pulse
+/// may have halted once more than the board has seen.
+pub fn actors_make_a_run_so_far()
+    ensures { (form : Form) (job_was job_is : SourceState) (was is : Sinks) (h : HostDid) (b : BoardDid) (p : PulseDid) (records : List AnyRecord) →
+        Sending job_was job_is was.console is.console h → BoardRuns (length (ticks_among p.put)) b → PulseRuns p → RecorderRuns form was.steps is.steps records →
+        AreConnected h b → ArePassedSoFar (length (ticks_among p.put)) b p → BeginsWith b.answered h.got → BeginsWith p.put records → IsSoFar form job_was job_is was is }
 {}
 
-/// A board that keeps to its rules over epochs runs, at any time, if what it has answered begins with the banner. So many ticks of its open
-/// epoch are made, at least those that it knows of.
+/// A board that keeps to its rules over epochs runs, at any time, if what it has answered begins with the banner. So many ticks are put in
+/// all, at least those that it knows of, and no more than it has published.
 pub fn boards_run()
-    ensures { (state : State) (made : ℕ) (es : Epochs) → IsOpening state → AreEpochs state es → known_of (open_journal es) ≤ made → BeginWithBanner (without_byes (answered_by es)) → BoardRuns (board_did es) }
+    ensures { (state : State) (ticks : ℕ) (es : Epochs) → IsOpening state → AreEpochs state es → known_in (log_of es) ≤ ticks → ticks ≤ ticks_published (sent_in (log_of es)) →
+        BeginWithBanner (without_byes (answered_by es)) → BoardRuns ticks (board_did es) }
+{}
+
+/// A pulse runs at any time, whatever it halted.
+pub fn pulses_run()
+    ensures { (p : Pulsing) (h : PieceLog) (k : RecordLog) → PulseFits p h k → PulseRuns (pulse_did h k) }
+{}
+
+/// Where a ring has passed on what a board has published and a pulse has got, the pulse has put no fewer ticks than the board knows of (`known`),
+/// and no more than it has published (`within`); and what it got and halted is as the run so far asks (`passed`).
+pub fn rings_pass_pieces_so_far()
+    ensures known { (state : State) (es : Epochs) (p : Pulsing) (h : PieceLog) (k : RecordLog) → AreEpochs state es → PulseFits p h k → ArePiecesPassed (sent_in (log_of es)) (known_in (log_of es)) h →
+        known_in (log_of es) ≤ length (ticks_among (records_put k)) }
+    ensures within { (state : State) (es : Epochs) (p : Pulsing) (h : PieceLog) (k : RecordLog) → AreEpochs state es → PulseFits p h k → ArePiecesPassed (sent_in (log_of es)) (known_in (log_of es)) h →
+        length (ticks_among (records_put k)) ≤ ticks_published (sent_in (log_of es)) }
+    ensures passed { (state : State) (es : Epochs) (p : Pulsing) (h : PieceLog) (k : RecordLog) → AreEpochs state es → PulseFits p h k → ArePiecesPassed (sent_in (log_of es)) (known_in (log_of es)) h →
+        ArePassedSoFar (length (ticks_among (records_put k))) (board_did es) (pulse_did h k) }
 {}
