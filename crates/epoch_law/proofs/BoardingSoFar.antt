@@ -1,5 +1,5 @@
 -- A board that keeps to its rules over epochs runs.
-use Rattle.std.proofs.Common.{◌≡◌, ◌⊎◌, inl, inr, ℕ, ◌≤◌, false, List, [], ◌∷◌, ◌++◌, length, map, take, refl, sym, ap, ◌∙◌, subst, append-nil, append_assoc}
+use Rattle.std.proofs.Common.{◌≡◌, ◌⊎◌, inl, inr, ℕ, ◌+◌, ◌≤◌, false, List, [], ◌∷◌, ◌++◌, length, map, take, refl, sym, ap, ◌∙◌, subst, append-nil, append_assoc}
 use Rattle.std.specs.List.{AllByRecursion, flat_map}
 use Rattle.flight.specs.Places.{origin}
 use Rattle.motion_ring.specs.Sides.{ticks_published}
@@ -23,6 +23,7 @@ use Rattle.step_line.specs.declared.Record.{Record}
 use Rattle.board_rules.specs.Ports.{known_in, sent_in, taken_in}
 use Rattle.board_rules.specs.Steps.{known_of, port_log, published_of, taken_of}
 use Rattle.board_rules.proofs.Closing.{one_bye}
+use Rattle.board_rules.proofs.Lines.{number_is}
 use Rattle.board_epochs.specs.Epochs.{Epochs, AreEpochs, log_of, opening_behind, point_of}
 use Rattle.board_epochs.specs.Epochs.Epochs.{goes, resets}
 use Rattle.epoch_courses.specs.Course.{course_of, is_unanswered, open_journal, passed_at_reset, passed_so_far, point_at_reset, point_behind, stands_at}
@@ -32,7 +33,7 @@ use Rattle.epoch_courses.specs.Told.{answered_by, closing_by, untold_by, without
 use Rattle.epoch_courses.proofs.Asking.{epochs_driven}
 use Rattle.epoch_courses.proofs.Chain.{epochs_lead}
 use Rattle.epoch_courses.proofs.Cuts.{course_cuts}
-use Rattle.epoch_courses.proofs.Epoch.{epoch_leads}
+use Rattle.epoch_courses.proofs.Epoch.{epoch_leads, same_but}
 use Rattle.epoch_courses.proofs.Resets.{comes_there}
 use Rattle.epoch_courses.proofs.Texts.{texts_behind, texts_now}
 use Rattle.epoch_courses.proofs.Told.{epochs_tell, told_so_far}
@@ -49,7 +50,7 @@ use Rattle.epoch_links.specs.Taken.{taken_by}
 use Rattle.epoch_links.proofs.Ending.{ends_epochs}
 use Rattle.epoch_records.specs.Epochs.{Epoch}
 use Rattle.epoch_records.specs.SoFar.{AreRunSoFar}
-use Rattle.epoch_runs.specs.Epochs.{closed_epochs, closed_of, epochs_so_far, made_of, open_epoch, without_end}
+use Rattle.epoch_runs.specs.Epochs.{closed_epochs, closed_of, epochs_so_far, made_of, number_of, open_epoch, without_end}
 use Rattle.epoch_runs.proofs.Open.{epochs_open}
 use Rattle.epoch_runs.proofs.SoFar.{epochs_run_so_far}
 use Rattle.epoch_law.specs.Journals.{board_did}
@@ -110,6 +111,11 @@ open_drops state made (resets es h w) room c known few =
     (subst (λ (ss : List Sent). LeadsTo (point_of first) ss (passed_at_reset made first h) (point_at_reset made first h) left) (sym (texts_behind first h (taken_in (port_log w)) is.conducted))
     (comes_there made first h left is c.1.may known).leads))
 
+-- the number of the line that was begun last
+numbered : (state : State) (made : ℕ) (es : Epochs) → AreEpochs state es → known_of (open_journal es) ≤ made → number_of state es + 1 ≡ (stands_at state made es).before.number
+numbered state made (goes es h) c known = sym (number_is (opening_behind state es) h c.1.conducted) ∙ sym (same_but made (opening_behind state es) h).number
+numbered state made (resets es h w) c known = sym (number_is (opening_behind state es) h c.1.epoch.conducted) ∙ sym (comes_there made (opening_behind state es) h [] c.1.epoch c.1.may known).found.number
+
 -- ---- all of it
 
 pub board_runs : (state : State) (ticks : ℕ) (es : Epochs) → IsOpening state → AreEpochs state es → known_in (log_of es) ≤ ticks → ticks ≤ ticks_published (sent_in (log_of es)) → BeginWithBanner (without_byes (answered_by es)) → BoardRuns ticks (board_did es)
@@ -135,6 +141,8 @@ board_runs state ticks es opens c low high begins =
       closed = closed_of state es;
       now = open_epoch made (open_journal es);
       run = subst (λ (xs : List Epoch). AreRunSoFar (parts_of (course_of state made es)) origin xs) (same_epochs state made es) (epochs_run_so_far state made es c known open_is.are.few);
+      number = number_of state es;
+      numbered = numbered state made es c known;
       published_are = open_is.are;
       few = course_cuts state made es c;
       effects = effects_of state made es;

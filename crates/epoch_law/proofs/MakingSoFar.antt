@@ -48,14 +48,14 @@ module _ (form : Form) (job_was job_is : SourceState) (was is : Sinks) (h : Host
   ticks = length (ticks_among p.put)
 
   -- what was put is put of the epochs so far
-  by_pieces : ArePassedSome b p ⊎ HaltsUnseen b.phase ticks b.published p.got b.halts p.halts → IsPutSoFar epochs p.put
+  by_pieces : ArePassedSome b p ⊎ HaltsUnseen b.phase ticks b.published p.got b.halts p.halts → IsPutSoFar board.number epochs p.put
   by_pieces (inl seen) =
-      put_so_far b.phase board.closed board.now ticks b.published b.halts p.halts pulse.stretches pulse.last p.put board.published_are (subst (BeginsWith b.published) (sym pulse.pieces) seen.pieces) seen.halts pulse.halted pulse.put refl
+      put_so_far board.number b.phase board.closed board.now ticks b.published b.halts p.halts pulse.stretches pulse.last p.put board.published_are (subst (BeginsWith b.published) (sym pulse.pieces) seen.pieces) seen.halts pulse.halted pulse.put refl
   by_pieces (inr unseen) =
-      put_unseen b.phase board.closed board.now ticks b.published b.halts p.halts pulse.stretches pulse.last p.put board.published_are
+      put_unseen board.number b.phase board.closed board.now ticks b.published b.halts p.halts pulse.stretches pulse.last p.put board.published_are
       (subst (λ (got : List Piece). HaltsUnseen b.phase ticks b.published got b.halts p.halts) (sym pulse.pieces) unseen) pulse.halted pulse.put refl
 
-  put_are : IsPutSoFar epochs p.put
+  put_are : IsPutSoFar board.number epochs p.put
   put_are = by_pieces passed
 
   abbrev fits : FitsSoFar sent (slows_in host.runs.scanned) (without_byes h.got) put_are.made
@@ -125,8 +125,10 @@ module _ (form : Form) (job_was job_is : SourceState) (was is : Sinks) (h : Host
     epochs = epochs;
     effects = board.effects;
     sending = sending;
+    number = board.number;
     put_are = put_are;
     fits = fits;
+    numbered = board.numbered;
     telling = telling;
     recording = recording;
     doing = doing;

@@ -1,5 +1,5 @@
 -- What host, board and pulse have done so far, over epochs, and what a run so far is.
-use Rattle.std.specs.Prelude.{◌≡◌, ◌⊎◌, ℕ, ◌≤◌, Bool, false, List, [], ◌∷◌, ◌++◌, length, map}
+use Rattle.std.specs.Prelude.{◌≡◌, ◌⊎◌, ℕ, ◌+◌, ◌≤◌, Bool, false, List, [], ◌∷◌, ◌++◌, length, map}
 use Rattle.std.specs.Io.KnownBytes.{Consumes}
 use Rattle.std.specs.List.{AllByRecursion, flat_map}
 use Rattle.flight.specs.Halts.{Stretch}
@@ -62,7 +62,7 @@ BeginWithBanner replies = (replies ≡ []) ⊎ ((behind : List Reply) × (replie
 -- A board runs over epochs, while so many ticks are put in all. What it took has taken a course so far, which leads to a point, where some of
 -- it is left that is not begun. It has answered a front of the banner, what the course tells, and Bye, with reports among that. For each part
 -- of the course so far the planner was given what its lines ask for, or that is left to ask; closed epochs and an open one were run for the
--- parts, and these were published. It has ended an epoch for each reset, which drops the lines of its epoch that have no answer; each cut
+-- parts, and these were published; the mark of the open one's reset has the number of the line that was begun last. It has ended an epoch for each reset, which drops the lines of its epoch that have no answer; each cut
 -- has a jog as its cause; and what words of flags have done in each epoch is as they were taken.
 pub record BoardRuns (ticks : ℕ) (d : BoardDid) : Type 0 where
   pub first : State
@@ -82,7 +82,9 @@ pub record BoardRuns (ticks : ℕ) (d : BoardDid) : Type 0 where
   pub closed : List Epoch
   pub now : Epoch
   pub run : AreRunSoFar (parts_of course) origin (closed ++ now ∷ [])
-  pub published_are : ArePublishedSoFar d.phase closed now ticks d.published d.halts
+  pub number : ℕ
+  pub numbered : number + 1 ≡ point.before.number
+  pub published_are : ArePublishedSoFar number d.phase closed now ticks d.published d.halts
   pub few : cuts_in course ≤ d.words.cancels
   pub effects : List EpochEffects
   pub doing : AreEffects course drives effects
@@ -140,7 +142,8 @@ pub record IsRecordedSoFar (form : Form) (was is : Sinks) (course : List Passed)
   pub steps : Wrote was.steps is.steps failed waiting (text_in form taken)
 
 -- A run so far, over epochs: what was read, scanned and sent of the job; what was answered and got, and what was put and taken; that the
--- records are put of epochs, of the open one as far as ticks are made, before its end; that these texts fit so far, by one course; and beside
+-- records are put of epochs, of the open one as far as ticks are made, before what ends it, where the mark of a reset has the number of the
+-- line that was begun last; that these texts fit so far, by one course; and beside
 -- this course how it was told and run so far, what words of flags have done, and what caused cuts. One line at most of each epoch is begun
 -- and not answered, and reports are judged by the ticks that were made, which hold all of the lines up to the last answered one that settles
 -- (`doing`).
@@ -158,8 +161,10 @@ pub record IsSoFar (form : Form) (job_was job_is : SourceState) (was is : Sinks)
   pub epochs : List Epoch
   pub effects : List EpochEffects
   pub sending : IsScannedSoFar job_was job_is read reading scanned lines rest got
-  pub put_are : IsPutSoFar epochs put
+  pub number : ℕ
+  pub put_are : IsPutSoFar number epochs put
   pub fits : FitsSoFar (sent_of lines rest) (slows_in scanned) (without_byes got) put_are.made
+  pub numbered : number + 1 ≡ fits.point.before.number
   pub telling : IsToldSoFar was is fits.course answered got
   pub recording : IsRecordedSoFar form was is fits.course drives epochs put taken
   pub doing : HasEffects scanned fits.first fits.course drives epochs got effects

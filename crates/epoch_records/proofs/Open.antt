@@ -100,12 +100,12 @@ no_more (x ∷ xs) ys e = absurd cc
 same_front : (mine front : List Record) → front ≡ mine ++ [] → mine ≡ front ++ []
 same_front mine front e = sym (append-nil mine) ∙ sym e ∙ sym (append-nil front)
 
-by_reach : (e : Epoch) (mine front lost : List Record) → mine ≡ all_records e.pieces → length (ticks_among front) ≡ e.done → Reaches mine (kinds.End ∷ []) front lost → IsPutSoFar (e ∷ []) front
-by_reach e mine front lost whole count (within b) =
+by_reach : (number : ℕ) (e : Epoch) (mine front lost : List Record) → mine ≡ all_records e.pieces → length (ticks_among front) ≡ e.done → Reaches mine (kinds.End ∷ []) front lost → IsPutSoFar number (e ∷ []) front
+by_reach number e mine front lost whole count (within b) =
     record { made = front; ending = []; split = sym (append-nil front); are = record { first = record { rest = b.rest; is = sym whole ∙ b.is }; ticks = count }; may = tt }
-by_reach e mine front lost whole count (beyond [] parted behind) =
+by_reach number e mine front lost whole count (beyond [] parted behind) =
     record { made = front; ending = []; split = sym (append-nil front); are = record { first = record { rest = []; is = sym whole ∙ same_front mine front parted }; ticks = count }; may = tt }
-by_reach e mine front lost whole count (beyond (r ∷ later) parted behind) =
+by_reach number e mine front lost whole count (beyond (r ∷ later) parted behind) =
     let same : kinds.End ≡ r = cc in
     let tails : [] ≡ later ++ lost = cc in
     let front_is : front ≡ mine ++ kinds.End ∷ [] = parted ∙ ap (λ (x : Record). mine ++ x ∷ later) (sym same) ∙ ap (λ (rs : List Record). mine ++ kinds.End ∷ rs) (no_more later lost tails) in
@@ -113,12 +113,12 @@ by_reach e mine front lost whole count (beyond (r ∷ later) parted behind) =
     let both : length (ticks_among (mine ++ kinds.End ∷ [])) ≡ length (ticks_among mine) + 0 = both_lengths mine (kinds.End ∷ []) in
     record { made = mine; ending = kinds.End ∷ []; split = front_is; are = record { first = record { rest = []; is = sym whole ∙ sym (append-nil mine) }; ticks = omega (arith, all, both, count) }; may = tt }
 
-going_put : (e : Epoch) (rs front : List Record) → ArePut (all_of e ∷ []) rs → BeginsWith rs front → length (ticks_among front) ≡ e.done → IsPutSoFar (e ∷ []) front
-going_put e rs front put b count =
-    by_reach e put.0 front b.rest (put.3.whole refl) count
+going_put : (number : ℕ) (e : Epoch) (rs front : List Record) → ArePut (all_of e ∷ []) rs → BeginsWith rs front → length (ticks_among front) ≡ e.done → IsPutSoFar number (e ∷ []) front
+going_put number e rs front put b count =
+    by_reach number e put.0 front b.rest (put.3.whole refl) count
     (reaches put.0 (kinds.End ∷ []) front b.rest (ap (λ (rest : List Record). put.0 ++ kinds.End ∷ rest) (sym put.4) ∙ sym put.2 ∙ b.is))
 
-by_mark : (e : Epoch) (number : ℕ) (mine front lost : List Record) → IsPut (marked_by number e) mine → e.done ≤ length (ticks_among front) → Reaches mine (kinds.Mark (marks.Reset number) ∷ []) front lost → IsPutSoFar (e ∷ []) front
+by_mark : (e : Epoch) (number : ℕ) (mine front lost : List Record) → IsPut (marked_by number e) mine → e.done ≤ length (ticks_among front) → Reaches mine (kinds.Mark (marks.Reset number) ∷ []) front lost → IsPutSoFar number (e ∷ []) front
 by_mark e number mine front lost put few (within b) = record {
   made = front;
   ending = [];
@@ -147,10 +147,10 @@ by_mark e number mine front lost put few (beyond (r ∷ later) parted behind) =
       ending = kinds.Mark (marks.Reset number) ∷ [];
       split = parted ∙ ap (λ (x : Record). mine ++ x ∷ later) (sym same) ∙ ap (λ (rs : List Record). mine ++ kinds.Mark (marks.Reset number) ∷ rs) (no_more later lost tails);
       are = record { first = put.first; ticks = put.ticks };
-      may = tt;
+      may = refl;
     }
 
-halted_put : (e : Epoch) (number : ℕ) (rs front : List Record) → ArePut (marked_by number e ∷ (nothing_done ∷ [])) (rs ++ kinds.End ∷ []) → BeginsWith rs front → e.done ≤ length (ticks_among front) → IsPutSoFar (e ∷ []) front
+halted_put : (e : Epoch) (number : ℕ) (rs front : List Record) → ArePut (marked_by number e ∷ (nothing_done ∷ [])) (rs ++ kinds.End ∷ []) → BeginsWith rs front → e.done ≤ length (ticks_among front) → IsPutSoFar number (e ∷ []) front
 halted_put e number rs front put b few =
     let mark : List Record = kinds.Mark (marks.Reset number) ∷ [] in
     let none : put.4.0 ≡ [] = put.4.3.whole refl in
@@ -162,8 +162,8 @@ halted_put e number rs front put b few =
 
 -- ---- both
 
-joined : (es : List Epoch) (e : Epoch) (fs : List Epoch) (front lost : List Record) → (on : BehindClosed es fs front lost) → IsPutSoFar (e ∷ []) on.later → IsPutSoFar (es ++ e ∷ []) front
-joined es e fs front lost on put = record {
+joined : (number : ℕ) (es : List Epoch) (e : Epoch) (fs : List Epoch) (front lost : List Record) → (on : BehindClosed es fs front lost) → IsPutSoFar number (e ∷ []) on.later → IsPutSoFar number (es ++ e ∷ []) front
+joined number es e fs front lost on put = record {
   made = on.early ++ put.made;
   ending = put.ending;
   split = on.split ∙ ap (λ (rs : List Record). on.early ++ rs) put.split ∙ sym (append_assoc on.early put.made put.ending);
@@ -171,18 +171,18 @@ joined es e fs front lost on put = record {
   may = put.may;
 }
 
-pub going_so_far : (es : List Epoch) (e : Epoch) (rs front : List Record) → EndByMarks es → ArePut (es ++ all_of e ∷ []) rs → BeginsWith rs front → length (ticks_among front) ≡ done_in es + e.done → IsPutSoFar (es ++ e ∷ []) front
-going_so_far es e rs front marked put b count =
+pub going_so_far : (number : ℕ) (es : List Epoch) (e : Epoch) (rs front : List Record) → EndByMarks es → ArePut (es ++ all_of e ∷ []) rs → BeginsWith rs front → length (ticks_among front) ≡ done_in es + e.done → IsPutSoFar number (es ++ e ∷ []) front
+going_so_far number es e rs front marked put b count =
     let on = behind_closed es (all_of e ∷ []) rs front b.rest marked put b.is (omega (arith, count)) in
     let ticks = on.ticks in
-    joined es e (all_of e ∷ []) front b.rest on (going_put e on.others on.later on.put (record { rest = b.rest; is = on.first }) (omega (arith, ticks, count)))
+    joined number es e (all_of e ∷ []) front b.rest on (going_put number e on.others on.later on.put (record { rest = b.rest; is = on.first }) (omega (arith, ticks, count)))
 
 pub halted_so_far : (es : List Epoch) (e : Epoch) (number : ℕ) (rs front : List Record) → EndByMarks es → ArePut (es ++ marked_by number e ∷ (nothing_done ∷ [])) (rs ++ kinds.End ∷ []) → BeginsWith rs front → done_in es + e.done ≤ length (ticks_among front)
-    → IsPutSoFar (es ++ e ∷ []) front
+    → IsPutSoFar number (es ++ e ∷ []) front
 halted_so_far es e number rs front marked put b few =
     let end : List Record = kinds.End ∷ [] in
     let fs : List Epoch = marked_by number e ∷ (nothing_done ∷ []) in
     let on = behind_closed es fs (rs ++ end) front (b.rest ++ end) marked put (ap (λ (xs : List Record). xs ++ end) b.is ∙ append_assoc front b.rest end) (omega (arith, few)) in
     let ticks = on.ticks in
-    joined es e fs front (b.rest ++ end) on
+    joined number es e fs front (b.rest ++ end) on
     (halted_put e number (on.later ++ b.rest) on.later (subst (ArePut fs) (on.first ∙ sym (append_assoc on.later b.rest end)) on.put) (record { rest = b.rest; is = refl }) (omega (arith, ticks, few)))

@@ -62,7 +62,7 @@ with_more ss last more put since = record {
   are = since.are;
 }
 
-module _ (closed : List Epoch) (now : Epoch) (published : List Piece) (halts stored : NewestFirst (ℕ × ℕ)) (ss : List Stretch) (last : List Piece) (put : List Record)
+module _ (number : ℕ) (closed : List Epoch) (now : Epoch) (published : List Piece) (halts stored : NewestFirst (ℕ × ℕ)) (ss : List Stretch) (last : List Piece) (put : List Record)
     (marked : EndByMarks closed) (b : BeginsWith published (pieces_of_all ss ++ last)) (same : AreSameHalts halts stored) (ends : EndStretches stored ss) (since : ArePutSince ss last put) where
   -- what is put of epochs as they will be
   put_of : (es : List Epoch) (more : List Piece) → AreOver es → published_in es ≡ published ++ more → halts ≡ reverse (halts_in 0 0 es) → ArePut es (put ++ left_of ss last (b.rest ++ more) put since)
@@ -74,19 +74,19 @@ module _ (closed : List Epoch) (now : Epoch) (published : List Piece) (halts sto
 
   -- while the open epoch goes on
   going : (more behind : List Piece) → published ≡ published_in closed ++ (now.pieces ++ more) → more ++ behind ≡ pieces.End ∷ [] → halts ≡ reverse (halts_in 0 0 (closed ++ now ∷ [])) → length (ticks_among put) ≡ done_in closed + now.done
-      → IsPutSoFar (closed ++ now ∷ []) put
+      → IsPutSoFar number (closed ++ now ∷ []) put
   going more behind are ended halts_are count =
       let es : List Epoch = closed ++ all_of now ∷ [] in
       let whole : published_in es ≡ published ++ behind =
       published_both closed (all_of now ∷ []) ∙ ap (λ (ps : List Piece). published_in closed ++ (now.pieces ++ ps)) (sym ended)
       ∙ ap (λ (ps : List Piece). published_in closed ++ ps) (sym (append_assoc now.pieces more behind)) ∙ sym (append_assoc (published_in closed) (now.pieces ++ more) behind) ∙ ap (λ (ps : List Piece). ps ++ behind) (sym are) in
       let all = put_of es behind (over_on closed (all_of now) [] marked (refl, refl)) whole (halts_are ∙ ap reverse (halts_last 0 0 closed now (all_of now))) in
-      going_so_far closed now (put ++ left_of ss last (b.rest ++ behind) put since) put marked all (record { rest = left_of ss last (b.rest ++ behind) put since; is = refl }) count
+      going_so_far number closed now (put ++ left_of ss last (b.rest ++ behind) put since) put marked all (record { rest = left_of ss last (b.rest ++ behind) put since; is = refl }) count
 
   -- once it is halted
-  halted : (number : ℕ) (more behind : List Piece) → published ≡ published_in closed ++ (now.pieces ++ more) → more ++ behind ≡ pieces.Mark (marks.Reset number) ∷ [] → now.done ≤ ticks_together now.pieces → halts ≡ reverse (halts_in 0 0 (closed ++ now ∷ (nothing_done ∷ [])))
-      → done_in closed + now.done ≤ length (ticks_among put) → IsPutSoFar (closed ++ now ∷ []) put
-  halted number more behind are ended few halts_are enough =
+  halted : (more behind : List Piece) → published ≡ published_in closed ++ (now.pieces ++ more) → more ++ behind ≡ pieces.Mark (marks.Reset number) ∷ [] → now.done ≤ ticks_together now.pieces → halts ≡ reverse (halts_in 0 0 (closed ++ now ∷ (nothing_done ∷ [])))
+      → done_in closed + now.done ≤ length (ticks_among put) → IsPutSoFar number (closed ++ now ∷ []) put
+  halted more behind are ended few halts_are enough =
       let end : List Piece = pieces.End ∷ [] in
       let es : List Epoch = closed ++ marked_by number now ∷ (nothing_done ∷ []) in
       let whole : published_in es ≡ published ++ (behind ++ end) =
@@ -102,7 +102,7 @@ module _ (closed : List Epoch) (now : Epoch) (published : List Piece) (halts sto
       halted_so_far closed now number (put ++ left) put marked (subst (ArePut es) split all) (record { rest = left; is = refl }) enough
 
   -- as it is published
-  by_phase : (phase : Phase) (ticks : ℕ) → ArePublishedSoFar phase closed now ticks published halts → ticks ≡ length (ticks_among put) → IsPutSoFar (closed ++ now ∷ []) put
+  by_phase : (phase : Phase) (ticks : ℕ) → ArePublishedSoFar number phase closed now ticks published halts → ticks ≡ length (ticks_among put) → IsPutSoFar number (closed ++ now ∷ []) put
   by_phase is_going ticks are count = elim are.follows [
     | inl none ↦ going are.more (pieces.End ∷ []) are.are (ap (λ (ps : List Piece). ps ++ pieces.End ∷ []) none) are.halts_are (sym count ∙ are.ticks_are)
     | inr ended ↦ going are.more [] are.are (append-nil are.more ∙ ended) are.halts_are (sym count ∙ are.ticks_are)
@@ -111,31 +111,30 @@ module _ (closed : List Epoch) (now : Epoch) (published : List Piece) (halts sto
   by_phase is_halted ticks are count =
       let enough : done_in closed + now.done ≤ length (ticks_among put) = (let low = are.ticks_are in omega (arith, low, count)) in
       elim are.follows [
-        | inl none ↦
-            let mark : List Piece = pieces.Mark (marks.Reset 0) ∷ [] in halted 0 are.more mark are.are (ap (λ (ps : List Piece). ps ++ mark) none) are.few are.halts_are enough
-        | inr ended ↦ halted ended.0 are.more [] are.are (append-nil are.more ∙ ended.1) are.few are.halts_are enough
+        | inl none ↦ let mark : List Piece = pieces.Mark (marks.Reset number) ∷ [] in halted are.more mark are.are (ap (λ (ps : List Piece). ps ++ mark) none) are.few are.halts_are enough
+        | inr ended ↦ halted are.more [] are.are (append-nil are.more ∙ ended) are.few are.halts_are enough
       ]
 
-pub put_so_far : (phase : Phase) (closed : List Epoch) (now : Epoch) (ticks : ℕ) (published : List Piece) (halts stored : NewestFirst (ℕ × ℕ)) (ss : List Stretch) (last : List Piece) (put : List Record)
-    → ArePublishedSoFar phase closed now ticks published halts → BeginsWith published (pieces_of_all ss ++ last) → AreSameHalts halts stored → EndStretches stored ss → ArePutSince ss last put → ticks ≡ length (ticks_among put) → IsPutSoFar (closed ++ now ∷ []) put
-put_so_far phase closed now ticks published halts stored ss last put are b same ends since count = by_phase closed now published halts stored ss last put are.marked b same ends since phase ticks are count
+pub put_so_far : (number : ℕ) (phase : Phase) (closed : List Epoch) (now : Epoch) (ticks : ℕ) (published : List Piece) (halts stored : NewestFirst (ℕ × ℕ)) (ss : List Stretch) (last : List Piece) (put : List Record)
+    → ArePublishedSoFar number phase closed now ticks published halts → BeginsWith published (pieces_of_all ss ++ last) → AreSameHalts halts stored → EndStretches stored ss → ArePutSince ss last put → ticks ≡ length (ticks_among put) → IsPutSoFar number (closed ++ now ∷ []) put
+put_so_far number phase closed now ticks published halts stored ss last put are b same ends since count = by_phase number closed now published halts stored ss last put are.marked b same ends since phase ticks are count
 
 -- ---- a halt that was not seen
 
 -- it was published as if it were
-as_seen : (phase : Phase) (closed : List Epoch) (now : Epoch) (ticks : ℕ) (published : List Piece) (halts : NewestFirst (ℕ × ℕ)) → phase ≡ is_stopping → ArePublishedSoFar phase closed now ticks published halts
-    → ArePublishedSoFar is_halted closed now ticks published ((length published, ticks) ∷ halts)
-as_seen is_going closed now ticks published halts stops are = absurd cc
-as_seen is_halted closed now ticks published halts stops are = absurd cc
-as_seen is_stopping closed now ticks published halts stops are =
+as_seen : (number : ℕ) (phase : Phase) (closed : List Epoch) (now : Epoch) (ticks : ℕ) (published : List Piece) (halts : NewestFirst (ℕ × ℕ)) → phase ≡ is_stopping → ArePublishedSoFar number phase closed now ticks published halts
+    → ArePublishedSoFar number is_halted closed now ticks published ((length published, ticks) ∷ halts)
+as_seen number is_going closed now ticks published halts stops are = absurd cc
+as_seen number is_halted closed now ticks published halts stops are = absurd cc
+as_seen number is_stopping closed now ticks published halts stops are =
     let none = are.follows in
     let count = are.ticks_are in
     let long : length published ≡ length (published_in closed) + length now.pieces =
     (let all = ap length are.are in let a = length-append (published_in closed) (now.pieces ++ are.more) in let c = length-append now.pieces are.more in let n = ap length none in omega (arith, all, a, c, n)) in
     record { marked = are.marked; few = are.few; more = are.more; are = are.are; follows = inl none; halts_are = newest_halt closed now (length published) ticks halts long count are.halts_are; ticks_are = omega (arith, count) }
 
-pub put_unseen : (phase : Phase) (closed : List Epoch) (now : Epoch) (ticks : ℕ) (published : List Piece) (halts stored : NewestFirst (ℕ × ℕ)) (ss : List Stretch) (last : List Piece) (put : List Record)
-    → ArePublishedSoFar phase closed now ticks published halts → HaltsUnseen phase ticks published (pieces_of_all ss ++ last) halts stored → EndStretches stored ss → ArePutSince ss last put → ticks ≡ length (ticks_among put) → IsPutSoFar (closed ++ now ∷ []) put
-put_unseen phase closed now ticks published halts stored ss last put are unseen ends since count =
-    put_so_far is_halted closed now ticks published ((length published, ticks) ∷ halts) stored ss last put (as_seen phase closed now ticks published halts unseen.stops are)
+pub put_unseen : (number : ℕ) (phase : Phase) (closed : List Epoch) (now : Epoch) (ticks : ℕ) (published : List Piece) (halts stored : NewestFirst (ℕ × ℕ)) (ss : List Stretch) (last : List Piece) (put : List Record)
+    → ArePublishedSoFar number phase closed now ticks published halts → HaltsUnseen phase ticks published (pieces_of_all ss ++ last) halts stored → EndStretches stored ss → ArePutSince ss last put → ticks ≡ length (ticks_among put) → IsPutSoFar number (closed ++ now ∷ []) put
+put_unseen number phase closed now ticks published halts stored ss last put are unseen ends since count =
+    put_so_far number is_halted closed now ticks published ((length published, ticks) ∷ halts) stored ss last put (as_seen number phase closed now ticks published halts unseen.stops are)
     (record { rest = []; is = sym unseen.all ∙ sym (append-nil (pieces_of_all ss ++ last)) }) unseen.halts_are ends since count

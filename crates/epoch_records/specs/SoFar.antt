@@ -39,20 +39,20 @@ ArePutSoFar (e ∷ (f ∷ es)) records =
     (mine : List Record) × (rest : List Record) × (records ≡ mine ++ (records_of e.closing ++ rest))
     × IsPut e mine × ArePutSoFar (f ∷ es) rest
 
--- Behind the records of epochs so far nothing is put; or what ends the open one: the end, or the mark of its reset.
-abbrev pub MayEndSoFar : List Record → Type 0
-MayEndSoFar [] = Unit {0}
-MayEndSoFar (kinds.End ∷ []) = Unit {0}
-MayEndSoFar (kinds.Mark (marks.Reset number) ∷ []) = Unit {0}
-MayEndSoFar _ = ⊥
+-- Behind the records of epochs so far nothing is put; or what ends the open one: the end, or the mark of its reset, which has this number.
+abbrev pub MayEndSoFar : (number : ℕ) → List Record → Type 0
+MayEndSoFar number [] = Unit {0}
+MayEndSoFar number (kinds.End ∷ []) = Unit {0}
+MayEndSoFar number (kinds.Mark (marks.Reset k) ∷ []) = k ≡ number
+MayEndSoFar number _ = ⊥
 
 -- what is put so far
-pub record IsPutSoFar (es : List Epoch) (put : List Record) : Type 0 where
+pub record IsPutSoFar (number : ℕ) (es : List Epoch) (put : List Record) : Type 0 where
   pub made : List Record
   pub ending : List Record
   pub split : put ≡ made ++ ending
   pub are : ArePutSoFar es made
-  pub may : MayEndSoFar ending
+  pub may : MayEndSoFar number ending
 
 -- ---- what is published so far
 
@@ -73,10 +73,10 @@ pub data Phase : Type 0 where
   is_halted : Phase
 
 -- what comes behind the pieces of the open epoch: the end, where no stop was stored; or the mark of its reset, once it is halted
-abbrev pub MayFollow : Phase → List Piece → Type 0
-MayFollow is_going more = (more ≡ []) ⊎ (more ≡ pieces.End ∷ [])
-MayFollow is_stopping more = more ≡ []
-MayFollow is_halted more = (more ≡ []) ⊎ ((number : ℕ) × (more ≡ pieces.Mark (marks.Reset number) ∷ []))
+abbrev pub MayFollow : (number : ℕ) → Phase → List Piece → Type 0
+MayFollow number is_going more = (more ≡ []) ⊎ (more ≡ pieces.End ∷ [])
+MayFollow number is_stopping more = more ≡ []
+MayFollow number is_halted more = (more ≡ []) ⊎ (more ≡ pieces.Mark (marks.Reset number) ∷ [])
 
 -- an epoch in which nothing is done
 abbrev pub nothing_done : Epoch
@@ -94,13 +94,13 @@ AreTicks is_going closed now ticks = ticks ≡ done_in closed + now.done
 AreTicks is_stopping closed now ticks = ticks ≡ done_in closed + now.done
 AreTicks is_halted closed now ticks = done_in closed + now.done ≤ ticks
 
--- What was published of closed epochs and the open one, and which halts were seen, while so many ticks are made.
-pub record ArePublishedSoFar (phase : Phase) (closed : List Epoch) (now : Epoch) (ticks : ℕ) (published : List Piece) (halts : List (ℕ × ℕ)) : Type 0 where
+-- What was published of closed epochs and the open one, whose reset has this number, and which halts were seen, while so many ticks are made.
+pub record ArePublishedSoFar (number : ℕ) (phase : Phase) (closed : List Epoch) (now : Epoch) (ticks : ℕ) (published : List Piece) (halts : List (ℕ × ℕ)) : Type 0 where
   pub marked : EndByMarks closed
   pub few : now.done ≤ ticks_together now.pieces
   pub more : List Piece
   pub are : published ≡ published_in closed ++ (now.pieces ++ more)
-  pub follows : MayFollow phase more
+  pub follows : MayFollow number phase more
   pub halts_are : halts ≡ reverse (halts_so_far phase closed now)
   pub ticks_are : AreTicks phase closed now ticks
 

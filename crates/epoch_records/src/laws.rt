@@ -141,10 +141,10 @@ pub fn epochs_are_made_so_far()
 /// these, and has halted where the halts were seen (`seen`), or once more (`unseen`). Of the open epoch so many ticks are made as are
 /// put of it.
 pub fn pulses_put_epochs_so_far()
-    ensures seen { (phase : Phase) (closed : List Epoch) (now : Epoch) (published : List AnyPiece) (halts stored : NewestFirst (ℕ × ℕ)) (stretches : List Stretch) (last : List AnyPiece) (records : List AnyRecord) →
-        ArePublishedSoFar phase closed now (length (ticks_among records)) published halts → BeginsWith published (pieces_of_all stretches ++ last) → AreSameHalts halts stored →
-        EndStretches stored stretches → ArePutSince stretches last records → IsPutSoFar (closed ++ now ∷ []) records }
-    ensures unseen { (phase : Phase) (closed : List Epoch) (now : Epoch) (published : List AnyPiece) (halts stored : NewestFirst (ℕ × ℕ)) (stretches : List Stretch) (last : List AnyPiece) (records : List AnyRecord) →
-        ArePublishedSoFar phase closed now (length (ticks_among records)) published halts → HaltsUnseen phase (length (ticks_among records)) published (pieces_of_all stretches ++ last) halts stored →
-        EndStretches stored stretches → ArePutSince stretches last records → IsPutSoFar (closed ++ now ∷ []) records }
+    ensures seen { (number : ℕ) (phase : Phase) (closed : List Epoch) (now : Epoch) (published : List AnyPiece) (halts stored : NewestFirst (ℕ × ℕ)) (stretches : List Stretch) (last : List AnyPiece) (records : List AnyRecord) →
+        ArePublishedSoFar number phase closed now (length (ticks_among records)) published halts → BeginsWith published (pieces_of_all stretches ++ last) → AreSameHalts halts stored →
+        EndStretches stored stretches → ArePutSince stretches last records → IsPutSoFar number (closed ++ now ∷ []) records }
+    ensures unseen { (number : ℕ) (phase : Phase) (closed : List Epoch) (now : Epoch) (published : List AnyPiece) (halts stored : NewestFirst (ℕ × ℕ)) (stretches : List Stretch) (last : List AnyPiece) (records : List AnyRecord) →
+        ArePublishedSoFar number phase closed now (length (ticks_among records)) published halts → HaltsUnseen phase (length (ticks_among records)) published (pieces_of_all stretches ++ last) halts stored →
+        EndStretches stored stretches → ArePutSince stretches last records → IsPutSoFar number (closed ++ now ∷ []) records }
 {}

@@ -41,7 +41,7 @@ use Rattle.epoch_records.specs.Stretches.{Opens}
 use Rattle.epoch_records.proofs.Fronts.{Reaches, reaches}
 use Rattle.epoch_records.proofs.Fronts.Reaches.{within, beyond}
 use Rattle.epoch_records.proofs.Halts.{newest_halt}
-use Rattle.epoch_runs.specs.Epochs.{closed_epochs, closed_of, halts_seen, made_in, made_of, open_epoch, phase_at, phase_of, pieces_sent, reset_epoch, without_end}
+use Rattle.epoch_runs.specs.Epochs.{closed_epochs, closed_of, halts_seen, made_in, made_of, number_of, open_epoch, phase_at, phase_of, pieces_sent, reset_epoch, without_end}
 use Rattle.epoch_runs.proofs.Sent.{closed_done, closed_halts, closed_pieces, mark_more, pieces_behind, sent_behind}
 use Rattle.epoch_runs.proofs.SoFar.{none_out, out_on}
 
@@ -54,7 +54,7 @@ first_none (p ∷ ps) qs none = (none.0, first_none ps qs none.1)
 record IsLastOut (published : List Piece) : Type 0 where
   pub more : List Piece
   pub is : published ≡ without_end published ++ more
-  pub follows : MayFollow is_going more
+  pub follows : MayFollow 0 is_going more
 
 not_out : (published : List Piece) → NoEnds published → IsLastOut published
 not_out published none = record { more = []; is = sym (none_out published none) ∙ sym (append-nil (without_end published)); follows = inl refl }
@@ -123,8 +123,8 @@ module _ (state : State) (es : NewestFirst Closed) (h : Journal) (c : AreClosed 
       ap ring.ticks_published (sent_behind (opening_behind state es) h (closed_log es) is.conducted) ∙ ticks_are (closed_log es) (reverse (published_of h)) (begins_behind state es c) ∙ ap (λ n. ticks_made es + n) own
 
   -- while no halt of it is found
-  going_on : (phase : Phase) (ticks : ℕ) (s : Sent) → (phase ≡ is_going) ⊎ (phase ≡ is_stopping) → (last : IsLastOut (published_of h)) → MayFollow phase last.more → pieces_sent s ≡ pieces_sent (sent_in before) → halts_seen s ≡ halts_seen (sent_in before)
-      → ticks_made es ≤ ticks → ticks ≤ ring.ticks_published (sent_in before) → ArePublishedSoFar phase (closed_epochs state es) (open_epoch (made_in phase ticks (ticks_made es) 0) h) ticks (pieces_sent s) (halts_seen s)
+  going_on : (phase : Phase) (ticks : ℕ) (s : Sent) → (phase ≡ is_going) ⊎ (phase ≡ is_stopping) → (last : IsLastOut (published_of h)) → MayFollow (last_line (opening_behind state es) h) phase last.more → pieces_sent s ≡ pieces_sent (sent_in before) → halts_seen s ≡ halts_seen (sent_in before)
+      → ticks_made es ≤ ticks → ticks ≤ ring.ticks_published (sent_in before) → ArePublishedSoFar (last_line (opening_behind state es) h) phase (closed_epochs state es) (open_epoch (made_in phase ticks (ticks_made es) 0) h) ticks (pieces_sent s) (halts_seen s)
   going_on is_halted ticks s going last follows same seen low high = elim going [ inl e ↦ absurd cc | inr e ↦ absurd cc ]
   going_on is_going ticks s going last follows same seen low high = record {
     marked = closed_marked state es c;
@@ -146,8 +146,8 @@ module _ (state : State) (es : NewestFirst Closed) (h : Journal) (c : AreClosed 
   }
 
   -- once it is found
-  once_halted : (ticks halted : ℕ) (more : List Piece) (s : Sent) → NoEnds (published_of h) → MayFollow is_halted more → pieces_sent s ≡ pieces_sent (sent_in before) ++ more → halts_seen s ≡ (length (ring.published_in (sent_in before)), halted) ∷ halts_seen (sent_in before)
-      → ticks_made es ≤ halted → halted ≤ ring.ticks_published (sent_in before) → halted ≤ ticks → ArePublishedSoFar is_halted (closed_epochs state es) (open_epoch (halted - ticks_made es) h) ticks (pieces_sent s) (halts_seen s)
+  once_halted : (ticks halted : ℕ) (more : List Piece) (s : Sent) → NoEnds (published_of h) → MayFollow (last_line (opening_behind state es) h) is_halted more → pieces_sent s ≡ pieces_sent (sent_in before) ++ more → halts_seen s ≡ (length (ring.published_in (sent_in before)), halted) ∷ halts_seen (sent_in before)
+      → ticks_made es ≤ halted → halted ≤ ring.ticks_published (sent_in before) → halted ≤ ticks → ArePublishedSoFar (last_line (opening_behind state es) h) is_halted (closed_epochs state es) (open_epoch (halted - ticks_made es) h) ticks (pieces_sent s) (halts_seen s)
   once_halted ticks halted more s none follows same seen low high enough =
       let closed = closed_epochs state es in
       let now : Epoch = open_epoch (halted - ticks_made es) h in
@@ -193,7 +193,7 @@ known_on number before (_ ∷ w) c = absurd c.0
 
 -- how the open epoch is published, and that no fewer ticks of it are made than are known
 pub record IsOpen (state : State) (ticks : ℕ) (es : Epochs) : Type 0 where
-  pub are : ArePublishedSoFar (phase_of es) (closed_of state es) (open_epoch (made_of ticks es) (open_journal es)) ticks (pieces_sent (sent_in (log_of es))) (halts_seen (sent_in (log_of es)))
+  pub are : ArePublishedSoFar (number_of state es) (phase_of es) (closed_of state es) (open_epoch (made_of ticks es) (open_journal es)) ticks (pieces_sent (sent_in (log_of es))) (halts_seen (sent_in (log_of es)))
   pub known : known_of (open_journal es) ≤ made_of ticks es
 
 module _ (state : State) (ticks : ℕ) (es : NewestFirst Closed) (h : Journal) (w : Work) (c : AreClosed state es) (is : IsResetting (opening_behind state es) (closed_log es) h w) (low : known_in (log_of (resets es h w)) ≤ ticks)
@@ -206,7 +206,7 @@ module _ (state : State) (ticks : ℕ) (es : NewestFirst Closed) (h : Journal) (
 
   abbrev OpenAt : Stage → Type 0
   OpenAt stage =
-      ArePublishedSoFar (phase_at stage) (closed_epochs state es) (open_epoch (made_in (phase_at stage) ticks (ticks_made es) (halted_in w)) h) ticks (pieces_sent now) (halts_seen now)
+      ArePublishedSoFar (last_line (opening_behind state es) h) (phase_at stage) (closed_epochs state es) (open_epoch (made_in (phase_at stage) ticks (ticks_made es) (halted_in w)) h) ticks (pieces_sent now) (halts_seen now)
       × (known_of h ≤ made_in (phase_at stage) ticks (ticks_made es) (halted_in w))
 
   none : NoEnds (published_of h)
@@ -218,8 +218,8 @@ module _ (state : State) (ticks : ℕ) (es : NewestFirst Closed) (h : Journal) (
   later : (known_in there ≤ ticks) × (halted_in w ≤ ticks)
   later = let all = known_on (last_line (opening_behind state es) h) there w is.works in let a = all.0 in let b = all.1 in (omega (arith, a, low), omega (arith, b, low))
 
-  unhalted : (phase : Phase) → (phase ≡ is_going) ⊎ (phase ≡ is_stopping) → MayFollow phase [] → pieces_sent now ≡ pieces_sent (sent_in there) → halts_seen now ≡ halts_seen (sent_in there) → ring.ticks_published now ≡ ring.ticks_published (sent_in there)
-      → ArePublishedSoFar phase (closed_epochs state es) (open_epoch (made_in phase ticks (ticks_made es) 0) h) ticks (pieces_sent now) (halts_seen now) × (known_of h ≤ ticks - ticks_made es)
+  unhalted : (phase : Phase) → (phase ≡ is_going) ⊎ (phase ≡ is_stopping) → MayFollow (last_line (opening_behind state es) h) phase [] → pieces_sent now ≡ pieces_sent (sent_in there) → halts_seen now ≡ halts_seen (sent_in there) → ring.ticks_published now ≡ ring.ticks_published (sent_in there)
+      → ArePublishedSoFar (last_line (opening_behind state es) h) phase (closed_epochs state es) (open_epoch (made_in phase ticks (ticks_made es) 0) h) ticks (pieces_sent now) (halts_seen now) × (known_of h ≤ ticks - ticks_made es)
   unfolding not_out
   unhalted phase going follows same seen all =
       let k = known in let l = later.0 in (
@@ -228,11 +228,11 @@ module _ (state : State) (ticks : ℕ) (es : NewestFirst Closed) (h : Journal) (
       )
 
   -- the stop is not stored
-  as_before : now ≡ sent_in there → ArePublishedSoFar is_going (closed_epochs state es) (open_epoch (ticks - ticks_made es) h) ticks (pieces_sent now) (halts_seen now) × (known_of h ≤ ticks - ticks_made es)
+  as_before : now ≡ sent_in there → ArePublishedSoFar (last_line (opening_behind state es) h) is_going (closed_epochs state es) (open_epoch (ticks - ticks_made es) h) ticks (pieces_sent now) (halts_seen now) × (known_of h ≤ ticks - ticks_made es)
   as_before same = unhalted is_going (inl refl) (inl refl) (ap pieces_sent same) (ap halts_seen same) (ap ring.ticks_published same)
 
-  found : (more : List Piece) → MayFollow is_halted more → pieces_sent now ≡ pieces_sent (sent_in there) ++ more → halts_seen now ≡ (length (ring.published_in (sent_in there)), halted_in w) ∷ halts_seen (sent_in there) → known_in there ≤ halted_in w
-      → ArePublishedSoFar is_halted (closed_epochs state es) (open_epoch (halted_in w - ticks_made es) h) ticks (pieces_sent now) (halts_seen now) × (known_of h ≤ halted_in w - ticks_made es)
+  found : (more : List Piece) → MayFollow (last_line (opening_behind state es) h) is_halted more → pieces_sent now ≡ pieces_sent (sent_in there) ++ more → halts_seen now ≡ (length (ring.published_in (sent_in there)), halted_in w) ∷ halts_seen (sent_in there) → known_in there ≤ halted_in w
+      → ArePublishedSoFar (last_line (opening_behind state es) h) is_halted (closed_epochs state es) (open_epoch (halted_in w - ticks_made es) h) ticks (pieces_sent now) (halts_seen now) × (known_of h ≤ halted_in w - ticks_made es)
   found more follows same seen enough =
       let k = known in (
         once_halted state es h c is.epoch ticks (halted_in w) more now none follows same seen (omega (arith, k, enough)) (halted_below (last_line (opening_behind state es) h) there w is.works) later.1,
@@ -244,16 +244,15 @@ module _ (state : State) (ticks : ℕ) (es : NewestFirst Closed) (h : Journal) (
 
   -- nothing is published behind the halt
   only_halted : (now ≡ ring.with_halt (ring.with_stop (sent_in there)) (halted_in w)) × (known_in (log_of (resets es h w)) ≡ halted_in w)
-      → ArePublishedSoFar is_halted (closed_epochs state es) (open_epoch (halted_in w - ticks_made es) h) ticks (pieces_sent now) (halts_seen now) × (known_of h ≤ halted_in w - ticks_made es)
+      → ArePublishedSoFar (last_line (opening_behind state es) h) is_halted (closed_epochs state es) (open_epoch (halted_in w - ticks_made es) h) ticks (pieces_sent now) (halts_seen now) × (known_of h ≤ halted_in w - ticks_made es)
   only_halted holds =
       found [] (inl refl) (ap pieces_sent holds.0 ∙ sym (append-nil (pieces_sent (sent_in there)))) (ap halts_seen holds.0)
       (let all = (known_on (last_line (opening_behind state es) h) there w is.works).0 in let same = holds.1 in omega (arith, all, same))
 
   mark_out : now ≡ with_mark (last_line (opening_behind state es) h) (sent_in there) (halted_in w) → is_marked (stage_of there w) ≡ true
-      → ArePublishedSoFar is_halted (closed_epochs state es) (open_epoch (halted_in w - ticks_made es) h) ticks (pieces_sent now) (halts_seen now) × (known_of h ≤ halted_in w - ticks_made es)
+      → ArePublishedSoFar (last_line (opening_behind state es) h) is_halted (closed_epochs state es) (open_epoch (halted_in w - ticks_made es) h) ticks (pieces_sent now) (halts_seen now) × (known_of h ≤ halted_in w - ticks_made es)
   mark_out holds marked =
-      let number = last_line (opening_behind state es) h in
-      found (pieces.Mark (marks.Reset number) ∷ []) (inr (number, refl)) (ap pieces_sent holds ∙ mark_more number (sent_in there) (halted_in w)) (ap halts_seen holds) (known_then marked)
+      found (pieces.Mark (marks.Reset (last_line (opening_behind state es) h)) ∷ []) (inr refl) (ap pieces_sent holds ∙ mark_more (last_line (opening_behind state es) h) (sent_in there) (halted_in w)) (ap halts_seen holds) (known_then marked)
 
   by_stage : (stage : Stage) → stage_of there w ≡ stage → Holds (last_line (opening_behind state es) h) there (log_of (resets es h w)) (halted_in w) stage → OpenAt stage
   by_stage drops_changes e holds = as_before holds
@@ -288,15 +287,15 @@ calm_there state es h c is = ap (λ (s : Sent). s.waits) (sent_behind (opening_b
 no_stop : {A : Type 0} (t : Bool) → t ≡ true → t ≡ false → A
 no_stop t waits calm = absurd (let e = sym waits ∙ calm in cc)
 
-by_waits : (number : ℕ) (before l : BoardLog) (halted : ℕ) (stage : Stage) → (sent_in before).waits ≡ false → Holds number before l halted stage → (sent_in l).waits ≡ true → phase_at stage ≡ is_stopping
-by_waits number before l halted drops_changes calm holds waits = no_stop (sent_in l).waits waits (ap (λ (s : Sent). s.waits) holds ∙ calm)
-by_waits number before l halted awaits_mark calm holds waits = no_stop (sent_in l).waits waits (ap (λ (s : Sent). s.waits) holds ∙ calm)
-by_waits number before l halted (stops n) calm holds waits = no_stop (sent_in l).waits waits (ap (λ (s : Sent). s.waits) holds ∙ calm)
-by_waits number before l halted (awaits_halt n) calm holds waits = refl
-by_waits number before l halted (drops n) calm holds waits = no_stop (sent_in l).waits waits (ap (λ (s : Sent). s.waits) holds.0)
-by_waits number before l halted publishes calm holds waits = no_stop (sent_in l).waits waits (ap (λ (s : Sent). s.waits) holds.0)
-by_waits number before l halted awaits_done calm holds waits = no_stop (sent_in l).waits waits (ap (λ (s : Sent). s.waits) holds)
-by_waits number before l halted over calm holds waits = no_stop (sent_in l).waits waits (ap (λ (s : Sent). s.waits) holds.0)
+by_waits : (number : ℕ) (was l : BoardLog) (halted : ℕ) (stage : Stage) → (sent_in was).waits ≡ false → Holds number was l halted stage → (sent_in l).waits ≡ true → phase_at stage ≡ is_stopping
+by_waits number was l halted drops_changes calm holds waits = no_stop (sent_in l).waits waits (ap (λ (s : Sent). s.waits) holds ∙ calm)
+by_waits number was l halted awaits_mark calm holds waits = no_stop (sent_in l).waits waits (ap (λ (s : Sent). s.waits) holds ∙ calm)
+by_waits number was l halted (stops n) calm holds waits = no_stop (sent_in l).waits waits (ap (λ (s : Sent). s.waits) holds ∙ calm)
+by_waits number was l halted (awaits_halt n) calm holds waits = refl
+by_waits number was l halted (drops n) calm holds waits = no_stop (sent_in l).waits waits (ap (λ (s : Sent). s.waits) holds.0)
+by_waits number was l halted publishes calm holds waits = no_stop (sent_in l).waits waits (ap (λ (s : Sent). s.waits) holds.0)
+by_waits number was l halted awaits_done calm holds waits = no_stop (sent_in l).waits waits (ap (λ (s : Sent). s.waits) holds)
+by_waits number was l halted over calm holds waits = no_stop (sent_in l).waits waits (ap (λ (s : Sent). s.waits) holds.0)
 
 pub stopping_there : (state : State) (es : Epochs) → AreEpochs state es → (sent_in (log_of es)).waits ≡ true → phase_of es ≡ is_stopping
 stopping_there state (goes es h) c waits = no_stop (sent_in (log_of (goes es h))).waits waits (calm_there state es h c.0 c.1.conducted)

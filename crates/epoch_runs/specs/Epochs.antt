@@ -76,6 +76,11 @@ abbrev pub made_of : (ticks : ℕ) → Epochs → ℕ
 made_of ticks (goes es h) = ticks - ticks_made es
 made_of ticks (resets es h w) = made_in (phase_of (resets es h w)) ticks (ticks_made es) (halted_in w)
 
+-- the number of the line that was begun last, which the mark of the open epoch's reset has
+abbrev pub number_of : State → Epochs → ℕ
+number_of state (goes es h) = last_line (opening_behind state es) h
+number_of state (resets es h w) = last_line (opening_behind state es) h
+
 -- the epochs before the open one
 abbrev pub closed_of : State → Epochs → List Epoch
 closed_of state (goes es h) = closed_epochs state es

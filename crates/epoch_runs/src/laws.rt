@@ -18,7 +18,7 @@ ghost use Rattle.epoch_records.specs.Publishing.{published_in, halts_in, AreOver
 ghost use Rattle.epoch_records.specs.Runs.{AreRun};
 ghost use Rattle.epoch_records.specs.SoFar.{AreRunSoFar, ArePublishedSoFar};
 ghost use Rattle.epoch_records.specs.SoFar.Phase.{is_stopping};
-ghost use Rattle.epoch_runs.specs.Epochs.{closed_of, epochs_of, epochs_so_far, made_of, open_epoch, phase_of, without_end, halts_seen, pieces_sent};
+ghost use Rattle.epoch_runs.specs.Epochs.{closed_of, epochs_of, epochs_so_far, made_of, number_of, open_epoch, phase_of, without_end, halts_seen, pieces_sent};
 
 /// The epochs of a board that is done, as the pulse has them by their pieces and the ticks made of these, were run for the
 /// parts of its course: so what the pulse puts of them are the records of these parts. So were its epochs so far, while so
@@ -43,7 +43,7 @@ pub fn epochs_are_those_of_the_port()
     ensures pieces { (state : State) (es : NewestFirst Closed) (h : Journal) → AreEpochs state (goes es h) → IsFinished (opening_behind state es) h → pieces_sent (sent_in (log_of (goes es h))) ≡ published_in (epochs_of state es h) }
     ensures halts { (state : State) (es : NewestFirst Closed) (h : Journal) → AreEpochs state (goes es h) → halts_seen (sent_in (log_of (goes es h))) ≡ reverse (halts_in 0 0 (epochs_of state es h)) }
     ensures so_far { (state : State) (ticks : ℕ) (es : Epochs) → AreEpochs state es → known_in (log_of es) ≤ ticks → ticks ≤ ticks_published (sent_in (log_of es)) →
-        ArePublishedSoFar (phase_of es) (closed_of state es) (open_epoch (made_of ticks es) (open_journal es)) ticks (pieces_sent (sent_in (log_of es))) (halts_seen (sent_in (log_of es))) }
+        ArePublishedSoFar (number_of state es) (phase_of es) (closed_of state es) (open_epoch (made_of ticks es) (open_journal es)) ticks (pieces_sent (sent_in (log_of es))) (halts_seen (sent_in (log_of es))) }
     ensures known { (state : State) (ticks : ℕ) (es : Epochs) → AreEpochs state es → known_in (log_of es) ≤ ticks → ticks ≤ ticks_published (sent_in (log_of es)) →
         known_of (open_journal es) ≤ made_of ticks es }
     ensures stops { (state : State) (es : Epochs) → AreEpochs state es → (sent_in (log_of es)).waits ≡ true → phase_of es ≡ is_stopping }
