@@ -170,6 +170,12 @@ runs_so_far h job_was job_is console_was console_is c job console = record {
   console = console;
 }
 
+-- by what it has scanned, and the lines that it has cut
+pub runs_of : (h : Journal) (job_was job_is : SourceState) (console_was console_is : SinkState) → Conducted h → TellsJob h job_was job_is → TellsConsole h console_was console_is
+    → (runs : HostRuns job_was job_is console_was console_is (stored_of h) (marks_of h) (raises_of h) (got_of h)) × (runs.scanned ≡ scanned_of h) × (runs.lines ≡ cut_of h)
+unfolding runs_so_far
+runs_of h job_was job_is console_was console_is c job console = (runs_so_far h job_was job_is console_was console_is c job console, refl, refl)
+
 pub finished_by : (s : Host) (h : Journal) → HostFits s h → HostRests s → HasFinished h
 finished_by s h f rests =
     let bye : has_bye h ≡ true = sym f.bye_is ∙ rests.bye in
