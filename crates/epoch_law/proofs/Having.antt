@@ -6,20 +6,22 @@ use Rattle.pulse_engine.specs.Logs.{PieceLog, RecordLog, end_is_put}
 use Rattle.pulse_engine.specs.Steps.{Pulsing}
 use Rattle.pulse_engine.specs.Turns.{PulseFits}
 use Rattle.pulse_engine.proofs.Whole.{done_put}
+use Rattle.run_texts.specs.Sent.{sent_of}
 use Rattle.step_line.specs.declared.Piece.TheVariants as pieces
 use Rattle.stream_host.specs.Conduct.{Conducted}
 use Rattle.stream_host.specs.Ran.{HasFinished, TellsConsole, end_of}
 use Rattle.stream_host.specs.Hosts.{TellsJob}
-use Rattle.stream_host.specs.Steps.{Journal, is_shut, has_limit, scanned_of, cut_of, raw_of}
+use Rattle.stream_host.specs.Steps.{Journal, is_shut, has_limit, scanned_of, cut_of, raw_of, stored_of, marks_of}
 use Rattle.stream_host.proofs.Keeping.{IsCut, cut_is}
-use Rattle.stream_host.proofs.Running.{has_run_of, ran_lines}
+use Rattle.stream_host.proofs.Running.{has_run_of, ran_lines, runs_of}
+use Rattle.epoch_links.specs.Pieces.{IsFrontOf}
 use Rattle.epoch_links.proofs.Awaiting.{awaits, all_got, got_or_all}
 use Rattle.epoch_links.proofs.Sending.{sends_front, sends_all}
 use Rattle.epoch_records.specs.Stretches.{stretches_in, pieces_since}
 use Rattle.epoch_records.proofs.Pulsing.{all_pieces, halts_end, done_over, since_over}
 use Rattle.epoch_law.specs.Journals.{host_did, pulse_did}
 use Rattle.epoch_law.specs.Ran.{HasSent, IsRest, Sends, PulseRan}
-use Rattle.epoch_law.specs.SoFar.{PulseRuns}
+use Rattle.epoch_law.specs.SoFar.{PulseRuns, Sending}
 
 pub pulse_ran : (p : Pulsing) (h : PieceLog) (k : RecordLog) → PulseFits p h k → end_is_put k ≡ true → PulseRan (pulse_did h k)
 pulse_ran p h k fits end =
@@ -72,3 +74,15 @@ host_sent h job_was job_is console_was console_is c finished job console =
       },
       ran.1,
     )
+
+-- before it is done
+pub host_sends : (h : Journal) (job_was job_is : SourceState) (console_was console_is : SinkState) → Conducted h → TellsJob h job_was job_is → TellsConsole h console_was console_is → Sending job_was job_is console_was console_is (host_did h)
+host_sends h job_was job_is console_was console_is c job console =
+    let of_host = runs_of h job_was job_is console_was console_is c job console in
+    record {
+      runs = of_host.0;
+      rest = raw_of h;
+      is_rest = subst (λ (s : List ℕ). IsRest s of_host.0.lines (raw_of h)) (sym of_host.1) (subst (λ (ls : List (List ℕ)). IsRest (scanned_of h) ls (raw_of h)) (sym of_host.2) (rest_is h c));
+      front = subst (λ (ls : List (List ℕ)). IsFrontOf (sent_of ls (raw_of h)) (stored_of h) (marks_of h)) (sym of_host.2) (sends_front h c);
+      awaits = awaits h c;
+    }

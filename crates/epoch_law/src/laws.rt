@@ -97,6 +97,12 @@ pub fn hosts_have_sent()
         (sent : HasSent job_was job_is console_was console_is (host_did h) (end_of h)) × (sent.ran.scanned ≡ scanned_of h) }
 {}
 
+/// Before it is done, a host that keeps to its rules is sending over epochs.
+pub fn hosts_are_sending()
+    ensures { (h : HostJournal) (job_was job_is : SourceState) (console_was console_is : SinkState) → HostConducted h → TellsJob h job_was job_is → TellsConsole h console_was console_is →
+        Sending job_was job_is console_was console_is (host_did h) }
+{}
+
 /// Before they end, a host, a board, a pulse and a recorder have done a run so far, if each has got a front of what the other gave; the pulse
 /// may have halted once more than the board has seen.
 pub fn actors_make_a_run_so_far()
