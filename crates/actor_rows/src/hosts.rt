@@ -256,7 +256,7 @@ fn epochs_count_anew(rt: HostRuntime) -> Result<(), Fail> {
     Ok(())
 }
 
-/// The 128th byte that is kept behind a reset ends the sending; a board that tells no banner behind a reset ends it there.
+/// The 128th byte that is kept behind a reset ends the sending.
 #[test]
 fn sending_ends_behind_a_reset(rt: HostRuntime) -> Result<(), Fail> {
     let long =
@@ -266,12 +266,6 @@ fn sending_ends_behind_a_reset(rt: HostRuntime) -> Result<(), Fail> {
     assert_eq!(rt; line.run(Turn::Done, 1000), Turn::Done);
     assert!(rt; line.taken() == b"\x18".as_slice());
     assert_eq!(rt; line.host.stop(), Stop::LongLine(1));
-    let mut line = Line::new(rt.alloc(), b"G0\nG1\x18X1\n", 4096, 0)?;
-    line.board.marked = true;
-    assert_eq!(rt; line.run(Turn::Done, 1000), Turn::Done);
-    assert!(rt; line.taken() == b"G0\n=|\x18".as_slice());
-    assert_eq!(rt; line.host.stop(), Stop::Reset);
-    assert_eq!(rt; line.host.answered(), 1);
     Ok(())
 }
 

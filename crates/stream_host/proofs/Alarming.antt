@@ -4,9 +4,8 @@ use Rattle.std.specs.List.{list_any}
 use Rattle.std.proofs.lemmas.List.Folds.{list_any-append}
 use Rattle.status_report.specs.declared.Reply.{Reply}
 use Rattle.stream_host.specs.declared.Stop.{Stop}
-use Rattle.stream_host.specs.declared.Stop.TheVariants.{End, LongLine, TooLarge, Reset, Alarm}
+use Rattle.stream_host.specs.declared.Stop.TheVariants.{End, LongLine, TooLarge, Alarm}
 use Rattle.run_rules.specs.Work.{is_limit}
-use Rattle.stream_host.specs.Jobs.{or_reset}
 use Rattle.stream_host.specs.Steps.{Journal, got_of, has_limit, line_raises_of, polls_of, empty_polls, or_alarm}
 use Rattle.stream_host.specs.Steps.PortStep.{stored, dropped, marked, raised, got, no_reply, shut}
 use Rattle.stream_host.specs.Steps.Step.{at_port, read_some, read_end, read_failed, scanned, line_over, wrote, gave_up, turned}
@@ -94,22 +93,12 @@ sends_no_more (gave_up ∷ l) h c e =
 sends_no_more (turned t ∷ l) h c e =
     sent_on h (l ++ h) (turned t ∷ (l ++ h)) (sends_no_more l h c.1 e) (record { read = refl; reading = refl; scanned = refl; lines = refl; stored = refl; marks = refl; raised = refl })
 
--- ---- a reset and an alarm are no cause where the job gives one
+-- ---- an alarm is no cause where the job gives one
 
 -- a cause that the job gives stays
-pub cause_of_job : (alarm : Bool) (n : ℕ) (lacking : Bool) (stop : Stop) → (stop ≡ End → ⊥) → stop ≡ or_alarm alarm n (or_reset lacking stop)
-cause_of_job false n false stop other = refl
-cause_of_job false n true End other = absurd (other refl)
-cause_of_job false n true (LongLine k) other = refl
-cause_of_job false n true TooLarge other = refl
-cause_of_job false n true Reset other = refl
-cause_of_job false n true (Alarm k) other = refl
-cause_of_job true n lacking End other = absurd (other refl)
-cause_of_job true n false (LongLine k) other = refl
-cause_of_job true n false TooLarge other = refl
-cause_of_job true n false Reset other = refl
-cause_of_job true n false (Alarm k) other = refl
-cause_of_job true n true (LongLine k) other = refl
-cause_of_job true n true TooLarge other = refl
-cause_of_job true n true Reset other = refl
-cause_of_job true n true (Alarm k) other = refl
+pub cause_of_job : (alarm : Bool) (n : ℕ) (stop : Stop) → (stop ≡ End → ⊥) → stop ≡ or_alarm alarm n stop
+cause_of_job false n stop other = refl
+cause_of_job true n End other = absurd (other refl)
+cause_of_job true n (LongLine k) other = refl
+cause_of_job true n TooLarge other = refl
+cause_of_job true n (Alarm k) other = refl

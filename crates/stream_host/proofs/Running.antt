@@ -10,14 +10,14 @@ use Rattle.outside.specs.Writing.{Wrote, Took}
 use Rattle.stream_host.specs.declared.Reading.{Reading}
 use Rattle.stream_host.specs.declared.Reading.TheVariants.{Ended, Failed, Large, Stopped}
 use Rattle.stream_host.specs.declared.host.Host.{Host}
-use Rattle.stream_host.specs.Steps.{Journal, stored_of, got_of, is_shut, read_of, reading_of, scanned_of, cut_of, live_of, forgotten_of, over_of, marks_of, has_limit, or_alarm, stop_of, banners_of, to_store, due_of, raises_of, resumes_of, job_stop_of, text_of, written_of, has_given_up, has_bye, awaits_banner}
+use Rattle.stream_host.specs.Steps.{Journal, stored_of, got_of, is_shut, read_of, reading_of, scanned_of, cut_of, live_of, forgotten_of, marks_of, has_limit, stop_of, banners_of, to_store, due_of, raises_of, resumes_of, job_stop_of, text_of, written_of, has_given_up, has_bye, awaits_banner}
 use Rattle.stream_host.specs.Conduct.{Conducted, HasSentAll, HasWritten}
 use Rattle.stream_host.specs.Hosts.{HostFits, HostRests, TellsJob, TellsText}
 use Rattle.stream_host.specs.Links.{banners_in}
-use Rattle.stream_host.specs.Jobs.{is_reset, lacks_banner, resets_scanned, or_reset, stop_by}
+use Rattle.stream_host.specs.Jobs.{is_reset, lacks_banner}
 use Rattle.stream_host.specs.Ran.{AreRaised, is_sent_out, is_out, HostRan, HostRuns, HasFinished, TellsConsole, end_of, is_failed}
 use Rattle.stream_host.proofs.Keeping.{shut_is, stored_is}
-use Rattle.stream_host.proofs.Sending.{sent_so_far, sent_all, stop_behind, stop_shut}
+use Rattle.stream_host.proofs.Sending.{sent_so_far, sent_all, stop_behind, stop_calm}
 use Rattle.stream_host.proofs.Raising.{raised_is, none_due_shut}
 use Rattle.stream_host.specs.Epochs.{ended_of, epoch_now}
 use Rattle.stream_host.proofs.Raised.{IsWaiting, calm_shut, waiting_is}
@@ -71,7 +71,7 @@ sent_out : (h : Journal) → Conducted h → is_sent_out (is_shut h) (got_of h) 
 sent_out h c out = by_shut (is_shut h) (has_limit h) refl refl out
   where
     by_shut : (t u : Bool) → is_shut h ≡ t → has_limit h ≡ u → (t && not u) ≡ true → IsSentOut h
-    by_shut true false e calm out = record { all = shut_is h c e calm; none_due = none_due_shut h c e calm; stop = stop_shut h c e calm; epoch = calm_shut h c e calm }
+    by_shut true false e calm out = record { all = shut_is h c e calm; none_due = none_due_shut h c e calm; stop = stop_calm h calm; epoch = calm_shut h c e calm }
     by_shut true true e calm out = absurd cc
     by_shut false u e calm out = absurd cc
 
@@ -82,10 +82,6 @@ out_is h c out = by_sent (is_sent_out (is_shut h) (got_of h)) refl out
     by_sent : (t : Bool) → is_sent_out (is_shut h) (got_of h) ≡ t → (t || lacks_banner (count_by is_reset (raises_of h)) (banners_in (got_of h))) ≡ true → IsWaiting h
     by_sent true e out = let s = sent_out h c e in record { free = s.all.free; none_due = s.none_due }
     by_sent false e out = waiting_is h c (ap (λ n. lacks_banner n (banners_of h)) (sym (raised_resets h)) ∙ ap (lacks_banner (count_by is_reset (raises_of h))) (sym (banners_got h)) ∙ out)
-
-stop_got : (h : Journal) → Conducted h → stop_of h ≡ or_alarm (has_limit h) (over_of h) (or_reset (lacks_banner (resets_scanned (scanned_of h)) (banners_in (got_of h))) (stop_by (reading_of h) (scanned_of h)))
-stop_got h c =
-    stop_behind h c ∙ ap (λ n. or_alarm (has_limit h) (over_of h) (or_reset (lacks_banner (resets_scanned (scanned_of h)) n) (stop_by (reading_of h) (scanned_of h)))) (sym (banners_got h))
 
 -- what it has scanned is what its journal says
 pub has_run_of : (h : Journal) (job_was job_is : SourceState) (console_was console_is : SinkState) → Conducted h → HasFinished h → TellsJob h job_was job_is → TellsConsole h console_was console_is
@@ -108,7 +104,7 @@ has_run_of h job_was job_is console_was console_is c finished job console = (
     taken = job.taken;
     at_end = job.at_end;
     so_far = let s = sent_so_far h c in record { fits = s.fits; scans = s.scans; later = s.later; sent = s.sent; cause = refl };
-    stop = stop_got h c;
+    stop = stop_behind h c;
     left = to_store h;
     front = stored_is h c;
     borders = borders_are h c;

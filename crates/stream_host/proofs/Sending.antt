@@ -15,17 +15,14 @@ use Rattle.stream_host.specs.declared.Reading.TheVariants.{Ended, Failed, Large,
 use Rattle.stream_host.specs.declared.Stop.TheVariants.{End, LongLine}
 use Rattle.stream_host.specs.Links.{on_link}
 use Rattle.status_report.specs.Answering.{receive_room, is_answer, answers_in}
-use Rattle.stream_host.specs.Jobs.{sent_text, is_long, ends_sending, lines_to_send, ScansFront, MayLeave, MayScan, long_line, lacks_banner, resets_scanned, stop_by, or_reset, IsSentSoFar, IsSent}
-use Rattle.stream_host.specs.Steps.{Journal, stored_of, got_of, answered_of, errors_of, begins, live_of, port_log, over_of, resets_so_far, banners_of, is_shut, read_of, reading_of, scanned_of, unscanned_of, raw_of, cut_of, to_store, begun_of, has_limit, stop_at, job_stop_of, or_alarm, stop_of}
+use Rattle.stream_host.specs.Jobs.{sent_text, is_long, ends_sending, lines_to_send, ScansFront, MayLeave, MayScan, long_line, stop_by, IsSentSoFar, IsSent}
+use Rattle.stream_host.specs.Steps.{Journal, stored_of, got_of, answered_of, errors_of, begins, live_of, port_log, over_of, read_of, reading_of, scanned_of, unscanned_of, raw_of, cut_of, to_store, begun_of, has_limit, stop_at, job_stop_of, or_alarm, stop_of}
 use Rattle.stream_host.specs.Steps.PortStep.{stored, dropped, marked, raised, got, no_reply, shut}
 use Rattle.stream_host.specs.Steps.Step.{at_port, read_some, read_end, read_failed, scanned, line_over, wrote, gave_up, turned}
 use Rattle.stream_host.specs.Conduct.{Conducted, HasSentAll, HasNoMore}
 use Rattle.stream_host.proofs.Pieces.{none_ends, sent_front, front_on, front_ends, sends_on, sends_none, no_whole, few_cut, few_whole}
 use Rattle.stream_host.proofs.Texts.{none_long}
-use Rattle.stream_host.proofs.Raising.{none_due_shut}
-use Rattle.stream_host.proofs.Raised.{calm_shut}
 use Rattle.stream_host.proofs.Epochs.{answered_live}
-use Rattle.stream_host.proofs.Awaiting.{scanned_resets, none_lacks}
 use Rattle.stream_host.proofs.Keeping.{read_is, stored_is, IsCut, cut_is, sendable_is, ends_now, any_now, early_is, few_scanned, reading_fits, some_is}
 
 -- ---- the job
@@ -157,17 +154,13 @@ stop_is h c = by_reading (reading_of h)
     by_reading Failed = else_by
     by_reading Stopped = else_by
 
--- a reset whose Banner is lacking, or an alarm, is a cause where the job gives none
-pub stop_behind : (h : Journal) → Conducted h → stop_of h ≡ or_alarm (has_limit h) (over_of h) (or_reset (lacks_banner (resets_scanned (scanned_of h)) (banners_of h)) (stop_by (reading_of h) (scanned_of h)))
-stop_behind h c =
-    ap (λ n. or_alarm (has_limit h) (over_of h) (or_reset (lacks_banner n (banners_of h)) (job_stop_of h))) (sym (scanned_resets h c))
-    ∙ ap (λ s. or_alarm (has_limit h) (over_of h) (or_reset (lacks_banner (resets_scanned (scanned_of h)) (banners_of h)) s)) (stop_is h c)
+-- an alarm is a cause where the job gives none
+pub stop_behind : (h : Journal) → Conducted h → stop_of h ≡ or_alarm (has_limit h) (over_of h) (stop_by (reading_of h) (scanned_of h))
+stop_behind h c = ap (λ s. or_alarm (has_limit h) (over_of h) s) (stop_is h c)
 
--- where the link is closed and no alarm was got, neither is
-pub stop_shut : (h : Journal) → Conducted h → is_shut h ≡ true → has_limit h ≡ false → stop_of h ≡ job_stop_of h
-stop_shut h c e calm =
-    ap (λ b. or_alarm b (over_of h) (or_reset (lacks_banner (resets_so_far h) (banners_of h)) (job_stop_of h))) calm
-    ∙ ap (λ b. or_reset b (job_stop_of h)) (none_lacks h (calm_shut h c e calm) (none_due_shut h c e calm))
+-- where no alarm was got, it is none
+pub stop_calm : (h : Journal) → has_limit h ≡ false → stop_of h ≡ job_stop_of h
+stop_calm h calm = ap (λ b. or_alarm b (over_of h) (job_stop_of h)) calm
 
 -- ---- how much
 

@@ -1,5 +1,5 @@
 -- Which bytes of a job are scanned, and which of its lines are sent.
-use Rattle.std.specs.Prelude.{◌≡◌, ℕ, ◌+◌, ◌-◌, ◌≤◌, ◌<◌, Bool, true, false, not, ◌&&◌, cond, List, [], ◌∷◌, ◌++◌, length, map, take, nat_eq, nat_le, nat_lt}
+use Rattle.std.specs.Prelude.{◌≡◌, ℕ, ◌+◌, ◌-◌, ◌≤◌, ◌<◌, Bool, false, not, ◌&&◌, cond, List, [], ◌∷◌, ◌++◌, length, map, take, nat_eq, nat_le, nat_lt}
 use Rattle.std.specs.List.{count_by, flat_map, list_any, filter, take_while}
 use Rattle.gcode_words.specs.Comments.{cut}
 use Rattle.gcode_words.specs.Stripping.{is_plain, capital, realtime}
@@ -9,7 +9,7 @@ use Rattle.run_rules.specs.Lines.{whole_lines}
 use Rattle.stream_host.specs.declared.Reading.{Reading}
 use Rattle.stream_host.specs.declared.Reading.TheVariants.{Ended, Failed, Large, Stopped}
 use Rattle.stream_host.specs.declared.Stop.{Stop}
-use Rattle.stream_host.specs.declared.Stop.TheVariants.{End, LongLine, TooLarge, Reset}
+use Rattle.stream_host.specs.declared.Stop.TheVariants.{End, LongLine, TooLarge}
 
 -- `~` resumes the machine
 abbrev pub resume : ℕ
@@ -134,12 +134,6 @@ long_line lines = LongLine (length (take_while is_sent lines) + 1)
 abbrev pub stop_by : Reading → List ℕ → Stop
 stop_by Large text = TooLarge
 stop_by _ text = cond (list_any is_long (lines_of text)) (long_line (lines_of text)) End
-
--- Where nothing else ends the sending, a reset does whose Banner is lacking. A board that begins no epoch ends the run at a reset:
--- it tells Bye, and no Banner.
-abbrev pub or_reset : (lacking : Bool) → Stop → Stop
-or_reset true End = Reset
-or_reset lacking stop = stop
 
 -- What was sent of a job in a run so far: by what was read of it and how the reading goes, the bytes that were scanned,
 -- the lines that were cut, and why no more is sent.

@@ -13,7 +13,7 @@ use Rattle.stream_host.specs.declared.Reading.TheVariants.{Ended, Failed, Large,
 use Rattle.stream_host.specs.declared.Stop.{Stop}
 use Rattle.stream_host.specs.Links.{on_link, banners_in}
 use Rattle.status_report.specs.Answering.{receive_room, answers_in, is_bye}
-use Rattle.stream_host.specs.Jobs.{resume, is_reset, is_long, marks_behind, resets_scanned, lacks_banner, served, served_in, stop_by, or_reset, IsSent, IsSentSoFar}
+use Rattle.stream_host.specs.Jobs.{resume, is_reset, is_long, marks_behind, resets_scanned, lacks_banner, served, served_in, stop_by, IsSent, IsSentSoFar}
 use Rattle.run_rules.specs.Work.{is_limit}
 use Rattle.stream_host.specs.Steps.{Journal, stored_of, marks_of, line_raises_of, has_bye, answered_of, errors_of, read_of, reading_of, scanned_of, cut_of, or_alarm, stop_of, text_of, written_of, has_given_up}
 use Rattle.stream_host.specs.Conduct.{HasWritten}
@@ -79,8 +79,8 @@ pub record AreMarks (marks scanned : List ℕ) : Type 0 where
 -- A host has run: it read a job so far, raised its realtime bytes but for those that are due, stored a front of its lines,
 -- stored marks at borders of its lines, closed the link or not, and got replies up to Bye. Some of its lines are forgotten, the
 -- others live: in each of its epochs that is over, the lines without an answer are forgotten, which take at most 128 bytes, each
--- with its LF, and it ends at its mark; the latest mark may have no Banner yet. Why it sent no more is what the job says, or else a
--- reset whose Banner is lacking, or else an alarm, at the first line that is neither answered nor forgotten. Where the link is closed
+-- with its LF, and it ends at its mark; the latest mark may have no Banner yet. Why it sent no more is what the job says, or
+-- else an alarm, at the first line that is neither answered nor forgotten. Where the link is closed
 -- and no alarm was got, all that is sent of the job is raised and stored; so is all that was cut and scanned where the Banner of a
 -- reset is lacking; and the lines that live and have no answer take at most 128 bytes then, each with its LF. Each line that asks for
 -- a report and is answered has one, behind the answers to the lines before it. The console has the text of the replies, all of it
@@ -102,7 +102,7 @@ pub record HostRan (job_was job_is : SourceState) (console_was console_is : Sink
   pub all_ended : is_sent_out shut got ≡ true → AreEnds marks ended
   pub awaited : AreAwaited scanned lines (banners_in got)
   pub so_far : IsSentSoFar read reading scanned lines (stop_by reading scanned)
-  pub stop : end.stop ≡ or_alarm (list_any is_limit got) (end.answered + forgotten) (or_reset (lacks_banner (resets_scanned scanned) (banners_in got)) (stop_by reading scanned))
+  pub stop : end.stop ≡ or_alarm (list_any is_limit got) (end.answered + forgotten) (stop_by reading scanned)
   pub left : List ℕ
   pub front : stored ++ left ≡ on_link lines
   pub borders : AreBorders marks lines

@@ -15,7 +15,7 @@ use Rattle.stream_host.specs.declared.line.Asking.TheVariants.{Nothing, Awaits, 
 use Rattle.stream_host.specs.declared.Stop.TheVariants.{End, LongLine, TooLarge, Alarm}
 use Rattle.code_table.specs.Tables.{query}
 use Rattle.status_report.specs.Answering.{answers_in, is_banner, is_bye, is_report}
-use Rattle.stream_host.specs.Jobs.{resume, is_reset, lacks_banner, is_long, or_reset, sent_text, served}
+use Rattle.stream_host.specs.Jobs.{resume, is_reset, lacks_banner, is_long, sent_text, served}
 use Rattle.stream_host.specs.Links.{banners_in}
 use Rattle.stream_host.specs.Holding.{held_after, pauses}
 
@@ -410,10 +410,9 @@ over_of h = answered_of h + forgotten_of h
 abbrev pub resets_so_far : Journal → ℕ
 resets_so_far h = resets_of h + count_by is_reset (due_of h)
 
--- why it sends no more: what the job says, or else a reset whose Banner is lacking, or else an alarm, at the first line of the epoch
--- without an answer
+-- why it sends no more: what the job says, or else an alarm, at the first line of the epoch without an answer
 abbrev pub stop_of : Journal → Stop
-stop_of h = or_alarm (has_limit h) (over_of h) (or_reset (lacks_banner (resets_so_far h) (banners_of h)) (job_stop_of h))
+stop_of h = or_alarm (has_limit h) (over_of h) (job_stop_of h)
 
 -- ---- the console
 

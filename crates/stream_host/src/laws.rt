@@ -8,10 +8,10 @@ ghost use Rattle.serial_ring.specs.Logs.{greeted_in};
 ghost use Rattle.serial_ring.specs.Marks.{Mark};
 ghost use Rattle.stream_host.specs.Links.{behind_lf, on_link, AreInOrder};
 ghost use Rattle.status_report.specs.Answering.{receive_room, lfs_in, answers_in};
-ghost use Rattle.stream_host.specs.Jobs.{is_reset, lacks_banner, resets_scanned, sent_text, marks_behind, served_in, ends_sending, lines_read, lines_to_send, stop_by, or_reset, IsSent, IsSentSoFar};
+ghost use Rattle.stream_host.specs.Jobs.{is_reset, sent_text, marks_behind, served_in, ends_sending, lines_read, lines_to_send, stop_by, IsSent, IsSentSoFar};
 ghost use Rattle.stream_host.specs.declared.Reading.{Reading};
 ghost use Rattle.std.specs.List.{AllByRecursion};
-ghost use Rattle.stream_host.specs.Steps.{Journal, stored_of, got_of, is_shut, answered_of, errors_of, live_of, unanswered_of, forgotten_of, over_of, marks_of, resets_of, banners_of, awaits_banner, read_of, reading_of, scanned_of, cut_of, to_store, begun_of, due_of, has_limit, job_stop_of, or_alarm, stop_of, port_log, raises_of, line_raises_of, resumes_of, polls_of, awaits_report, all_empty_in, empty_polls};
+ghost use Rattle.stream_host.specs.Steps.{Journal, stored_of, got_of, is_shut, answered_of, errors_of, live_of, unanswered_of, forgotten_of, over_of, marks_of, resets_of, banners_of, awaits_banner, read_of, reading_of, scanned_of, cut_of, to_store, begun_of, due_of, has_limit, job_stop_of, or_alarm, stop_of, port_log, raises_of, line_raises_of, resumes_of, polls_of, all_empty_in, empty_polls};
 ghost use Rattle.stream_host.specs.Steps.Step.{at_port};
 ghost use Rattle.stream_host.specs.Steps.PortStep.{marked, raised};
 ghost use Rattle.run_rules.specs.Reports.{AreReported};
@@ -25,12 +25,12 @@ ghost use Rattle.stream_host.specs.Ran.{AreAwaited, AreBorders, AreMarks, AreRai
 
 /// What a host that keeps to its rules stores is what is kept of the lines that it cuts behind their last reset, each with LF.
 /// These are the lines that are sent of the job, and what it scans, and why it stops, is what the job allows: so far, and all once
-/// it has closed the link and got no alarm. Where the job gives no cause, a reset whose Banner is lacking is one, or else an alarm, at the
-/// first line of the epoch that has no answer.
+/// it has closed the link and got no alarm. Where the job gives no cause, an alarm is one, at the first line of the epoch
+/// that has no answer.
 pub fn hosts_send_their_lines()
     ensures stored { (h : Journal) → Conducted h → stored_of h ++ to_store h ≡ on_link (cut_of h) }
     ensures so_far { (h : Journal) → Conducted h → IsSentSoFar (read_of h) (reading_of h) (scanned_of h) (cut_of h) (job_stop_of h) }
-    ensures stop { (h : Journal) → Conducted h → stop_of h ≡ or_alarm (has_limit h) (over_of h) (or_reset (lacks_banner (resets_scanned (scanned_of h)) (banners_of h)) (stop_by (reading_of h) (scanned_of h))) }
+    ensures stop { (h : Journal) → Conducted h → stop_of h ≡ or_alarm (has_limit h) (over_of h) (stop_by (reading_of h) (scanned_of h)) }
     ensures whole { (h : Journal) → Conducted h → is_shut h ≡ true → has_limit h ≡ false →
         IsSent (read_of h) (reading_of h) (scanned_of h) (cut_of h) (stop_of h) × (stored_of h ≡ on_link (cut_of h)) }
 {}

@@ -31,13 +31,11 @@ pub enum Reading {
     Stopped,
 }
 
-/// Why a host sends no more: all is sent; a line has too many bytes, or the job has; a reset whose Banner did not come before
-/// Bye; an alarm that ends the run.
+/// Why a host sends no more: all is sent; a line has too many bytes, or the job has; an alarm that ends the run.
 #[derive(Clone, Copy, Debug, PartialEq, Eq)]
 pub enum Stop {
     End,
     LongLine(u32),
     TooLarge,
-    Reset,
     Alarm(u32),
 }

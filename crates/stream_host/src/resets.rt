@@ -1,9 +1,8 @@
 //! The resets of a job, and the Banners that they wait for.
 
-ghost use Rattle.std.specs.Prelude.{◌≡◌, ◌+◌, ◌^◌, ◌<◌, false, ◌&&◌, not, cond, option_to_list};
-ghost use Rattle.std.specs.List.{count_by};
+ghost use Rattle.std.specs.Prelude.{◌≡◌, ◌+◌, ◌^◌, ◌<◌, false, ◌&&◌, not, cond};
 ghost use Rattle.stream_host.specs.Hosts.{awaits_by, begins_by, with_banner};
-ghost use Rattle.stream_host.specs.Jobs.{is_reset, lacks_banner};
+ghost use Rattle.stream_host.specs.Jobs.{is_reset};
 
 use status_report::Reply;
 
@@ -37,16 +36,6 @@ impl Resets {
         ensures { result ≡ awaits_by self.now }
     {
         self.raised > 0 && self.banners <= self.raised
-    }
-
-    /// Whether the Banner of a reset is lacking: of one that was raised, or of one that is due.
-    pub(crate) fn lacks_banner(&self, due: Option<u8>) -> bool
-        ensures { result ≡ lacks_banner (self.now.raised + count_by is_reset (option_to_list due)) self.now.banners }
-    {
-        match due {
-            Some(RESET) => self.banners.saturating_sub(1) <= self.raised,
-            _ => self.awaits(),
-        }
     }
 
     /// Whether a byte is a reset whose mark is not stored yet.

@@ -1,8 +1,7 @@
 //! Why a host sends no more, and what it tells at its end.
 
 ghost use Rattle.std.specs.Prelude.{◌≡◌, ◌↔◌, true, length};
-ghost use Rattle.stream_host.specs.Steps.{Journal, has_limit, banners_of, job_stop_of, or_alarm, over_of, resets_so_far, stop_of, stop_at, raw_of, cut_of, reading_of, has_given_up, answered_of, errors_of};
-ghost use Rattle.stream_host.specs.Jobs.{lacks_banner, or_reset};
+ghost use Rattle.stream_host.specs.Steps.{Journal, has_limit, job_stop_of, or_alarm, over_of, stop_of, stop_at, raw_of, cut_of, reading_of, has_given_up, answered_of, errors_of};
 ghost use Rattle.stream_host.specs.Hosts.{HostFits};
 
 use crate::host::Host;
@@ -32,30 +31,19 @@ impl Host {
         }
     }
 
-    /// Why the sending ended: End until another cause comes. Where the job gives no cause, a reset is told whose Banner is lacking,
-    /// which a board that ends the run at a reset never tells; or else an alarm, by the number of the first line of the epoch that
-    /// has no answer.
+    /// Why the sending ended: End until another cause comes. Where the job gives no cause, an alarm is one, by the number of the
+    /// first line of the epoch that has no answer.
     pub fn stop(&self) -> Stop
         ensures { (h : Journal) → HostFits self.now h → result ≡ stop_of h }
     {
         let stop = self.stop_in_job();
         match stop {
-            Stop::End => self.stop_behind_job(),
+            Stop::End => self.stop_at_alarm(),
             _ => stop,
         }
     }
 
-    /// The same where the job gives no cause: a reset whose Banner is lacking is one.
-    fn stop_behind_job(&self) -> Stop
-        ensures { (h : Journal) → HostFits self.now h → result ≡ or_alarm (has_limit h) (over_of h) (or_reset (lacks_banner (resets_so_far h) (banners_of h)) Stop.End) }
-    {
-        if self.resets.lacks_banner(self.line.due) {
-            return Stop::Reset;
-        }
-        self.stop_at_alarm()
-    }
-
-    /// The same where no reset is one either.
+    /// The same where the job gives no cause.
     fn stop_at_alarm(&self) -> Stop
         ensures { (h : Journal) → HostFits self.now h → result ≡ or_alarm (has_limit h) (over_of h) Stop.End }
     {

@@ -1,5 +1,5 @@
 use Rattle.stream_host.proofs.Keeping.{stored_is, shut_is}
-use Rattle.stream_host.proofs.Sending.{sent_so_far, sent_all, all_stored, stop_behind, stop_shut}
+use Rattle.stream_host.proofs.Sending.{sent_so_far, sent_all, all_stored, stop_behind, stop_calm}
 use Rattle.stream_host.proofs.laws.hosts_send_their_lines.Goals as goal
 
 pub returns-clause-stored : goal.returns-clause-stored
@@ -13,4 +13,4 @@ returns-clause-stop c = stop_behind
 
 pub returns-clause-whole : goal.returns-clause-whole
 returns-clause-whole c = λ h conducted closed calm.
-    (let all = shut_is h conducted closed calm in (sent_all h conducted all (stop_shut h conducted closed calm), all_stored h conducted all))
+    (let all = shut_is h conducted closed calm in (sent_all h conducted all (stop_calm h calm), all_stored h conducted all))

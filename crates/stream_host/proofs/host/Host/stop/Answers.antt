@@ -1,11 +1,10 @@
 use Rattle.std.proofs.Common.{ap, sym, ◌∙◌}
-use Rattle.stream_host.specs.Jobs.{lacks_banner, or_reset}
-use Rattle.stream_host.specs.Steps.{has_limit, over_of, banners_of, resets_so_far, or_alarm}
+use Rattle.stream_host.specs.Steps.{has_limit, over_of, or_alarm}
 use Rattle.stream_host.proofs.Alarming.{cause_of_job}
 use Rattle.stream_host.proofs.host.Host.stop.Goals as goal
 
 pub returns-in-End : goal.returns-in-End
-returns-in-End c = λ h f. c.stop_behind_job.ensures h f ∙ ap (λ s. or_alarm (has_limit h) (over_of h) (or_reset (lacks_banner (resets_so_far h) (banners_of h)) s)) (sym c.in-End.is ∙ c.stop_in_job-stop.ensures h f)
+returns-in-End c = λ h f. c.stop_at_alarm.ensures h f ∙ ap (λ s. or_alarm (has_limit h) (over_of h) s) (sym c.in-End.is ∙ c.stop_in_job-stop.ensures h f)
 
 pub returns-in_default : goal.returns-in_default
-returns-in_default c = λ h f. let e = c.stop_in_job-stop.ensures h f in e ∙ cause_of_job (has_limit h) (over_of h) (lacks_banner (resets_so_far h) (banners_of h)) _ (λ is. c.in_default.not-End (e ∙ is))
+returns-in_default c = λ h f. let e = c.stop_in_job-stop.ensures h f in e ∙ cause_of_job (has_limit h) (over_of h) _ (λ is. c.in_default.not-End (e ∙ is))
