@@ -1,6 +1,6 @@
 -- An alarm is told exactly where a line has raised one.
-use Rattle.std.proofs.Common.{◌≡◌, ℕ, List, [], ◌∷◌, ◌++◌, map, true, false, Bool, ◌||◌, sym, refl, ap, ◌∙◌}
-use Rattle.std.specs.List.{flat_map, enumerate_from, list_any}
+use Rattle.std.proofs.Common.{◌≡◌, ℕ, List, [], ◌∷◌, ◌++◌, map, false, Bool, ◌||◌, refl, ap, ◌∙◌}
+use Rattle.std.specs.List.{enumerate_from, list_any}
 use Rattle.std.specs.declared.result.Result.{Result}
 use Rattle.std.proofs.lemmas.List.Folds.{list_any-append}
 use Rattle.code_table.specs.declared.Code.{Code}
@@ -14,17 +14,13 @@ use Rattle.status_report.specs.Lists.{setting_replies, offset_replies, row_place
 use Rattle.status_report.specs.declared.Reply.{Reply}
 use Rattle.status_report.specs.declared.Reply.TheVariants as replies
 use Rattle.run_rules.specs.declared.State.{State}
-use Rattle.run_rules.specs.Outcomes.{Before, Becomes, ByCommand, Passed, Follows, start, after, at_place, became_of, told}
-use Rattle.run_rules.specs.Outcomes.Passed.{a_line, a_cut}
+use Rattle.run_rules.specs.Outcomes.{Before, Becomes, ByCommand, told}
 use Rattle.run_rules.specs.Asks.{planned}
-use Rattle.run_rules.specs.Told.{replies_in}
 use Rattle.run_rules.specs.Work.{Task, Outcome, is_limit, tells}
 use Rattle.run_rules.specs.Work.Task.{tell}
 use Rattle.run_rules.proofs.Answering.{telling_tells}
 use Rattle.run_rules.proofs.Each.{HoldsOfEach, holds_of_bodies, holds_of_each, holds_of_commands}
 use Rattle.run_rules.proofs.Items.{PassesTasks, holds_of_move, holds_of_work}
-
--- ---- lists without an alarm
 
 abbrev pub NoAlarms : List Reply → Type 0
 NoAlarms rs = list_any is_limit rs ≡ false
@@ -57,8 +53,6 @@ offsets_told : (offsets : Offsets) → NoAlarms (offset_replies offsets)
 unfolding offset_replies
 offsets_told offsets = offsets_calm (enumerate_from 0 (row_places offsets))
 
--- ---- of a line an alarm is told exactly where it raises one
-
 abbrev pub TellsSo : Outcome → Type 0
 TellsSo o = list_any is_limit (tells o.work) ≡ is_limit o.answer
 
@@ -83,40 +77,8 @@ command_so b r o is =
     holds_of_commands b TellsSo r o (λ code e. refl) (λ n value code e. refl)
     (λ next body same kind. told_so next body (holds_of_bodies NoAlarms refl settings_told (λ p. refl) offsets_told body kind)) is
 
--- ---- of a run
-
--- nothing is passed behind an alarm, so the state behind all lines tells whether one was raised
-lines_tell : (runs : Bool) (b : Before) (lines : List (List ℕ)) (ps : List Passed) (last : Before) → Follows runs b lines ps last
-    → (b.alarmed || list_any is_limit (flat_map (λ (o : Outcome). tells o.work) (became_of ps))) ≡ last.alarmed
-lines_tell runs b [] [] last f = by_test b.alarmed ∙ ap (λ (u : Before). u.alarmed) (sym f)
-  where
-    by_test : (t : Bool) → (t || false) ≡ t
-    by_test true = refl
-    by_test false = refl
-lines_tell runs b (l ∷ ls) [] last f = absurd f
-lines_tell runs b [] (a_line o ∷ ps) last f = absurd f
-lines_tell runs b ls (a_cut k at ∷ ps) last f = lines_tell runs (at_place at b) ls ps last f.1
-lines_tell runs b (l ∷ ls) (a_line o ∷ ps) last f =
-    let later = flat_map (λ (x : Outcome). tells x.work) (became_of ps) in
-    ap (λ t. t || list_any is_limit (tells o.work ++ later)) f.0.free
-    ∙ any_on (tells o.work) later
-    ∙ ap (λ t. t || list_any is_limit later) (tells_so runs b l o f.0.becomes)
-    ∙ lines_tell runs (after b o) ls ps last f.1
-
 -- a report is no alarm
 pub plain_alarms : (rs : List Reply) → list_any is_limit (without_reports rs) ≡ list_any is_limit rs
 plain_alarms [] = refl
 plain_alarms (replies.Report r ∷ rs) = plain_alarms rs
 plain_alarms (r ∷ rs) = ap (λ t. is_limit r || t) (plain_alarms rs)
-
--- where all that is to be told of the lines was told, an alarm is told exactly where one of them raised it
-pub alarm_told : (first : State) (lines : List (List ℕ)) (ps : List Passed) (last : Before) (got : List Reply) → Follows true (start first) lines ps last
-    → without_reports got ≡ replies_in (became_of ps) ++ replies.Bye ∷ [] → list_any is_limit got ≡ last.alarmed
-alarm_told first lines ps last got follows told =
-    sym (plain_alarms got) ∙ ap (list_any is_limit) told ∙ any_on (replies_in (became_of ps)) (replies.Bye ∷ [])
-    ∙ by_test (list_any is_limit (flat_map (λ (o : Outcome). tells o.work) (became_of ps)))
-    ∙ lines_tell true (start first) lines ps last follows
-  where
-    by_test : (t : Bool) → (t || false) ≡ t
-    by_test true = refl
-    by_test false = refl

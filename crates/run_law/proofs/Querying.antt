@@ -9,7 +9,7 @@ use Rattle.run_rules.specs.Reports.{is_query}
 use Rattle.stream_host.specs.Ports.{queries_in}
 use Rattle.stream_host.specs.Steps.{HostLog}
 use Rattle.stream_host.specs.Steps as hosts
-use Rattle.stream_host.specs.Steps.PortStep.{stored, dropped, marked, raised, got, no_reply, shut}
+use Rattle.stream_host.specs.Steps.PortStep.{raised}
 use Rattle.stream_host.proofs.Queries.{few_queries}
 use Rattle.board_rules.specs.Ports.{BoardLog, reports_in}
 use Rattle.board_rules.proofs.Asking.{reports_are}

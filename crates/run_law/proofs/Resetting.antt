@@ -65,8 +65,6 @@ reset_bytes : IsByteOf reset_flag is_reset
 unfolding is_reset_flag
 reset_bytes b is = only_reset b (ap is_reset_flag is)
 
--- ---- what was taken was raised
-
 pub taken_were_raised : (words : List ℕ) (host : HostLog) (board : BoardLog) → IsBalanced words (raises_in host) (takes_in board) → AreTaken (hosts.bytes_raised_in host) (has_held_in board) (has_slowed_in board) (has_changed_in board) (has_reset_in board) (reports_in board) (cancel_words_in board)
 taken_were_raised words host board balance = record {
   held_by = λ held. flag_was_raised hold_flag is_hold hold_bytes host

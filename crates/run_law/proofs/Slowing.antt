@@ -13,7 +13,7 @@ use Rattle.realtime_flags.specs.Bytes.{flag_of_byte}
 use Rattle.realtime_flags.proofs.Bits.{same_flag}
 use Rattle.stream_host.specs.Steps.{HostLog}
 use Rattle.stream_host.specs.Steps as hosts
-use Rattle.stream_host.specs.Steps.PortStep.{stored, dropped, marked, raised, got, no_reply, shut}
+use Rattle.stream_host.specs.Steps.PortStep.{raised}
 use Rattle.board_rules.specs.Ports.{BoardLog}
 use Rattle.board_rules.specs.Ports.PortStep.{took_exec}
 use Rattle.board_rules.specs.Cuts.{cancel_words_in}
@@ -21,8 +21,6 @@ use Rattle.run_law.specs.Flags.{is_hold, is_cancel, is_slow}
 use Rattle.run_law.specs.Taking.{raised_to, raises_in, takes_in}
 use Rattle.run_law.proofs.Taking.{IsByteOf, hold_bytes, hold_flag, asks_hold_bit}
 use Rattle.run_law.proofs.Cancelling.{cancel_bytes, cancel_flag, asks_cancel_bit}
-
--- ---- what was raised
 
 push_count : (p : ℕ → Bool) (bytes : List ℕ) (b : ℕ) → count_by p (bytes ++ b ∷ []) ≡ count_by p bytes + cond (p b) 1 0
 push_count p bytes b = sum_by_push (λ x. cond {A = ℕ} (p x) 1 0) bytes b
@@ -51,8 +49,6 @@ flag_count f p byte (raised b down ∷ h) =
     omega (arith, few, push)
 flag_count f p byte (_ ∷ h) = flag_count f p byte h
 
--- ---- what was taken
-
 up_more : (t : Bool) (n : ℕ) → n ≤ counted t n
 up_more true n = omega arith
 up_more false n = omega arith
@@ -70,8 +66,6 @@ words_taken (took_exec word ∷ l) =
     one_word (asks word hold_byte) (asks word cancel_byte) (nat_eq (bit_at word.0 1) 1) (nat_eq (bit_at word.0 4) 1) (cancel_words_in l) (takes_with hold_flag (takes_in l)) (takes_with cancel_flag (takes_in l))
     (asks_hold_bit word) (asks_cancel_bit word) (words_taken l)
 words_taken (_ ∷ l) = words_taken l
-
--- ---- the bytes
 
 apart : (hold cancel : Bool) → (hold ≡ true → cancel ≡ true → ⊥) → cond {A = ℕ} hold 1 0 + cond cancel 1 0 ≤ cond (hold || cancel) 1 0
 apart true true other = absurd (other refl refl)

@@ -22,7 +22,7 @@ use Rattle.realtime_flags.specs.Bytes.{flag_of_row, flag_of_byte}
 use Rattle.realtime_flags.proofs.Bits.{same_flag}
 use Rattle.stream_host.specs.Steps.{HostLog}
 use Rattle.stream_host.specs.Steps as hosts
-use Rattle.stream_host.specs.Steps.PortStep.{stored, dropped, marked, raised, got, no_reply, shut}
+use Rattle.stream_host.specs.Steps.PortStep.{raised}
 use Rattle.board_rules.specs.Ports.{BoardLog, has_changes, has_held_in, has_changed_in}
 use Rattle.board_rules.specs.Ports.PortStep.{took_exec, took_ovr}
 use Rattle.run_law.specs.Flags.{is_hold, is_override, is_change}
@@ -30,8 +30,6 @@ use Rattle.run_law.specs.Taking.{raised_to, raises_in, takes_in}
 
 abbrev pub hold_flag : Flag
 hold_flag = flags.Exec 1
-
--- ---- what was taken
 
 pub more_counted : (t : Bool) (n : ℕ) → 0 < n → 0 < counted t n
 more_counted true n some = omega arith
@@ -91,8 +89,6 @@ change_taken [] e = absurd cc
 change_taken (took_ovr word ∷ l) e = changed_by_word word (takes_in l) (has_changes word) (has_changed_in l) refl (change_taken l) e
 change_taken (_ ∷ l) e = change_taken l e
 
--- ---- what was raised
-
 abbrev pub IsByteOf : Flag → (ℕ → Bool) → Type 0
 IsByteOf f p = (b : ℕ) → flag_of_byte b ≡ Some f → p b ≡ true
 
@@ -121,8 +117,6 @@ pub flag_was_raised : (f : Flag) (p : ℕ → Bool) → IsByteOf f p → (h : Ho
 flag_was_raised f p byte [] some = absurd (let s : 0 < 0 = some in omega arith)
 flag_was_raised f p byte (raised b down ∷ h) some = raised_by_byte f p b down (raises_in h) (hosts.bytes_raised_in h) (flag_of_byte b) byte refl (flag_was_raised f p byte h) some
 flag_was_raised f p byte (_ ∷ h) some = flag_was_raised f p byte h some
-
--- ---- the bytes of the flags
 
 is_hold_flag : Option Flag → Bool
 is_hold_flag None = false
@@ -159,8 +153,6 @@ change_row (Some bit) place is = by_word (nat_lt bit 16) is
 
 pub change_bytes : (place : ℕ) → IsByteOf (flags.Override place) is_change
 change_bytes place b is = change_row (value_of b rows_of_bytes) place is
-
--- ---- what was taken was raised
 
 pub taken_was_down : (is : Bool) (raises takes : ℕ) → raises ≡ counted is takes → 0 < takes → 0 < raises
 taken_was_down is raises takes e some = let m = more_counted is takes some in omega arith

@@ -1,11 +1,8 @@
 pub mod Flags
 pub mod Changes
-pub mod Sending
 pub mod Fronts
-pub mod Drives
 pub mod Taking
 pub mod Runs
 pub mod Ran
 pub mod SoFar
-pub mod Complete
 pub mod Devices
