@@ -31,7 +31,7 @@ use Rattle.epoch_law.specs.Runs.{IsToldAndAnswered, IsRunAndRecorded, HasEffects
 use Rattle.epoch_law.proofs.Causing.{causes_with_more, drops_with_more}
 use Rattle.epoch_law.proofs.Ending.{all_ended, one_end}
 use Rattle.epoch_law.proofs.Fitting.{texts_fit, put_of_epochs, put_recorded, alarm_got, more_comes, is_out}
-use Rattle.epoch_law.proofs.Marking.{none_lacks}
+use Rattle.epoch_law.proofs.Marking.{each_greeted}
 use Rattle.epoch_law.proofs.Sending.{cancels_scanned, reports_scanned, epochs_scanned, all_cancels, all_asked}
 
 errors_on : (rs ss : List Reply) → errors_among (rs ++ ss) ≡ errors_among rs + errors_among ss
@@ -129,7 +129,7 @@ module _ (form : Form) (job_was job_is : SourceState) (was is : Sinks) (end : Ho
   ending : HasEnded job_was job_is (run_end end steps_failed) host.ran.reading host.ran.scanned host.ran.forgotten h.got
   ending = record {
     stop = host.ran.stop;
-    greeted = λ calm. none_lacks job_was job_is was.console is.console h end host.ran (sent_out calm);
+    greeted = λ calm. each_greeted job_was job_is was.console is.console h end host.ran (told_in board.course ++ Bye ∷ []) (sent_out calm) told;
     failed = host.ran.failed;
     source = host.ran.source;
     source_same = host.ran.source_same;

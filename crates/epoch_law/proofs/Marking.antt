@@ -1,13 +1,15 @@
 -- Once all is sent out, each reset that was scanned has its Banner.
-use Rattle.std.proofs.Common.{◌≡◌, ℕ, ◌+◌, ◌-◌, ◌<◌, Bool, true, false, cond, ◌&&◌, List, [], ◌∷◌, length, nat_lt, nat_le, sym, refl, ap, ◌∙◌, arith}
+use Rattle.std.proofs.Common.{◌≡◌, ℕ, ◌+◌, ◌-◌, ◌≤◌, Bool, true, false, cond, List, [], ◌∷◌, length, sym, refl, ap, ◌∙◌, arith}
 use Rattle.std.specs.List.{count_by, filter, flat_map}
-use Rattle.std.proofs.lemmas.Bool.Decides.{nat_tests}
 use Rattle.std.proofs.lemmas.List.{length-append, length-map, length-reverse}
 use Rattle.std.proofs.lemmas.List.Sums.{sum_by-cons, sum_by-append}
 use Rattle.outside.specs.Causes.{SourceState, SinkState}
 use Rattle.run_rules.specs.Lines.{lines_of}
 use Rattle.stream_host.specs.Epochs.{Epoch, AreEnds}
-use Rattle.stream_host.specs.Jobs.{is_reset, served, marks_at, marks_behind, sent_text, resets_scanned, lacks_banner}
+use Rattle.status_report.specs.Answering.{is_banner, is_plain, without_reports}
+use Rattle.status_report.specs.declared.Reply.{Reply}
+use Rattle.status_report.specs.declared.Reply.TheVariants.{Banner}
+use Rattle.stream_host.specs.Jobs.{is_reset, served, marks_at, marks_behind, sent_text, resets_scanned}
 use Rattle.stream_host.specs.Links.{banners_in}
 use Rattle.stream_host.specs.Ran.{HostEnd, HostRan, is_sent_out}
 use Rattle.epoch_law.specs.Ran.{HostDid}
@@ -39,26 +41,35 @@ ends_count [] (e ∷ es) are = absurd are
 ends_count (m ∷ ms) [] are = absurd are
 ends_count (m ∷ ms) (e ∷ es) are = let i = ends_count ms es are.1 in omega (arith, i)
 
-one_more : (resets banners : ℕ) → resets ≡ banners - 1 → lacks_banner resets banners ≡ false
-one_more resets banners e = by_cases (nat_lt 0 resets) refl
+-- ---- the Banners
+
+banners_first : (r : Reply) (rs : List Reply) → banners_in (r ∷ rs) ≡ cond (is_banner r) 1 0 + banners_in rs
+banners_first r rs = sum_by-cons (λ (x : Reply). cond (is_banner x) 1 0) r rs
+
+fewer_plain : (rs : List Reply) → banners_in (without_reports rs) ≤ banners_in rs
+fewer_plain [] = omega arith
+fewer_plain (r ∷ rs) = by_test (is_plain r) (banners_first r rs) (banners_first r (without_reports rs)) (fewer_plain rs)
   where
-    by_cases : (t : Bool) → nat_lt 0 resets ≡ t → (t && nat_le banners resets) ≡ false
-    by_cases false is = refl
-    by_cases true is = not_below
-      where
-        some : 0 < resets
-        some = grind (arith, nat_tests, is)
+    by_test : (t : Bool) → banners_in (r ∷ rs) ≡ cond (is_banner r) 1 0 + banners_in rs → banners_in (r ∷ without_reports rs) ≡ cond (is_banner r) 1 0 + banners_in (without_reports rs)
+        → banners_in (without_reports rs) ≤ banners_in rs → banners_in (cond t (r ∷ without_reports rs) (without_reports rs)) ≤ banners_in (r ∷ rs)
+    by_test true all plain fewer = omega (arith, all, plain, fewer)
+    by_test false all plain fewer = omega (arith, all, fewer)
 
-        not_below : nat_le banners resets ≡ false
-        not_below = grind (arith, nat_tests, some, e)
+-- a console that begins with the banner, reports left out, has one
+some_banner : (rs behind : List Reply) → without_reports rs ≡ Banner ∷ behind → 1 ≤ banners_in rs
+some_banner rs behind told =
+    let plain = ap banners_in told in
+    let first : banners_in (Banner ∷ behind) ≡ 1 + banners_in behind = banners_first Banner behind in
+    omega (arith, plain, first, fewer_plain rs)
 
--- so no Banner is lacking
-pub none_lacks : (job_was job_is : SourceState) (console_was console_is : SinkState) (h : HostDid) (end : HostEnd) (ran : HostRan job_was job_is console_was console_is h.stored h.marks h.shut h.raised h.got end)
-    → is_sent_out h.shut h.got ≡ true → lacks_banner (resets_scanned ran.scanned) (banners_in h.got) ≡ false
-none_lacks job_was job_is console_was console_is h end ran out =
+-- so each reset has one, behind the first
+pub each_greeted : (job_was job_is : SourceState) (console_was console_is : SinkState) (h : HostDid) (end : HostEnd) (ran : HostRan job_was job_is console_was console_is h.stored h.marks h.shut h.raised h.got end) (behind : List Reply)
+    → is_sent_out h.shut h.got ≡ true → without_reports h.got ≡ Banner ∷ behind → banners_in h.got ≡ resets_scanned ran.scanned + 1
+each_greeted job_was job_is console_was console_is h end ran behind out told =
     let ends = ends_count h.marks ran.ended (ran.all_ended out) in
     let marks = ap length (ran.all_marked out) in
     let long = length-reverse h.marks in
     let count = marks_count 0 (lines_of ran.scanned) in
     let begun = ran.epochs.begun in
-    one_more (resets_scanned ran.scanned) (banners_in h.got) (omega (arith, ends, marks, long, count, begun))
+    let some = some_banner h.got behind told in
+    omega (arith, ends, marks, long, count, begun, some)

@@ -30,7 +30,7 @@ use Rattle.step_record.specs.Forms.{text_in}
 use Rattle.stream_host.specs.declared.Reading.{Reading}
 use Rattle.stream_host.specs.declared.Reading.TheVariants.{Ended}
 use Rattle.stream_host.specs.Epochs as host
-use Rattle.stream_host.specs.Jobs.{served_in, resets_scanned, lacks_banner, stop_by, or_reset, IsSent, IsSentSoFar}
+use Rattle.stream_host.specs.Jobs.{served_in, resets_scanned, stop_by, IsSent, IsSentSoFar}
 use Rattle.stream_host.specs.Ran.{is_failed}
 use Rattle.stream_host.specs.Steps.{or_alarm}
 use Rattle.epoch_courses.specs.Drives.{Driven, AreDriven}
@@ -124,11 +124,11 @@ pub record HasCauses (first : State) (sent : List Sent) (course : List Passed) :
 -- ---- the end
 
 -- How the run ended. Why no more was sent is what the job says, or else an alarm, at the first line that is neither answered nor
--- forgotten, or a reset whose Banner an alarm has left lacking. Of the source, the count of faults rose if a call failed, and is as before
--- if none did.
+-- forgotten. If no alarm was told, each reset that was scanned has a Banner, behind the first one. Of the source, the count of faults rose
+-- if a call failed, and is as before if none did.
 pub record HasEnded (job_was job_is : SourceState) (end : RunEnd) (reading : Reading) (scanned : List ℕ) (forgotten : ℕ) (replies : List Reply) : Type 0 where
-  pub stop : end.stop ≡ or_alarm (has_alarm replies) (end.answered + forgotten) (or_reset (lacks_banner (resets_scanned scanned) (banners_in replies)) (stop_by reading scanned))
-  pub greeted : has_alarm replies ≡ false → lacks_banner (resets_scanned scanned) (banners_in replies) ≡ false
+  pub stop : end.stop ≡ or_alarm (has_alarm replies) (end.answered + forgotten) (stop_by reading scanned)
+  pub greeted : has_alarm replies ≡ false → banners_in replies ≡ resets_scanned scanned + 1
   pub failed : end.source_failed ≡ is_failed reading
   pub source : end.source_failed ≡ true → Rose job_was.faults job_is.faults
   pub source_same : end.source_failed ≡ false → job_is.faults ≡ job_was.faults
