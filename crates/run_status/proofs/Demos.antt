@@ -3,7 +3,7 @@ use Rattle.std.proofs.Common.{◌≡◌, ℕ, ◌+◌, Bool, true, false, cond, 
 use Rattle.outside.specs.Causes.{Rose, SinkState}
 use Rattle.stream_host.specs.declared.Stop.TheVariants as stops
 use Rattle.run_status.specs.declared.Status.{Status}
-use Rattle.run_status.specs.declared.Status.TheVariants.{Done, LineErrors, Usage, SourceFault, ConsoleFault, StepsFault, LongLine, Reset, Alarm, TooLarge, OutOfMemory}
+use Rattle.run_status.specs.declared.Status.TheVariants.{Done, LineErrors, Usage, SourceFault, ConsoleFault, StepsFault, LongLine, Alarm, TooLarge, OutOfMemory}
 use Rattle.run_law.specs.declared.RunEnd.{RunEnd}
 use Rattle.run_status.specs.Ends.{status_of, IsWhole, HasNotBegun, JobWasRun}
 use Rattle.demo_job.specs.Jobs.{job_events, stop, summary, summary_of}
@@ -47,7 +47,6 @@ has_begun SourceFault run none = absurd none
 has_begun ConsoleFault run none = absurd none
 has_begun StepsFault run none = absurd none
 has_begun (LongLine k) run none = absurd none
-has_begun Reset run none = absurd none
 has_begun (Alarm k) run none = absurd none
 has_begun TooLarge run none = absurd none
 has_begun OutOfMemory run none = absurd run

@@ -1,48 +1,37 @@
 -- How a run ends, by what it told at its end.
-use Rattle.std.proofs.Common.{◌≡◌, ◌≢◌, ℕ, zero, suc, ◌≤◌, Bool, true, false, cond, ◌||◌, List, [], ◌∷◌, ◌++◌, length, map, refl, sym, ap, ◌∙◌, subst, append-nil}
+use Rattle.std.proofs.Common.{◌≡◌, ◌≢◌, ℕ, zero, suc, ◌≤◌, inl, inr, Bool, true, false, cond, List, [], ◌∷◌, ◌++◌, length, nat_lt, refl, sym, ap, ◌∙◌, subst, append-nil, length-append, arith}
 use Rattle.std.specs.List.{AllByRecursion, list_any}
-use Rattle.std.proofs.lemmas.List.{take_all}
+use Rattle.std.proofs.lemmas.Bool.Decides.{nat_tests}
+use Rattle.std.proofs.lemmas.List.{nil_from_length, take_all}
 use Rattle.step_record.specs.declared.forms.Form.{Form}
 use Rattle.outside.specs.Causes.{SourceState}
-use Rattle.gcode_words.specs.Stripping.{plain}
-use Rattle.status_report.specs.declared.Reply.{Reply}
-use Rattle.status_report.specs.declared.Reply.TheVariants.{Bye}
-use Rattle.step_line.specs.Asking.{ticks_among}
 use Rattle.run_rules.specs.Lines.{lines_of}
 use Rattle.run_rules.specs.Readings.{largest_job, job_of}
-use Rattle.run_rules.specs.Outcomes.{Follows, start}
 use Rattle.run_rules.specs.Told.{replies_text}
+use Rattle.run_rules.proofs.Cutting.{lines_are}
 use Rattle.stream_host.specs.declared.Reading.{Reading}
 use Rattle.stream_host.specs.declared.Reading.TheVariants.{Ended, Failed, Large, Stopped}
 use Rattle.stream_host.specs.declared.Stop.{Stop}
 use Rattle.stream_host.specs.declared.Stop.TheVariants as stops
-use Rattle.stream_host.specs.Jobs.{served_in, MayHaveRead, MayLeave}
-use Rattle.run_law.specs.Sending.{ends_sending, is_long, holds_reset, lines_to_send}
+use Rattle.stream_host.specs.Jobs.{MayHaveRead, MayLeave, ends_sending, is_long, lines_to_send}
 use Rattle.stream_host.specs.Ran.{is_failed}
-use Rattle.stream_host.proofs.Pieces.{neither}
-use Rattle.run_law.proofs.Unreset.{all_are_sent}
+use Rattle.stream_host.proofs.Pieces.{all_are_sent, neither}
 use Rattle.run_law.specs.declared.RunEnd.{RunEnd}
-use Rattle.run_law.specs.Drives.{all_passed, all_actions, IsDrive, IsWholeDrive}
-use Rattle.run_law.specs.Changes.{IsAskedIn, AreChanges}
-use Rattle.planner_runs.specs.Runs.{normal_overrides}
-use Rattle.run_law.specs.Runs.{Sinks, AreReports, asks_slow, slows_in, asks_change, asks_reset, IsRun}
-use Rattle.run_law.proofs.Completing.{complete}
+use Rattle.run_law.specs.Runs.{Sinks}
+use Rattle.epoch_law.specs.Ran.{IsRest}
+use Rattle.epoch_law.specs.Runs.{IsRun}
 use Rattle.run_status.specs.declared.Status.{Status}
-use Rattle.run_status.specs.declared.Status.TheVariants.{SourceFault, ConsoleFault, StepsFault, LongLine, Reset, Alarm, TooLarge}
+use Rattle.run_status.specs.declared.Status.TheVariants.{SourceFault, ConsoleFault, StepsFault, LongLine, Alarm, TooLarge}
 use Rattle.run_status.specs.Ends.{by_errors, by_stop, EndsWith, IsAlarmedRun, JobWasRun, HasCauses}
-use Rattle.run_status.proofs.Stops.{end_means, large_means, long_means, reset_means, not_reset, by_end, by_job, scanned_to_long, scanned_to_reset}
+use Rattle.run_status.proofs.Completing.{complete}
+use Rattle.run_status.proofs.Stops.{end_means, large_means, long_means, by_end, by_job, scanned_to_long}
 use Rattle.run_status.proofs.Halting.{whole_text, halted_run}
 
 -- ---- a job that was sent to its end
 
-none_ends : (lines : List (List ℕ)) → list_any is_long lines ≡ false → list_any holds_reset lines ≡ false → (list_any ends_sending lines ≡ false) × AllByRecursion (λ l. ends_sending l ≡ false) lines
-none_ends [] e r = (refl, tt)
-none_ends (l ∷ ls) e r =
-    let p = neither (is_long l) (list_any is_long ls) e in
-    let q = neither (holds_reset l) (list_any holds_reset ls) r in
-    let one : ends_sending l ≡ false = ap (λ b. b || holds_reset l) p.0 ∙ q.0 in
-    let rest = none_ends ls p.1 q.1 in
-    (ap (λ b. b || list_any ends_sending ls) one ∙ rest.0, (one, rest.1))
+none_ends : (lines : List (List ℕ)) → list_any is_long lines ≡ false → AllByRecursion (λ l. ends_sending l ≡ false) lines
+none_ends [] e = tt
+none_ends (l ∷ ls) e = let p = neither (is_long l) (list_any is_long ls) e in (p.0, none_ends ls p.1)
 
 read_to_end : (r : Reading) (text left : List ℕ) → is_failed r ≡ false → (r ≡ Large → ⊥) → MayLeave r left → r ≡ Ended
 read_to_end Ended text left well small leaves = refl
@@ -50,12 +39,22 @@ read_to_end Failed text left well small leaves = absurd cc
 read_to_end Large text left well small leaves = absurd (small refl)
 read_to_end Stopped text left well small leaves = absurd leaves
 
+-- behind all lines of a text no rest is left
+none_left : (text : List ℕ) (lines : List (List ℕ)) (rest : List ℕ) → IsRest text lines rest → lines ≡ lines_of text → rest ≡ []
+none_left text lines rest (inl is) all = by_length (nat_lt 0 (length rest)) refl (lines_are text lines rest is)
+  where
+    by_length : (t : Bool) → nat_lt 0 (length rest) ≡ t → lines_of text ≡ lines ++ cond t (rest ∷ []) [] → rest ≡ []
+    by_length false e are = let none_long : length rest ≡ 0 = grind (arith, nat_tests, e) in nil_from_length rest none_long
+    by_length true e are = absurd (let long = ap length are in let same = ap length all in let both = length-append lines (rest ∷ []) in omega (arith, long, same, both))
+none_left text lines rest (inr over) all = over.1
+
 -- all of it was read, and each of its lines sent
 pub record SentAll (form : Form) (job_was job_is : SourceState) (was is : Sinks) (end : RunEnd) (run : IsRun form job_was job_is was is end) : Type 0 where
   pub over : run.reading ≡ Ended
   pub few : length run.read ≤ largest_job
   pub lines : run.lines ≡ lines_of run.read
   pub all : run.read ≡ run.scanned
+  pub rest : run.rest ≡ []
 
 pub sent_all : (form : Form) (job_was job_is : SourceState) (was is : Sinks) (end : RunEnd) (run : IsRun form job_was job_is was is end) → end.source_failed ≡ false → end.stop ≡ stops.End
     → SentAll form job_was job_is was is end run
@@ -63,27 +62,28 @@ sent_all form job_was job_is was is end run well stop =
     let by = by_end form job_was job_is was is end run stop in
     let sent = run.sending.sent by.none in
     let why = end_means run.reading run.scanned by.end in
-    let none_over = none_ends (lines_of run.scanned) why.short.0 why.short.1 in
-    let leaves = sent.scans.whole none_over.0 in
+    let leaves = sent.scans.whole why.short in
     let over : run.reading ≡ Ended = read_to_end run.reading run.scanned sent.scans.scans.left (sym run.ending.failed ∙ well) why.small leaves in
     let few : length run.read ≤ largest_job = subst (λ r. MayHaveRead r (length run.read)) over sent.fits in
     let whole : job_of run.read ≡ run.read = take_all largest_job run.read few in
     let none : sent.scans.scans.left ≡ [] = subst (λ r. MayLeave r sent.scans.scans.left) over leaves in
     let all : run.read ≡ run.scanned = sym whole ∙ sent.scans.scans.front ∙ ap (λ (x : List ℕ). run.scanned ++ x) none ∙ append-nil run.scanned in
     let short : AllByRecursion (λ l. ends_sending l ≡ false) (lines_of run.read) =
-    subst (λ (x : List ℕ). AllByRecursion (λ l. ends_sending l ≡ false) (lines_of x)) (sym all) none_over.1 in
+    subst (λ (x : List ℕ). AllByRecursion (λ l. ends_sending l ≡ false) (lines_of x)) (sym all) (none_ends (lines_of run.scanned) why.short) in
+    let lines : run.lines ≡ lines_of run.read = sent.sent ∙ ap (λ r. lines_to_send r (job_of run.read)) over ∙ ap (lines_to_send Ended) whole ∙ all_are_sent Ended run.read short in
     record {
       over = over;
       few = few;
       all = all;
-      lines = sent.sent ∙ ap (λ r. lines_to_send r (job_of run.read)) over ∙ ap (lines_to_send Ended) whole ∙ all_are_sent Ended run.read short;
+      lines = lines;
+      rest = none_left run.scanned run.lines run.rest run.sending.is_rest (lines ∙ ap lines_of all);
     }
 
 -- ---- the causes
 
-pub by_errors_not : (n : ℕ) → (by_errors n ≢ SourceFault) × (by_errors n ≢ ConsoleFault) × (by_errors n ≢ StepsFault) × (by_errors n ≢ TooLarge) × ((k : ℕ) → by_errors n ≢ LongLine k) × (by_errors n ≢ Reset) × ((k : ℕ) → by_errors n ≢ Alarm k)
-by_errors_not zero = ((λ e. cc), (λ e. cc), (λ e. cc), (λ e. cc), (λ k e. cc), (λ e. cc), (λ k e. cc))
-by_errors_not (suc n) = ((λ e. cc), (λ e. cc), (λ e. cc), (λ e. cc), (λ k e. cc), (λ e. cc), (λ k e. cc))
+pub by_errors_not : (n : ℕ) → (by_errors n ≢ SourceFault) × (by_errors n ≢ ConsoleFault) × (by_errors n ≢ StepsFault) × (by_errors n ≢ TooLarge) × ((k : ℕ) → by_errors n ≢ LongLine k) × ((k : ℕ) → by_errors n ≢ Alarm k)
+by_errors_not zero = ((λ e. cc), (λ e. cc), (λ e. cc), (λ e. cc), (λ k e. cc), (λ k e. cc))
+by_errors_not (suc n) = ((λ e. cc), (λ e. cc), (λ e. cc), (λ e. cc), (λ k e. cc), (λ k e. cc))
 
 pub errors_have_run : (n : ℕ) → JobWasRun (by_errors n)
 errors_have_run zero = tt
@@ -100,7 +100,6 @@ by_cases form job_was job_is was is end run true cf nf stop es ec en et = record
   steps = λ e. run.recording.steps.cause es;
   large = λ e. absurd cc;
   long = λ k e. absurd cc;
-  reset = λ e. absurd cc;
   alarm = λ k e. absurd cc;
   whole = λ w. absurd w;
   faultless = λ w. absurd w;
@@ -113,7 +112,6 @@ by_cases form job_was job_is was is end run false true nf stop es ec en et = rec
   steps = λ e. absurd cc;
   large = λ e. absurd cc;
   long = λ k e. absurd cc;
-  reset = λ e. absurd cc;
   alarm = λ k e. absurd cc;
   whole = λ w. absurd w;
   faultless = λ w. absurd w;
@@ -126,7 +124,6 @@ by_cases form job_was job_is was is end run false false true stop es ec en et = 
   steps = λ e. absurd cc;
   large = λ e. absurd cc;
   long = λ k e. absurd cc;
-  reset = λ e. absurd cc;
   alarm = λ k e. absurd cc;
   whole = λ w. absurd w;
   faultless = λ w. absurd w;
@@ -143,7 +140,6 @@ by_cases form job_was job_is was is end run false false false stops.TooLarge es 
     more = subst (λ r. MayHaveRead r (length run.read)) (large_means run.reading run.scanned (by_job form job_was job_is was is end run stops.TooLarge (λ e. cc) (λ j e. cc) et)) run.sending.so_far.fits;
   };
   long = λ k e. absurd cc;
-  reset = λ e. absurd cc;
   alarm = λ k e. absurd cc;
   whole = λ w. absurd w;
   faultless = λ w. absurd w;
@@ -165,29 +161,6 @@ by_cases form job_was job_is was is end run false false false (stops.LongLine k)
         some = why.0;
         first = same ∙ why.1;
       };
-  reset = λ e. absurd cc;
-  alarm = λ k e. absurd cc;
-  whole = λ w. absurd w;
-  faultless = λ w. absurd w;
-  complete = λ job source console steps. absurd (let e = sym (complete form job_was job_is was is end run job en).stop ∙ et in cc);
-}
-by_cases form job_was job_is was is end run false false false stops.Reset es ec en et = record {
-  has_run = tt;
-  source = λ e. absurd cc;
-  console = λ e. absurd cc;
-  steps = λ e. absurd cc;
-  large = λ e. absurd cc;
-  long = λ k e. absurd cc;
-  reset = λ e.
-      let by = scanned_to_reset form job_was job_is was is end run et in let why = reset_means run.reading run.scanned (sym et ∙ by.cause) in record {
-        read = run.read;
-        reading = run.reading;
-        scanned = run.scanned;
-        taken = run.sending.taken;
-        scans = by.scans;
-        some = why.0;
-        none = why.1;
-      };
   alarm = λ k e. absurd cc;
   whole = λ w. absurd w;
   faultless = λ w. absurd w;
@@ -200,7 +173,6 @@ by_cases form job_was job_is was is end run false false false (stops.Alarm k) es
   steps = λ e. absurd cc;
   large = λ e. absurd cc;
   long = λ j e. absurd cc;
-  reset = λ e. absurd cc;
   alarm = λ j e. let same : k ≡ j = cc in subst (IsAlarmedRun form job_was job_is was is) same (halted_run form job_was job_is was is end run k es ec et);
   whole = λ w. absurd w;
   faultless = λ w. absurd w;
@@ -208,40 +180,26 @@ by_cases form job_was job_is was is end run false false false (stops.Alarm k) es
 }
 by_cases form job_was job_is was is end run false false false stops.End es ec en et =
     let none = by_errors_not end.errors in let all = sent_all form job_was job_is was is end run en et in let by = by_end form job_was job_is was is end run et in
-    let going : asks_reset run.scanned ≡ false = not_reset run.reading run.scanned by.end in let calm : run.last.alarmed ≡ false = sym (run.telling.alarm going) ∙ by.none in
-    let carried = run.ending.whole going calm in record {
+    record {
       has_run = errors_have_run end.errors;
       source = λ e. absurd (none.0 e);
       console = λ e. absurd (none.1 e);
       steps = λ e. absurd (none.2 e);
       large = λ e. absurd (none.3 e);
       long = λ k e. absurd (none.4 k e);
-      reset = λ e. absurd (none.5 e);
-      alarm = λ k e. absurd (none.6 k e);
+      alarm = λ k e. absurd (none.5 k e);
       whole = λ w. record {
-        job = run.read;
-        first = run.first;
-        drive = run.drive;
-        last = run.last;
-        taken = run.sending.taken;
-        whole = run.sending.at_end all.over;
+        end = end;
+        run = run;
+        at_end = run.sending.at_end all.over;
         few = all.few;
-        opening = run.telling.opening;
-        answered = subst (λ (ls : List (List ℕ)). Follows true (start run.first) ls (all_passed run.drive) run.last) (carried.begun_are ∙ ap (map plain) all.lines) run.telling.follows;
-        calm = calm;
-        replies = run.replies;
-        told = run.telling.told ∙ ap (λ (rs : List Reply). rs ++ Bye ∷ []) carried.said_are;
+        scanned = sym all.all;
+        lines = all.lines;
+        rest = all.rest;
+        calm = sym run.telling.alarm ∙ by.none;
         console = whole_text was.console is.console end.console_failed (replies_text run.replies) ec run.telling.console;
-        reports = subst (λ (text : List ℕ). AreReports run.first run.drive (ticks_among run.records) (lines_of run.read) text run.replies) (sym all.all)
-            (subst (λ (ls : List (List ℕ)). AreReports run.first run.drive (ticks_among run.records) ls run.scanned run.replies) all.lines
-            run.reports);
-        records = run.records;
-        changes = subst (λ (text : List ℕ). AreChanges (IsAskedIn (served_in text)) normal_overrides (all_actions run.drive)) (sym all.all) run.recording.changes;
-        drives = subst (λ (text : List ℕ). IsDrive (asks_slow text) false (asks_change text) (slows_in text) run.drive) (sym all.all)
-            (subst (λ (alarm : Bool). IsDrive (asks_slow run.scanned) alarm (asks_change run.scanned) (slows_in run.scanned) run.drive) calm run.recording.drives);
-        driven = subst (λ (text : List ℕ). IsWholeDrive (asks_slow text) (asks_change text) run.drive run.records) (sym all.all) carried.driven;
         steps = whole_text was.steps is.steps end.steps_failed _ es run.recording.steps;
-        status_is = ap by_errors carried.errors;
+        status_is = ap by_errors run.telling.errors;
       };
       faultless = λ w. record { source = run.ending.source_same en; console = run.telling.console.same ec; steps = run.recording.steps.same es };
       complete = λ job source console steps. ap by_errors (complete form job_was job_is was is end run job en).errors;

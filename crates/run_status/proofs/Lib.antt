@@ -1,3 +1,5 @@
+pub mod Calm
+pub mod Completing
 pub mod Stops
 pub mod Halting
 pub mod Endings

@@ -10,10 +10,9 @@ use Rattle.outside.specs.Causes.{SourceState}
 use Rattle.run_rules.specs.Lines.{lines_of}
 use Rattle.stream_host.specs.declared.Stop.{Stop}
 use Rattle.stream_host.specs.declared.Reading.TheVariants.{Ended}
-use Rattle.stream_host.specs.Jobs.{but_last}
-use Rattle.run_law.specs.Sending.{ScansFront, ends_sending, ends_in, stop_by}
+use Rattle.stream_host.specs.Jobs.{ScansFront, but_last, ends_sending, ends_in, stop_by}
 use Rattle.stream_host.proofs.Pieces.{neither}
-use Rattle.run_law.proofs.Completing.{none_ends_in}
+use Rattle.run_status.proofs.Completing.{none_ends_in}
 use Rattle.run_status.specs.Statuses.{SendsUpTo}
 
 -- a told source has lost one front

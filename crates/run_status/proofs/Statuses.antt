@@ -9,20 +9,20 @@ use Rattle.stream_host.specs.declared.Reading.{Reading}
 use Rattle.stream_host.specs.declared.Reading.TheVariants.{Ended, Failed, Large, Stopped}
 use Rattle.stream_host.specs.declared.Stop.{Stop}
 use Rattle.stream_host.specs.declared.Stop.TheVariants as stops
-use Rattle.stream_host.specs.Jobs.{MayHaveRead, MayLeave}
-use Rattle.run_law.specs.Sending.{ScansFront, ends_in, stop_by}
+use Rattle.stream_host.specs.Jobs.{MayHaveRead, MayLeave, ScansFront, ends_in, stop_by}
 use Rattle.stream_host.specs.Ran.{is_failed}
-use Rattle.run_law.specs.Drives.{all_outcomes}
+use Rattle.run_texts.specs.Courses.{lines_in}
 use Rattle.run_law.specs.declared.RunEnd.{RunEnd}
-use Rattle.run_law.specs.Runs.{Sinks, IsRun}
-use Rattle.run_law.proofs.Completing.{whole_job}
+use Rattle.run_law.specs.Runs.{Sinks}
+use Rattle.epoch_law.specs.Runs.{IsRun}
+use Rattle.run_status.proofs.Completing.{whole_job}
 use Rattle.run_status.specs.declared.Status.{Status}
-use Rattle.run_status.specs.declared.Status.TheVariants.{Done, LineErrors, Usage, SourceFault, ConsoleFault, StepsFault, LongLine, Reset, Alarm, TooLarge, OutOfMemory}
+use Rattle.run_status.specs.declared.Status.TheVariants.{Done, LineErrors, Usage, SourceFault, ConsoleFault, StepsFault, LongLine, Alarm, TooLarge, OutOfMemory}
 use Rattle.run_status.specs.Ends.{by_errors, by_stop, status_of, EndsWith, IsWhole, IsWholeRun, IsAlarmedRun, IsFaultless, TookMore, HasCauses}
 use Rattle.run_status.specs.Demos.{IsDemo}
 use Rattle.run_status.specs.Statuses.{SendsUpTo, HasItsCause, CanRise, CanFail, IsAlarm, IsOfJob, AreOne, TellsFaults}
 use Rattle.run_status.proofs.Endings.{has_causes}
-use Rattle.run_status.proofs.Stops.{IsScanned, end_means, large_means, scanned_to_end, scanned_to_long, scanned_to_reset}
+use Rattle.run_status.proofs.Stops.{IsScanned, end_means, large_means, scanned_to_end, scanned_to_long}
 use Rattle.run_status.proofs.Scanning.{one_read, one_stop}
 
 -- ---- a run has the cause of its status
@@ -86,10 +86,6 @@ by_why form job_was job_is was is end run (stops.LongLine k) en et well causes =
     let by = scanned_to_long form job_was job_is was is end run k et in
     let small = not_large run.reading end.stop run.scanned (λ e. absurd (let f = sym et ∙ e in cc)) by.cause in
     (well, subst (SendsUpTo job_was job_is) et (sends form job_was job_is was is end run by en small))
-by_why form job_was job_is was is end run stops.Reset en et well causes =
-    let by = scanned_to_reset form job_was job_is was is end run et in
-    let small = not_large run.reading end.stop run.scanned (λ e. absurd (let f = sym et ∙ e in cc)) by.cause in
-    (well, subst (SendsUpTo job_was job_is) et (sends form job_was job_is was is end run by en small))
 by_why form job_was job_is was is end run (stops.Alarm k) en et well causes = (well, causes.alarm k refl)
 by_why form job_was job_is was is end run stops.End en et well causes =
     let by = scanned_to_end form job_was job_is was is end run et in
@@ -141,10 +137,9 @@ row_of form job_was job_is was is ConsoleFault cause = console refl cause.0 caus
 row_of form job_was job_is was is SourceFault cause = source refl cause.0 cause.1 cause.2
 row_of form job_was job_is was is TooLarge cause = large refl cause.0 cause.1
 row_of form job_was job_is was is (LongLine k) cause = of_job cause.0 (sent (stops.LongLine k) (record { errors = 0; is = refl }) cause.1)
-row_of form job_was job_is was is Reset cause = of_job cause.0 (sent stops.Reset (record { errors = 0; is = refl }) cause.1)
 row_of form job_was job_is was is (Alarm k) cause = of_job cause.0 (halted k refl cause.1)
-row_of form job_was job_is was is (LineErrors n) cause = of_job cause.0 (sent stops.End (record { errors = errors_in (all_outcomes cause.2.drive); is = cause.2.status_is }) cause.1)
-row_of form job_was job_is was is Done cause = of_job cause.0 (sent stops.End (record { errors = errors_in (all_outcomes cause.2.drive); is = cause.2.status_is }) cause.1)
+row_of form job_was job_is was is (LineErrors n) cause = of_job cause.0 (sent stops.End (record { errors = errors_in (lines_in cause.2.run.fits.course); is = cause.2.status_is }) cause.1)
+row_of form job_was job_is was is Done cause = of_job cause.0 (sent stops.End (record { errors = errors_in (lines_in cause.2.run.fits.course); is = cause.2.status_is }) cause.1)
 row_of form job_was job_is was is Usage cause = absurd cause
 row_of form job_was job_is was is OutOfMemory cause = absurd cause
 
@@ -157,8 +152,8 @@ record ReadsWithin (job_was job_is : SourceState) : Type 0 where
 within : (form : Form) (job_was job_is : SourceState) (was is : Sinks) (status : Status) → Rest form job_was job_is was is status → ReadsWithin job_was job_is
 within form job_was job_is was is status (sent stop by sends) = record { read = sends.read; taken = sends.taken; few = sends.few }
 within form job_was job_is was is status (halted k is_limit run) =
-    let small = (end_means run.reading run.scanned run.sent.cause).small in
-    record { read = run.read; taken = run.taken; few = not_over run.reading (length run.read) small run.sent.fits }
+    let small = (end_means run.run.reading run.run.scanned (sym run.going)).small in
+    record { read = run.run.read; taken = run.run.sending.taken; few = not_over run.run.reading (length run.run.read) small run.run.sending.so_far.fits }
 
 -- a job that is too large was not
 not_within : {A : Type 0} (job_was job_is : SourceState) (bytes : List ℕ) → job_was.left ≡ Some bytes → TookMore job_was job_is → ReadsWithin job_was job_is → A
@@ -173,7 +168,6 @@ by_one_stop : (stop : Stop) (a b : Status) → IsBy stop a → IsBy stop b → A
 by_one_stop stops.End a b one other = inr (inl (whole_by a one.errors one.is, whole_by b other.errors other.is))
 by_one_stop (stops.LongLine k) a b one other = inl (one.is ∙ sym other.is)
 by_one_stop stops.TooLarge a b one other = inl (one.is ∙ sym other.is)
-by_one_stop stops.Reset a b one other = inl (one.is ∙ sym other.is)
 by_one_stop (stops.Alarm k) a b one other = inl (one.is ∙ sym other.is)
 
 -- ---- beside an alarm
@@ -186,7 +180,6 @@ of_stop : (job_was job_is : SourceState) (stop : Stop) (a : Status) → IsBy sto
 of_stop job_was job_is stops.End a by sends = subst IsOfJob (sym by.is) (of_number by.errors)
 of_stop job_was job_is (stops.LongLine k) a by sends = subst IsOfJob (sym by.is) tt
 of_stop job_was job_is stops.TooLarge a by sends = absurd (let e = large_means Ended sends.scanned sends.cause in cc)
-of_stop job_was job_is stops.Reset a by sends = subst IsOfJob (sym by.is) tt
 of_stop job_was job_is (stops.Alarm k) a by sends = subst IsOfJob (sym by.is) tt
 
 of_rest : (form : Form) (job_was job_is : SourceState) (was is : Sinks) (a : Status) → Rest form job_was job_is was is a → IsOfJob a

@@ -5,84 +5,65 @@ use Rattle.step_record.specs.declared.forms.Form.{Form}
 use Rattle.outside.specs.Causes.{SourceState}
 use Rattle.run_rules.specs.Lines.{lines_of}
 use Rattle.run_rules.specs.Readings.{job_of}
-use Rattle.run_rules.specs.Work.{is_limit}
+use Rattle.run_texts.specs.Told.{has_alarm}
 use Rattle.stream_host.specs.declared.Reading.{Reading}
 use Rattle.stream_host.specs.declared.Reading.TheVariants.{Ended, Failed, Large, Stopped}
 use Rattle.stream_host.specs.declared.Stop.{Stop}
 use Rattle.stream_host.specs.declared.Stop.TheVariants as stops
-use Rattle.run_law.specs.Sending.{MayScan, ScansFront, is_long, holds_reset, is_sent, long_line, stop_by}
+use Rattle.stream_host.specs.Jobs.{MayScan, ScansFront, is_long, is_sent, long_line, stop_by}
 use Rattle.stream_host.specs.Steps.{or_alarm}
 use Rattle.run_law.specs.declared.RunEnd.{RunEnd}
-use Rattle.run_law.specs.Runs.{Sinks, asks_reset, IsRun}
-use Rattle.run_law.proofs.Completing.{either_none, none_served}
+use Rattle.run_law.specs.Runs.{Sinks}
+use Rattle.epoch_law.specs.Runs.{IsRun}
 
 -- ---- by the job
 
-no_cause : (long reset : Bool) (lines : List (List ℕ)) → stops.End ≡ cond long (long_line lines) (cond reset stops.Reset stops.End) → (long ≡ false) × (reset ≡ false)
-no_cause true reset lines e = absurd cc
-no_cause false true lines e = absurd cc
-no_cause false false lines e = (refl, refl)
+no_cause : (long : Bool) (lines : List (List ℕ)) → stops.End ≡ cond long (long_line lines) stops.End → long ≡ false
+no_cause true lines e = absurd cc
+no_cause false lines e = refl
 
--- to the end of the job: it is not too large, no line is too long, and none has a reset
+-- to the end of the job: it is not too large, and no line is too long
 pub record MeansEnd (r : Reading) (lines : List (List ℕ)) : Type 0 where
-  pub short : (list_any is_long lines ≡ false) × (list_any holds_reset lines ≡ false)
+  pub short : list_any is_long lines ≡ false
   pub small : r ≡ Large → ⊥
 
 pub end_means : (r : Reading) (text : List ℕ) → stops.End ≡ stop_by r text → MeansEnd r (lines_of text)
-end_means Ended text e = record { short = no_cause (list_any is_long (lines_of text)) (list_any holds_reset (lines_of text)) (lines_of text) e; small = λ x. cc }
-end_means Failed text e = record { short = no_cause (list_any is_long (lines_of text)) (list_any holds_reset (lines_of text)) (lines_of text) e; small = λ x. cc }
+end_means Ended text e = record { short = no_cause (list_any is_long (lines_of text)) (lines_of text) e; small = λ x. cc }
+end_means Failed text e = record { short = no_cause (list_any is_long (lines_of text)) (lines_of text) e; small = λ x. cc }
 end_means Large text e = absurd cc
-end_means Stopped text e = record { short = no_cause (list_any is_long (lines_of text)) (list_any holds_reset (lines_of text)) (lines_of text) e; small = λ x. cc }
+end_means Stopped text e = record { short = no_cause (list_any is_long (lines_of text)) (lines_of text) e; small = λ x. cc }
 
-not_large : {A : Type 0} (t r : Bool) (lines : List (List ℕ)) → stops.TooLarge ≡ cond t (long_line lines) (cond r stops.Reset stops.End) → A
-not_large true r lines e = absurd cc
-not_large false true lines e = absurd cc
-not_large false false lines e = absurd cc
+not_large : {A : Type 0} (t : Bool) (lines : List (List ℕ)) → stops.TooLarge ≡ cond t (long_line lines) stops.End → A
+not_large true lines e = absurd cc
+not_large false lines e = absurd cc
 
 pub large_means : (r : Reading) (text : List ℕ) → stops.TooLarge ≡ stop_by r text → r ≡ Large
-large_means Ended text e = not_large (list_any is_long (lines_of text)) (list_any holds_reset (lines_of text)) (lines_of text) e
-large_means Failed text e = not_large (list_any is_long (lines_of text)) (list_any holds_reset (lines_of text)) (lines_of text) e
+large_means Ended text e = not_large (list_any is_long (lines_of text)) (lines_of text) e
+large_means Failed text e = not_large (list_any is_long (lines_of text)) (lines_of text) e
 large_means Large text e = refl
-large_means Stopped text e = not_large (list_any is_long (lines_of text)) (list_any holds_reset (lines_of text)) (lines_of text) e
+large_means Stopped text e = not_large (list_any is_long (lines_of text)) (lines_of text) e
 
-one_long : (k : ℕ) (t r : Bool) (lines : List (List ℕ)) → stops.LongLine k ≡ cond t (long_line lines) (cond r stops.Reset stops.End) → (t ≡ true) × (k ≡ length (take_while is_sent lines) + 1)
-one_long k true r lines e = (refl, cc)
-one_long k false true lines e = absurd cc
-one_long k false false lines e = absurd cc
+one_long : (k : ℕ) (t : Bool) (lines : List (List ℕ)) → stops.LongLine k ≡ cond t (long_line lines) stops.End → (t ≡ true) × (k ≡ length (take_while is_sent lines) + 1)
+one_long k true lines e = (refl, cc)
+one_long k false lines e = absurd cc
 
 pub long_means : (k : ℕ) (r : Reading) (text : List ℕ) → stops.LongLine k ≡ stop_by r text
     → (list_any is_long (lines_of text) ≡ true) × (k ≡ length (take_while is_sent (lines_of text)) + 1)
-long_means k Ended text e = one_long k (list_any is_long (lines_of text)) (list_any holds_reset (lines_of text)) (lines_of text) e
-long_means k Failed text e = one_long k (list_any is_long (lines_of text)) (list_any holds_reset (lines_of text)) (lines_of text) e
+long_means k Ended text e = one_long k (list_any is_long (lines_of text)) (lines_of text) e
+long_means k Failed text e = one_long k (list_any is_long (lines_of text)) (lines_of text) e
 long_means k Large text e = absurd cc
-long_means k Stopped text e = one_long k (list_any is_long (lines_of text)) (list_any holds_reset (lines_of text)) (lines_of text) e
-
-one_reset : (long reset : Bool) (lines : List (List ℕ)) → stops.Reset ≡ cond long (long_line lines) (cond reset stops.Reset stops.End) → (reset ≡ true) × (long ≡ false)
-one_reset true reset lines e = absurd cc
-one_reset false true lines e = (refl, refl)
-one_reset false false lines e = absurd cc
-
-pub reset_means : (r : Reading) (text : List ℕ) → stops.Reset ≡ stop_by r text → (list_any holds_reset (lines_of text) ≡ true) × (list_any is_long (lines_of text) ≡ false)
-reset_means Ended text e = one_reset (list_any is_long (lines_of text)) (list_any holds_reset (lines_of text)) (lines_of text) e
-reset_means Failed text e = one_reset (list_any is_long (lines_of text)) (list_any holds_reset (lines_of text)) (lines_of text) e
-reset_means Large text e = absurd cc
-reset_means Stopped text e = one_reset (list_any is_long (lines_of text)) (list_any holds_reset (lines_of text)) (lines_of text) e
+long_means k Stopped text e = one_long k (list_any is_long (lines_of text)) (lines_of text) e
 
 -- the job itself raises no alarm
-no_alarm : {A : Type 0} (k : ℕ) (t r : Bool) (lines : List (List ℕ)) → stops.Alarm k ≡ cond t (long_line lines) (cond r stops.Reset stops.End) → A
-no_alarm k true r lines e = absurd cc
-no_alarm k false true lines e = absurd cc
-no_alarm k false false lines e = absurd cc
+no_alarm : {A : Type 0} (k : ℕ) (t : Bool) (lines : List (List ℕ)) → stops.Alarm k ≡ cond t (long_line lines) stops.End → A
+no_alarm k true lines e = absurd cc
+no_alarm k false lines e = absurd cc
 
 never_alarm : {A : Type 0} (k : ℕ) (r : Reading) (text : List ℕ) → stops.Alarm k ≡ stop_by r text → A
-never_alarm k Ended text e = no_alarm k (list_any is_long (lines_of text)) (list_any holds_reset (lines_of text)) (lines_of text) e
-never_alarm k Failed text e = no_alarm k (list_any is_long (lines_of text)) (list_any holds_reset (lines_of text)) (lines_of text) e
+never_alarm k Ended text e = no_alarm k (list_any is_long (lines_of text)) (lines_of text) e
+never_alarm k Failed text e = no_alarm k (list_any is_long (lines_of text)) (lines_of text) e
 never_alarm k Large text e = absurd cc
-never_alarm k Stopped text e = no_alarm k (list_any is_long (lines_of text)) (list_any holds_reset (lines_of text)) (lines_of text) e
-
--- no reset was scanned then
-pub not_reset : (r : Reading) (text : List ℕ) → stops.End ≡ stop_by r text → asks_reset text ≡ false
-not_reset r text e = none_served (lines_of text) (end_means r text e).short.1
+never_alarm k Stopped text e = no_alarm k (list_any is_long (lines_of text)) (lines_of text) e
 
 -- ---- by the job, or by an alarm
 
@@ -95,15 +76,13 @@ end_is : (alarm : Bool) (n : ℕ) (stop : Stop) → stops.End ≡ or_alarm alarm
 end_is true n stops.End e = absurd cc
 end_is true n (stops.LongLine k) e = absurd cc
 end_is true n stops.TooLarge e = absurd cc
-end_is true n stops.Reset e = absurd cc
 end_is true n (stops.Alarm k) e = absurd cc
 end_is false n stops.End e = record { none = refl; end = refl }
 end_is false n (stops.LongLine k) e = absurd cc
 end_is false n stops.TooLarge e = absurd cc
-end_is false n stops.Reset e = absurd cc
 end_is false n (stops.Alarm k) e = absurd cc
 
--- an alarm was got, behind so many answers, and nothing of the job ends the sending
+-- an alarm was got, behind so many lines, and nothing of the job ends the sending
 pub record IsByAlarm (alarm : Bool) (n k : ℕ) (stop : Stop) : Type 0 where
   pub got : alarm ≡ true
   pub line : k ≡ n + 1
@@ -113,12 +92,10 @@ alarm_is : (alarm : Bool) (n k : ℕ) (stop : Stop) → ((j : ℕ) → stops.Ala
 alarm_is true n k stops.End never e = record { got = refl; line = cc; end = refl }
 alarm_is true n k (stops.LongLine j) never e = absurd cc
 alarm_is true n k stops.TooLarge never e = absurd cc
-alarm_is true n k stops.Reset never e = absurd cc
 alarm_is true n k (stops.Alarm j) never e = absurd (never j refl)
 alarm_is false n k stops.End never e = absurd cc
 alarm_is false n k (stops.LongLine j) never e = absurd cc
 alarm_is false n k stops.TooLarge never e = absurd cc
-alarm_is false n k stops.Reset never e = absurd cc
 alarm_is false n k (stops.Alarm j) never e = absurd (never j refl)
 
 -- neither of these
@@ -126,29 +103,27 @@ other_is : (alarm : Bool) (n : ℕ) (stop told : Stop) → (told ≡ stops.End �
 other_is true n stops.End told some other e = absurd (other (n + 1) e)
 other_is true n (stops.LongLine k) told some other e = e
 other_is true n stops.TooLarge told some other e = e
-other_is true n stops.Reset told some other e = e
 other_is true n (stops.Alarm k) told some other e = e
 other_is false n stops.End told some other e = absurd (some e)
 other_is false n (stops.LongLine k) told some other e = e
 other_is false n stops.TooLarge told some other e = e
-other_is false n stops.Reset told some other e = e
 other_is false n (stops.Alarm k) told some other e = e
 
 -- ---- of a run
 
 pub by_end : (form : Form) (job_was job_is : SourceState) (was is : Sinks) (end : RunEnd) (run : IsRun form job_was job_is was is end) → end.stop ≡ stops.End
-    → IsByEnd (list_any is_limit run.replies) (stop_by run.reading run.scanned)
-by_end form job_was job_is was is end run et = end_is (list_any is_limit run.replies) end.answered (stop_by run.reading run.scanned) (sym et ∙ run.ending.stop)
+    → IsByEnd (has_alarm run.replies) (stop_by run.reading run.scanned)
+by_end form job_was job_is was is end run et = end_is (has_alarm run.replies) (end.answered + run.sending.forgotten) (stop_by run.reading run.scanned) (sym et ∙ run.ending.stop)
 
 pub by_alarm : (form : Form) (job_was job_is : SourceState) (was is : Sinks) (end : RunEnd) (run : IsRun form job_was job_is was is end) (k : ℕ) → end.stop ≡ stops.Alarm k
-    → IsByAlarm (list_any is_limit run.replies) end.answered k (stop_by run.reading run.scanned)
+    → IsByAlarm (has_alarm run.replies) (end.answered + run.sending.forgotten) k (stop_by run.reading run.scanned)
 by_alarm form job_was job_is was is end run k et =
-    alarm_is (list_any is_limit run.replies) end.answered k (stop_by run.reading run.scanned) (λ j e. never_alarm j run.reading run.scanned e) (sym et ∙ run.ending.stop)
+    alarm_is (has_alarm run.replies) (end.answered + run.sending.forgotten) k (stop_by run.reading run.scanned) (λ j e. never_alarm j run.reading run.scanned e) (sym et ∙ run.ending.stop)
 
 pub by_job : (form : Form) (job_was job_is : SourceState) (was is : Sinks) (end : RunEnd) (run : IsRun form job_was job_is was is end) (told : Stop)
     → (told ≡ stops.End → ⊥) → ((k : ℕ) → told ≡ stops.Alarm k → ⊥) → end.stop ≡ told → told ≡ stop_by run.reading run.scanned
 by_job form job_was job_is was is end run told some other et =
-    other_is (list_any is_limit run.replies) end.answered (stop_by run.reading run.scanned) told some other (sym et ∙ run.ending.stop)
+    other_is (has_alarm run.replies) (end.answered + run.sending.forgotten) (stop_by run.reading run.scanned) told some other (sym et ∙ run.ending.stop)
 
 -- The job was scanned up to where the sending ends, and that is why no more of it was sent.
 pub record IsScanned (form : Form) (job_was job_is : SourceState) (was is : Sinks) (end : RunEnd) (run : IsRun form job_was job_is was is end) : Type 0 where
@@ -163,7 +138,7 @@ scanned_to_end form job_was job_is was is end run et =
 
 -- in a line that is too long
 long_is_whole : (r : Reading) (job text : List ℕ) → ScansFront job text → list_any is_long (lines_of text) ≡ true → MayScan r job text
-long_is_whole r job text scans some = record { scans = scans; whole = λ none. absurd (let e = sym some ∙ (either_none (lines_of text) none).0 in cc) }
+long_is_whole r job text scans some = record { scans = scans; whole = λ none. absurd (let e = sym some ∙ none in cc) }
 
 pub scanned_to_long : (form : Form) (job_was job_is : SourceState) (was is : Sinks) (end : RunEnd) (run : IsRun form job_was job_is was is end) (k : ℕ) → end.stop ≡ stops.LongLine k
     → IsScanned form job_was job_is was is end run
@@ -171,13 +146,3 @@ scanned_to_long form job_was job_is was is end run k et =
     let cause = by_job form job_was job_is was is end run (stops.LongLine k) (λ e. cc) (λ j e. cc) et in
     let why = long_means k run.reading run.scanned cause in
     record { scans = long_is_whole run.reading (job_of run.read) run.scanned run.sending.so_far.scans why.0; cause = et ∙ cause }
-
--- at a reset
-reset_is_whole : (r : Reading) (job text : List ℕ) → ScansFront job text → list_any holds_reset (lines_of text) ≡ true → MayScan r job text
-reset_is_whole r job text scans some = record { scans = scans; whole = λ none. absurd (let e = sym some ∙ (either_none (lines_of text) none).1 in cc) }
-
-pub scanned_to_reset : (form : Form) (job_was job_is : SourceState) (was is : Sinks) (end : RunEnd) (run : IsRun form job_was job_is was is end) → end.stop ≡ stops.Reset → IsScanned form job_was job_is was is end run
-scanned_to_reset form job_was job_is was is end run et =
-    let cause = by_job form job_was job_is was is end run stops.Reset (λ e. cc) (λ j e. cc) et in
-    let why = reset_means run.reading run.scanned cause in
-    record { scans = reset_is_whole run.reading (job_of run.read) run.scanned run.sending.so_far.scans why.0; cause = et ∙ cause }

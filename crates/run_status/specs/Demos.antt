@@ -1,12 +1,15 @@
 -- A run of the generated job.
-use Rattle.std.specs.Prelude.{◌≡◌, ℕ, Bool, false, cond, List, [], Some, None}
+use Rattle.std.specs.Prelude.{◌≡◌, ℕ, Bool, false, cond, List, [], ◌∷◌, Some, None}
 use Rattle.outside.specs.Causes.{SourceState, SinkState}
 use Rattle.outside.specs.Writing.{Took}
 use Rattle.step_record.specs.declared.forms.Form.TheVariants.{One}
 use Rattle.run_rules.specs.Told.{asked_in}
 use Rattle.run_law.specs.declared.RunEnd.{RunEnd}
-use Rattle.run_law.specs.Drives.{all_outcomes}
-use Rattle.run_law.specs.Runs.{asks_change, IsRun}
+use Rattle.run_law.specs.Runs.{asks_change}
+use Rattle.run_texts.specs.Courses.{lines_in}
+use Rattle.run_texts.specs.Parts.{parts_of}
+use Rattle.run_texts.specs.Parts.Ending.{by_end}
+use Rattle.epoch_law.specs.Runs.{IsRun}
 use Rattle.demo_job.specs.Jobs.{job_lines, job_text, summary}
 use Rattle.demo_law.specs.Asked.{demo_asks}
 use Rattle.run_status.specs.declared.Status.{Status}
@@ -21,10 +24,10 @@ abbrev pub generated : List ℕ → SourceState
 generated left = record { left = Some left; faults = 0 }
 
 -- A run of the generated job of n moves, whose console keeps nothing. All its lines are sent and answered `ok`, and ask for
--- its moves, of which none is cut, and no byte of it changes overrides, so that they are 100 percent throughout: the steps are
--- those of these moves, in form 1. Then the console takes the line on the run: its lines, all of them `ok`, the
--- events of its moves, and where the last of them goes; a front of that line where the console fails. The demo is done,
--- unless a write of the steps failed, or of the console.
+-- its moves. They are one part, which neither a cut nor a reset ends, and no byte of it changes overrides, so that they are 100
+-- percent throughout: the steps are those of these moves, in form 1. Then the console takes the line on the run: its lines, all
+-- of them `ok`, the events of its moves, and where the last of them goes; a front of that line where the console fails. The demo
+-- is done, unless a write of the steps failed, or of the console.
 pub record IsDemo (n : ℕ) (console_was console_is steps_was steps_is : SinkState) (status : Status) : Type 0 where
   pub end : RunEnd
   pub left : List ℕ
@@ -32,9 +35,9 @@ pub record IsDemo (n : ℕ) (console_was console_is steps_was steps_is : SinkSta
       (record { console = keeps_nothing; steps = steps_was }) (record { console = keeps_nothing; steps = steps_is }) end
   pub sent : run.lines ≡ job_lines n
   pub accepted : end.errors ≡ 0
-  pub uncut : run.drive.parts ≡ []
+  pub uncut : parts_of run.fits.course ≡ record { lines = lines_in run.fits.course; begun = []; ending = by_end } ∷ []
   pub unchanged : asks_change run.scanned ≡ false
-  pub asks : asked_in (all_outcomes run.drive) ≡ demo_asks run.first.settings n
+  pub asks : asked_in (lines_in run.fits.course) ≡ demo_asks run.fits.first.settings n
   pub console_failed : Bool
   pub console : Took console_was console_is console_failed (summary n)
   pub status_is : status ≡ cond end.steps_failed StepsFault (cond console_failed ConsoleFault Done)

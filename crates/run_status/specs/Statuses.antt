@@ -7,14 +7,14 @@ use Rattle.run_rules.specs.Readings.{largest_job}
 use Rattle.stream_host.specs.declared.Reading.TheVariants.{Ended}
 use Rattle.stream_host.specs.declared.Stop.{Stop}
 use Rattle.stream_host.specs.declared.Stop.TheVariants as stops
-use Rattle.run_law.specs.Sending.{ScansFront, ends_in, stop_by}
+use Rattle.stream_host.specs.Jobs.{ScansFront, ends_in, stop_by}
 use Rattle.run_law.specs.Runs.{Sinks}
 use Rattle.run_status.specs.declared.Status.{Status}
-use Rattle.run_status.specs.declared.Status.TheVariants.{Done, LineErrors, Usage, SourceFault, ConsoleFault, StepsFault, LongLine, Reset, Alarm, TooLarge, OutOfMemory}
+use Rattle.run_status.specs.declared.Status.TheVariants.{Done, LineErrors, Usage, SourceFault, ConsoleFault, StepsFault, LongLine, Alarm, TooLarge, OutOfMemory}
 use Rattle.run_status.specs.Ends.{IsWhole, IsWholeRun, IsAlarmedRun, IsFaultless, TookMore}
 
 -- Why no more was sent of a job that is not too large, where no read failed. What was scanned of it ends with the byte with
--- which a line is too long, or with a reset; else all of the job was read and scanned.
+-- which a line is too long; else all of the job was read and scanned.
 pub record SendsUpTo (job_was job_is : SourceState) (stop : Stop) : Type 0 where
   pub read : List ℕ
   pub scanned : List ℕ
@@ -25,7 +25,7 @@ pub record SendsUpTo (job_was job_is : SourceState) (stop : Stop) : Type 0 where
   pub cause : stop ≡ stop_by Ended scanned
 
 -- The cause of each status that a run ends with, from the one that is told first to the last. Where a row holds none of the rows
--- above it does, but for that of an alarm: a line that is too long, or a reset, may stand behind the lines that were scanned before
+-- above it does, but for that of an alarm: a line that is too long may stand behind the lines that were scanned before
 -- it. A count of faults that has not risen is as before.
 abbrev pub HasItsCause : Form → SourceState → SourceState → Sinks → Sinks → Status → Type 0
 HasItsCause form job_was job_is was is StepsFault = Rose was.steps.faults is.steps.faults
@@ -34,7 +34,6 @@ HasItsCause form job_was job_is was is SourceFault =
     (is.steps.faults ≡ was.steps.faults) × (is.console.faults ≡ was.console.faults) × Rose job_was.faults job_is.faults
 HasItsCause form job_was job_is was is TooLarge = IsFaultless job_was job_is was is × TookMore job_was job_is
 HasItsCause form job_was job_is was is (LongLine k) = IsFaultless job_was job_is was is × SendsUpTo job_was job_is (stops.LongLine k)
-HasItsCause form job_was job_is was is Reset = IsFaultless job_was job_is was is × SendsUpTo job_was job_is stops.Reset
 HasItsCause form job_was job_is was is (Alarm k) = IsFaultless job_was job_is was is × IsAlarmedRun form job_was job_is was is k
 HasItsCause form job_was job_is was is (LineErrors n) =
     IsFaultless job_was job_is was is × SendsUpTo job_was job_is stops.End × IsWholeRun form job_was job_is was is (LineErrors n)
@@ -62,7 +61,6 @@ abbrev pub IsOfJob : Status → Type 0
 IsOfJob Done = Unit {0}
 IsOfJob (LineErrors n) = Unit {0}
 IsOfJob (LongLine k) = Unit {0}
-IsOfJob Reset = Unit {0}
 IsOfJob (Alarm k) = Unit {0}
 IsOfJob _ = ⊥
 

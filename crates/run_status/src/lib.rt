@@ -6,13 +6,19 @@ ghost use Rattle.arrayvec.specs.ArrayVec.{array_vec_len};
 ghost use Rattle.run_status.specs.Ends.{by_errors, status_of};
 ghost use Rattle.run_status.specs.Faults.{fault_text, exit_number_of};
 
+mod laws;
+
 use itoa::Buffer;
+pub use laws::{
+    accepted_jobs_are_complete, faults_are_told, statuses_have_no_other_causes,
+    statuses_have_their_causes,
+};
 use run_law::RunEnd;
 use stream_host::Stop;
 use units::{Text, append};
 
 /// How a run ended. Where several hold, the first of `Usage`, `OutOfMemory`, `StepsFault`, `ConsoleFault`,
-/// `SourceFault`, `TooLarge`, `LongLine`, `Reset`, `Alarm` and `LineErrors` is told.
+/// `SourceFault`, `TooLarge`, `LongLine`, `Alarm` and `LineErrors` is told.
 #[derive(Clone, Copy, Debug, PartialEq, Eq)]
 pub enum Status {
     /// All lines were answered `ok`.
@@ -29,8 +35,6 @@ pub enum Status {
     StepsFault,
     /// This line is longer than a line of a job may be.
     LongLine(u32),
-    /// The job asked for a reset.
-    Reset,
     /// This line went beyond a soft limit.
     Alarm(u32),
     /// The source had more than 16,777,216 bytes.
@@ -67,7 +71,6 @@ pub fn status_of(end: &RunEnd) -> Status
         Stop::End => by_errors(end.errors),
         Stop::LongLine(line) => Status::LongLine(line),
         Stop::TooLarge => Status::TooLarge,
-        Stop::Reset => Status::Reset,
         Stop::Alarm(line) => Status::Alarm(line),
     }
 }
@@ -84,7 +87,6 @@ pub fn exit_number(s: &Status) -> u8
         Status::ConsoleFault => 4,
         Status::StepsFault => 5,
         Status::LongLine(_) => 6,
-        Status::Reset => 7,
         Status::Alarm(_) => 8,
         Status::TooLarge => 9,
         Status::OutOfMemory => 10,
@@ -121,7 +123,6 @@ pub fn put_fault(s: &Status, out: &mut Text)
         Status::LongLine(line) => {
             put_numbered(b"fault: line ", *line, b" is longer than 127 bytes\n", out)
         }
-        Status::Reset => append(b"stopped: reset\n", out),
         Status::Alarm(line) => put_numbered(b"stopped: soft limit at line ", *line, b"\n", out),
         Status::TooLarge => append(b"fault: the job is larger than 16777216 bytes\n", out),
         Status::OutOfMemory => append(b"fault: out of memory\n", out),
