@@ -2,7 +2,7 @@
 use Rattle.std.specs.Prelude.{◌≡◌, ℕ, Bool, List}
 use Rattle.outside.specs.Causes.{SinkState}
 use Rattle.run_law.specs.declared.RunEnd.{RunEnd}
-use Rattle.run_law.specs.Devices.{Devices, devices, HasRun}
+use Rattle.epoch_law.specs.Devices.{Devices, devices, HasRun}
 use Rattle.command_line.specs.declared.Order.{Order}
 use Rattle.command_line.specs.declared.Order.TheVariants.{Threads, Lockstep, Paced}
 use Rattle.step_record.specs.declared.forms.Form.{Form}

@@ -3,14 +3,14 @@
 
 ghost use Rattle.std.specs.Prelude.{◌≡◌, ◌⊎◌, ℕ, List, Some, IfOk, OnErr, map};
 ghost use Rattle.outside.specs.Causes.{Rose};
-ghost use Rattle.run_law.specs.Complete.{IsAcceptedJob};
+ghost use Rattle.run_status.specs.Complete.{IsAcceptedJob};
 ghost use Rattle.command_line.specs.Command.{Asks, IsNamed, Refuses};
 ghost use Rattle.command_line.specs.declared.Task.TheVariants as tasks;
-ghost use Rattle.run_law.specs.Devices.{devices};
+ghost use Rattle.epoch_law.specs.Devices.{devices};
 ghost use Rattle.run_status.specs.Demos.{IsDemo};
 ghost use Rattle.grbl_app.specs.Orders.{EndsInOrder, IsOrderedDemo};
 ghost use Rattle.run_status.specs.Statuses.{HasItsCause, CanFail, AreOne, TellsFaults};
-ghost use Rattle.run_status.specs.Ends.{EndsWith, IsWhole, IsWholeRun, IsAlarmedRun, IsFaultless, TookMore, HasLongLine, HasReset, HasNotBegun, JobWasRun, HasCauses};
+ghost use Rattle.run_status.specs.Ends.{EndsWith, IsWhole, IsWholeRun, IsAlarmedRun, IsFaultless, TookMore, HasLongLine, HasNotBegun, JobWasRun, HasCauses};
 
 mod demo;
 mod runs;
@@ -66,8 +66,9 @@ fn stream<
 ///
 /// `stream`: the job is read to its end, or up to its first 16,777,216 bytes. The banner, and what each line tells and
 /// is answered, go to the console; the step events and the marks of the lines answered `ok`, and `E`, to the steps: all of them
-/// where no reset, alarm or record fault occurs, and no jog is cancelled. A line beyond a soft limit raises an alarm: nothing
-/// of it is done, the machine comes to a stop, and the run ends. A sink that fails is given nothing more, and the run goes on
+/// where no reset, alarm or record fault occurs, and no jog is cancelled. A reset stops the machine at once, drops the lines
+/// before it that have no answer, and begins a new epoch where the machine stands. A line beyond a soft limit raises an alarm:
+/// nothing of it is done, the machine comes to a stop, and the run ends. A sink that fails is given nothing more, and the run goes on
 /// to its end. Each of the four actors has a thread of its own, and passes the gate before each turn. Where a thread can't be
 /// started, its actor goes before or behind another one, and such a run may wait for ever. With `--lockstep SEED` the four
 /// take turns on this thread, in an order that the seed gives, and pass no gate. With `--paced` they do so too, the host and the
@@ -99,17 +100,16 @@ pub fn run_grbl<
     ensures untouched { HasNotBegun result →
         (So.state job.new ≡ So.state job.old) × (Co.state console.new ≡ Co.state console.old) × (St.state steps.new ≡ St.state steps.old) }
 
-    // A fault comes only where its device's count of faults rose, and the job is cut only where it is too large, a line is
-    // too long, or a reset stands in it.
+    // A fault comes only where its device's count of faults rose, and the job is cut only where it is too large or a line is
+    // too long.
     ensures source_fault { (order : _) (form : _) → Asks (tasks.Stream order form) (map (λ w. w.now) words.now) → result ≡ Status.SourceFault → Rose (So.state job.old).faults (So.state job.new).faults }
     ensures console_fault { result ≡ Status.ConsoleFault → Rose (Co.state console.old).faults (Co.state console.new).faults }
     ensures steps_fault { result ≡ Status.StepsFault → Rose (St.state steps.old).faults (St.state steps.new).faults }
     ensures too_large { (order : _) (form : _) → Asks (tasks.Stream order form) (map (λ w. w.now) words.now) → result ≡ Status.TooLarge → TookMore (So.state job.old) (So.state job.new) }
-    ensures reset { (order : _) (form : _) → Asks (tasks.Stream order form) (map (λ w. w.now) words.now) → result ≡ Status.Reset → HasReset (So.state job.old) (So.state job.new) }
     ensures long_line { (order : _) (form : _) (k : ℕ) → Asks (tasks.Stream order form) (map (λ w. w.now) words.now) → result ≡ Status.LongLine k → HasLongLine (So.state job.old) (So.state job.new) k }
 
-    // An alarm comes only of a line beyond a soft limit. What the lines before it tell, and the alarm, is on the console, and the
-    // first of their events are recorded, in order and each once.
+    // An alarm comes only of a line beyond a soft limit, the last that was begun. The console has the whole text of the replies, the
+    // alarm at last, and the steps that of the records.
     ensures alarm { (order : _) (form : _) (k : ℕ) → Asks (tasks.Stream order form) (map (λ w. w.now) words.now) → result ≡ Status.Alarm k → IsAlarmedRun form (So.state job.old) (So.state job.new)
         (record { console = Co.state console.old; steps = St.state steps.old })
         (record { console = Co.state console.new; steps = St.state steps.new }) k }
@@ -129,14 +129,15 @@ pub fn run_grbl<
         (record { console = Co.state console.old; steps = St.state steps.old })
         (record { console = Co.state console.new; steps = St.state steps.new }) result }
 
-    // For every job and every interleaving of the threads' atomic steps, the recorded step events are, in order and each once,
-    // a prefix of the Bresenham events of the lines answered `ok`, and all of them where no reset, alarm or record fault occurs;
-    // a jog cancel keeps a prefix of the jogs and later moves start there; holds, resumes and overrides change no event.
+    // For every job and every interleaving of the threads' atomic steps, in each epoch the recorded step events are, in order and
+    // each once, a prefix of the Bresenham events of its lines answered `ok`, and all of them where no reset, alarm or record fault
+    // ends it; cancels keep a prefix of the jogs; after a cancel or reset moves start there; holds, resumes and overrides change
+    // no event.
     ensures run { (order : _) (form : _) → Asks (tasks.Stream order form) (map (λ w. w.now) words.now) → JobWasRun result → EndsWith form (So.state job.old) (So.state job.new)
         (record { console = Co.state console.old; steps = St.state steps.old })
         (record { console = Co.state console.new; steps = St.state steps.new }) result }
 
-    // The recorded events are, in order and each once, those of the lines answered `ok`.
+    // All of the job was read, scanned and sent, no line raised an alarm, and both texts are whole.
     ensures whole_run { (order : _) (form : _) → Asks (tasks.Stream order form) (map (λ w. w.now) words.now) → IsWhole result → IsWholeRun form (So.state job.old) (So.state job.new)
         (record { console = Co.state console.old; steps = St.state steps.old })
         (record { console = Co.state console.new; steps = St.state steps.new }) result }

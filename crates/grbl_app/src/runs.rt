@@ -1,7 +1,7 @@
 //! A run of a job, as the command asks for it.
 
 ghost use Rattle.std.specs.Prelude.{◌≡◌, IfOk, OnErr};
-ghost use Rattle.run_law.specs.Devices.{devices, HasRun};
+ghost use Rattle.epoch_law.specs.Devices.{devices, HasRun};
 ghost use Rattle.grbl_app.specs.Orders.{GoesBy};
 
 use actor_turns::{run_at_a_pace, run_in_lockstep};

@@ -1,7 +1,7 @@
 use Rattle.std.proofs.Common.{◌≡◌, Err, ap, inl, inr, map, refl, subst, sym}
 use Rattle.command_line.specs.Command.{Asks}
 use Rattle.command_line.specs.declared.Task.TheVariants as tasks
-use Rattle.run_law.specs.Devices.{devices}
+use Rattle.epoch_law.specs.Devices.{devices}
 use Rattle.run_status.specs.Demos.{IsDemo}
 use Rattle.grbl_app.specs.Orders.{EndsInOrder, IsOrderedDemo}
 use Rattle.grbl_app.proofs.Tasks.{no_stream, same_form, same_moves, same_order}
@@ -69,9 +69,6 @@ returns-in-Err-Refused-clause-source_fault g c = λ order form asks e. absurd (s
 pub returns-in-Err-Refused-clause-too_large : goal.returns-in-Err-Refused-clause-too_large
 returns-in-Err-Refused-clause-too_large g c = λ order form asks e. absurd (subst JobWasRun (sym e) tt)
 
-pub returns-in-Err-Refused-clause-reset : goal.returns-in-Err-Refused-clause-reset
-returns-in-Err-Refused-clause-reset g c = λ order form asks e. absurd (subst JobWasRun (sym e) tt)
-
 pub returns-in-Err-Refused-clause-console_fault : goal.returns-in-Err-Refused-clause-console_fault
 returns-in-Err-Refused-clause-console_fault g c = λ e. absurd (subst JobWasRun (sym e) tt)
 
@@ -122,9 +119,6 @@ returns-in-Err-OutOfMemory-clause-source_fault g c = λ order form asks e. absur
 
 pub returns-in-Err-OutOfMemory-clause-too_large : goal.returns-in-Err-OutOfMemory-clause-too_large
 returns-in-Err-OutOfMemory-clause-too_large g c = λ order form asks e. absurd (subst JobWasRun (sym e) tt)
-
-pub returns-in-Err-OutOfMemory-clause-reset : goal.returns-in-Err-OutOfMemory-clause-reset
-returns-in-Err-OutOfMemory-clause-reset g c = λ order form asks e. absurd (subst JobWasRun (sym e) tt)
 
 pub returns-in-Err-OutOfMemory-clause-console_fault : goal.returns-in-Err-OutOfMemory-clause-console_fault
 returns-in-Err-OutOfMemory-clause-console_fault g c = λ e. absurd (subst JobWasRun (sym e) tt)
@@ -177,9 +171,6 @@ returns-in-Err-clause-source_fault g c = λ order form asks e. absurd (subst Job
 pub returns-in-Err-clause-too_large : goal.returns-in-Err-clause-too_large
 returns-in-Err-clause-too_large g c = λ order form asks e. absurd (subst JobWasRun (sym e) tt)
 
-pub returns-in-Err-clause-reset : goal.returns-in-Err-clause-reset
-returns-in-Err-clause-reset g c = λ order form asks e. absurd (subst JobWasRun (sym e) tt)
-
 pub returns-in-Err-clause-console_fault : goal.returns-in-Err-clause-console_fault
 returns-in-Err-clause-console_fault g c = λ e. absurd (subst JobWasRun (sym e) tt)
 
@@ -230,9 +221,6 @@ returns-in-Err-run_demo-clause-source_fault g c = λ order form asks e. absurd (
 
 pub returns-in-Err-run_demo-clause-too_large : goal.returns-in-Err-run_demo-clause-too_large
 returns-in-Err-run_demo-clause-too_large g c = λ order form asks e. absurd (subst JobWasRun (sym e) tt)
-
-pub returns-in-Err-run_demo-clause-reset : goal.returns-in-Err-run_demo-clause-reset
-returns-in-Err-run_demo-clause-reset g c = λ order form asks e. absurd (subst JobWasRun (sym e) tt)
 
 pub returns-in-Err-run_demo-clause-console_fault : goal.returns-in-Err-run_demo-clause-console_fault
 returns-in-Err-run_demo-clause-console_fault g c = λ e. absurd (subst JobWasRun (sym e) tt)
@@ -288,9 +276,6 @@ returns-in-Ok-stream-clause-steps_fault g c = c.in-Ok-stream.ensures.causes.step
 pub returns-in-Ok-stream-clause-too_large : goal.returns-in-Ok-stream-clause-too_large
 returns-in-Ok-stream-clause-too_large g c = λ order form asks e. c.in-Ok-stream.ensures.causes.large e
 
-pub returns-in-Ok-stream-clause-reset : goal.returns-in-Ok-stream-clause-reset
-returns-in-Ok-stream-clause-reset g c = λ order form asks e. c.in-Ok-stream.ensures.causes.reset e
-
 pub returns-in-Ok-stream-clause-long_line : goal.returns-in-Ok-stream-clause-long_line
 returns-in-Ok-stream-clause-long_line g c = λ order form k asks e. c.in-Ok-stream.ensures.causes.long k e
 
@@ -324,9 +309,6 @@ returns-in-Ok-run_demo-clause-source_fault g c = λ order form asks. absurd (no_
 
 pub returns-in-Ok-run_demo-clause-too_large : goal.returns-in-Ok-run_demo-clause-too_large
 returns-in-Ok-run_demo-clause-too_large g c = λ order form asks. absurd (no_stream (map (λ w. w.now) c.args.words.now) order form c.in-Demo.moves (subst (λ task. Asks task (map (λ w. w.now) c.args.words.now)) c.in-Demo.is c.in-Ok.ensures.asked) asks)
-
-pub returns-in-Ok-run_demo-clause-reset : goal.returns-in-Ok-run_demo-clause-reset
-returns-in-Ok-run_demo-clause-reset g c = λ order form asks. absurd (no_stream (map (λ w. w.now) c.args.words.now) order form c.in-Demo.moves (subst (λ task. Asks task (map (λ w. w.now) c.args.words.now)) c.in-Demo.is c.in-Ok.ensures.asked) asks)
 
 pub returns-in-Ok-run_demo-clause-its_cause : goal.returns-in-Ok-run_demo-clause-its_cause
 returns-in-Ok-run_demo-clause-its_cause g c = λ order form asks. absurd (no_stream (map (λ w. w.now) c.args.words.now) order form c.in-Demo.moves (subst (λ task. Asks task (map (λ w. w.now) c.args.words.now)) c.in-Demo.is c.in-Ok.ensures.asked) asks)

@@ -4,8 +4,8 @@ use Rattle.std.specs.Result.{is_ok, is_err}
 use Rattle.std.proofs.Common.{List, ℕ}
 use Rattle.outside.specs.Writing.{Took}
 use Rattle.step_record.specs.declared.forms.Form.TheVariants.{One}
-use Rattle.run_law.specs.Runs.{IsRun}
-use Rattle.run_law.specs.Devices.{devices}
+use Rattle.epoch_law.specs.Runs.{IsRun}
+use Rattle.epoch_law.specs.Devices.{devices}
 use Rattle.actor_turns.specs.Orders.{IsLockstepRun}
 use Rattle.run_status.specs.Demos.{generated, keeps_nothing}
 use Rattle.run_status.proofs.Accepted.{runs_whole}
