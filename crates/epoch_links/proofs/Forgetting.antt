@@ -27,7 +27,7 @@ use Rattle.epoch_links.proofs.Answers.{Totals, totals, length-totals}
 use Rattle.epoch_links.proofs.Answers.Totals.{no_banner, banners}
 use Rattle.epoch_links.proofs.Carrying.{same_front, same_rest}
 use Rattle.epoch_links.proofs.Cutting.{none_by_length}
-use Rattle.epoch_links.proofs.Dropping.{bytes_more, each_few, few_dropped, link_append, own_bytes, same_by, same_told, told_more}
+use Rattle.epoch_links.proofs.Dropping.{AreSame, bytes_more, each_few, few_dropped, link_append, own_bytes, same_by, same_told, told_more}
 use Rattle.epoch_links.proofs.Moments.{bytes_taken, answers_given, counts_of}
 
 -- ---- lists
@@ -135,16 +135,24 @@ module _ (host : hosts.Journal) (state : State) (hc : HostConducted host) where
   front_of bytes rest e = sym (append_assoc bytes rest (hosts.to_store host)) ∙ ap (λ (t : List ℕ). t ++ hosts.to_store host) (sym e) ∙ stored_is host hc
 
   -- as many epochs are closed as ended
-  all_ended : (es : NewestFirst Closed) → AreClosed state es → (m : Meets host es) → m.behind.more ≡ [] → DropFew es
-  all_ended es c m none =
+  same_ends : (es : NewestFirst Closed) → (m : Meets host es) → m.behind.more ≡ [] → AreSame (ended_of host) es
+  same_ends es m none =
       let e = ending host hc in
       let told : counts_of answers_given es ≡ totals (ended_of host) = m.behind.are ∙ ap (λ (ns : List ℕ). ns ++ totals (ended_of host)) none in
       let long : length (counts_of bytes_taken es) ≡ length e.1 =
       (let a = ap length told in let b = length-counts answers_given es in let d = length-counts bytes_taken es in let f = length-totals (ended_of host) in let g = length-ended e.1 (ended_of host) e.3 in omega arith) in
       let ends = same_end (hosts.marks_of host) m.left (counts_of bytes_taken es) e.0 e.1 m.marks_are e.2 long in
-      each_few state (ended_of host) es c
-      (same_by (on_link (hosts.cut_of host)) (ended_of host) es e.1 (m.rest ++ hosts.to_store host) (on_link (lines_now host)) e.3 ends told (front_of (taken_in (closed_log es)) m.rest m.front) lines_are)
-      (epochs_are host hc).over
+      same_by (on_link (hosts.cut_of host)) (ended_of host) es e.1 (m.rest ++ hosts.to_store host) (on_link (lines_now host)) e.3 ends told (front_of (taken_in (closed_log es)) m.rest m.front) lines_are
+
+  all_ended : (es : NewestFirst Closed) → AreClosed state es → (m : Meets host es) → m.behind.more ≡ [] → DropFew es
+  all_ended es c m none = each_few state (ended_of host) es c (same_ends es m none) (epochs_are host hc).over
+
+  pub meets_same : (es : NewestFirst Closed) → (m : Meets host es) → length (ended_of host) ≡ length es → AreSame (ended_of host) es
+  meets_same es m many =
+      let all = ap length m.behind.are ∙ length-append m.behind.more (totals (ended_of host)) in
+      let counts = length-counts answers_given es in
+      let ended = length-totals (ended_of host) in
+      same_ends es m (none_by_length m.behind.more (omega (arith, many, all, counts, ended)))
 
   -- one more is closed: the latest mark is its own, and has no Banner yet
   one_closed : (x : ℕ) (e : Closed) (es : NewestFirst Closed) → AreClosed state (e ∷ es) → (m : Meets host (e ∷ es)) → m.behind.more ≡ x ∷ [] → DropFew (e ∷ es)

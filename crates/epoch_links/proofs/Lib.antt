@@ -9,6 +9,7 @@ pub mod Joining
 pub mod Leaving
 pub mod Answers
 pub mod Dropping
+pub mod Forgotten
 pub mod Forgetting
 pub mod Meeting
 pub mod Asking

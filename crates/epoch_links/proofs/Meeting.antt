@@ -1,5 +1,5 @@
 -- A host and a board whose lists go together: what a reset drops is few.
-use Rattle.std.proofs.Common.{◌≡◌, ◌⊎◌, inl, inr, ℕ, ◌+◌, ◌≤◌, List, [], ◌∷◌, ◌++◌, length, reverse, append_assoc, refl, sym, ap, ◌∙◌, subst, arith}
+use Rattle.std.proofs.Common.{◌≡◌, ◌⊎◌, inl, inr, ℕ, ◌+◌, ◌≤◌, List, [], ◌∷◌, ◌++◌, length, map, reverse, append_assoc, refl, sym, ap, ◌∙◌, subst, arith}
 use Rattle.std.specs.List.{AllByRecursion}
 use Rattle.std.proofs.lemmas.List.{reverse-append, reverse-reverse}
 use Rattle.run_rules.specs.declared.State.{State}
@@ -19,14 +19,15 @@ use Rattle.board_rules.proofs.Greeting.{banners_in}
 use Rattle.board_epochs.specs.Epochs.{Closed, Epochs, AreClosed, AreEpochs, closed_log, log_behind, log_of, opening_behind, last_line}
 use Rattle.board_epochs.specs.Epochs.Epochs.{goes, resets}
 use Rattle.board_epochs.proofs.Onto.{steps_on, taken_on}
-use Rattle.epoch_links.specs.Drops.{AreAnsweredOver, DropFew, closed_of}
+use Rattle.epoch_links.specs.Drops.{AreAnsweredOver, DropFew, closed_of, dropped_by, lines_among}
 use Rattle.serial_ring.specs.Logs.{at_banners}
 use Rattle.epoch_links.specs.Links.{AreLinkedOver, EndAtMarks}
 use Rattle.epoch_links.specs.Taken.{taken_before}
 use Rattle.epoch_links.proofs.Answers.{GoOn, answers_before, answers_got, before_banners, first_got, go_on, totals_are}
 use Rattle.epoch_links.proofs.Dropping.{no_answers}
 use Rattle.epoch_links.proofs.Ending.{ends_are}
-use Rattle.epoch_links.proofs.Forgetting.{Behind, Meets, counts_behind, meets_few}
+use Rattle.epoch_links.proofs.Forgetting.{Behind, Meets, counts_behind, meets_few, meets_same}
+use Rattle.epoch_links.proofs.Forgotten.{dropped_same, forgotten_is}
 use Rattle.epoch_links.proofs.Joining.{cut_over}
 use Rattle.epoch_links.proofs.Moments.{Greets, bytes_taken, answers_given, answers_calm, counts_of, first_moment, linked_answers, open_moments, work_moments}
 use Rattle.epoch_links.proofs.Moments.Greets.{greeted, ungreeted}
@@ -124,9 +125,15 @@ meets host state (resets es h w) c are linked answered =
           (ap (at_banners answers_given) steps ∙ work_moments answers_given (last_line first h) lb w (link_steps lb) are.1.works) (λ none. same ∙ quiet first es h is none) f.1;
     }
 
+closed_in : (state : State) (r : Epochs) → AreEpochs state r → AreClosed state (closed_of r)
+closed_in state (goes es h) are = are.0
+closed_in state (resets es h w) are = are.0
+
 pub drops_few : (host : hosts.Journal) (state : State) (r : Epochs) → HostConducted host → AreEpochs state r → AreLinkedOver host r → AreAnsweredOver host r → DropFew (closed_of r)
-drops_few host state r c are linked answered = meets_few host state c (closed_of r) (closed_in r are) (meets host state r c are linked answered)
-  where
-    closed_in : (r : Epochs) → AreEpochs state r → AreClosed state (closed_of r)
-    closed_in (goes es h) are = are.0
-    closed_in (resets es h w) are = are.0
+drops_few host state r c are linked answered = meets_few host state c (closed_of r) (closed_in state r are) (meets host state r c are linked answered)
+
+-- where the host has ended as many epochs, it has forgotten as many lines
+pub forgets_dropped : (host : hosts.Journal) (state : State) (r : Epochs) → HostConducted host → AreEpochs state r → AreLinkedOver host r → AreAnsweredOver host r
+    → length (ended_of host) ≡ length (closed_of r) → hosts.forgotten_of host ≡ lines_among (map dropped_by (closed_of r))
+forgets_dropped host state r c are linked answered many =
+    forgotten_is host c ∙ sym (dropped_same state (ended_of host) (closed_of r) (closed_in state r are) (meets_same host state c (closed_of r) (meets host state r c are linked answered) many))

@@ -1,5 +1,5 @@
 -- What the resets of a board drop.
-use Rattle.std.specs.Prelude.{◌≡◌, ℕ, ◌≤◌, List, [], ◌∷◌, length, drop}
+use Rattle.std.specs.Prelude.{◌≡◌, ℕ, ◌+◌, ◌≤◌, List, [], ◌∷◌, length, drop}
 use Rattle.std.specs.List.{AllByRecursion}
 use Rattle.run_rules.specs.Lines.{ended, whole_lines}
 use Rattle.run_texts.specs.Courses.{Passed}
@@ -26,6 +26,11 @@ dropped_by e = drop (answers_in (answered_of e.journal)) (whole_lines (taken_clo
 -- those of each take 128 bytes at most, each with its LF
 abbrev pub DropFew : NewestFirst Closed → Type 0
 DropFew es = AllByRecursion (λ e. length (ended (dropped_by e)) ≤ receive_room) es
+
+-- how many lines these are together
+abbrev pub lines_among : List (List (List ℕ)) → ℕ
+lines_among [] = 0
+lines_among (lines ∷ more) = length lines + lines_among more
 
 -- the replies that a host has got are the first of those that a board has answered
 abbrev pub AreAnsweredOver : hosts.Journal → Epochs → Type 0

@@ -17,13 +17,14 @@ ghost use Rattle.status_report.specs.declared.Reply.{Reply as AnyReply};
 ghost use Rattle.step_line.specs.Logs.{NewestFirst};
 ghost use Rattle.stream_host.specs.Conduct.{Conducted as HostConducted};
 ghost use Rattle.stream_host.specs.Ports.{PortsAgree};
-ghost use Rattle.stream_host.specs.Steps.{Journal as HostJournal, port_log, stored_of, stored_at_banners, marks_of, is_shut, has_limit, cut_of, raw_of, resets_of};
+ghost use Rattle.stream_host.specs.Steps.{Journal as HostJournal, forgotten_of, port_log, stored_of, stored_at_banners, marks_of, is_shut, has_limit, cut_of, raw_of, resets_of};
 ghost use Rattle.board_rules.specs.Ports.{taken_in, link_steps, has_closed_in};
 ghost use Rattle.board_epochs.specs.Epochs.{Closed, Epochs, AreClosed, AreEpochs, closed_log, log_of};
 ghost use Rattle.epoch_links.specs.Links.{AreLinked, AreLinkedOver, AwaitsBanners, HasBanners, EndsEpochs, EndAtMarks, EndsHave, AreLastAtMost};
 ghost use Rattle.epoch_links.specs.Pieces.{Pieces, joined, ends_behind, texts_in, items_closed, items_in, IsFrontOf, IsAllOf};
 ghost use Rattle.epoch_links.specs.Taken.{taken_closed, taken_before, taken_by, resets_asked};
-ghost use Rattle.epoch_links.specs.Drops.{AreAnsweredOver, DropFew, PassesLines, closed_of};
+ghost use Rattle.epoch_links.specs.Drops.{AreAnsweredOver, DropFew, PassesLines, closed_of, dropped_by, lines_among};
+ghost use Rattle.stream_host.specs.Epochs.{ended_of};
 
 /// A host stores and marks a front of its lines and the resets among them: the lines that it has cut, and the resets of what is
 /// scanned of the next. It awaits a Banner of each mark. If it has closed its link, and no alarm of a limit was got, it has stored and
@@ -96,10 +97,12 @@ pub fn links_carry_lines_and_resets()
 
 /// The lines that one reset of a board drops, each with its LF, take 128 bytes at most: those of a closed epoch that have no answer.
 /// They are those that the host forgets at the Banner, or that it will forget there but for some that are answered. So the resets of a
-/// course drop few lines, epoch by epoch.
+/// course drop few lines, epoch by epoch. Once the host has ended as many epochs, it has forgotten as many lines.
 pub fn resets_drop_few_lines()
     ensures course { (room : ℕ) (lines dropped : List (List ℕ)) (passed : List Passed) (r : Reset) (sent : List Sent) (course : List Passed) →
         PassesLines lines passed dropped → length (ended dropped) ≤ room → DropsAreFew room 0 sent course →
         DropsAreFew room 0 (map a_text lines ++ a_stop ∷ sent) (passed ++ a_reset r ∷ course) }
     ensures run { (host : HostJournal) (state : State) (r : Epochs) → HostConducted host → AreEpochs state r → AreLinkedOver host r → AreAnsweredOver host r → DropFew (closed_of r) }
+    ensures forgotten { (host : HostJournal) (state : State) (r : Epochs) → HostConducted host → AreEpochs state r → AreLinkedOver host r → AreAnsweredOver host r →
+        length (ended_of host) ≡ length (closed_of r) → forgotten_of host ≡ lines_among (map dropped_by (closed_of r)) }
 {}

@@ -135,6 +135,11 @@ pub ran_lines : (h : Journal) (job_was job_is : SourceState) (console_was consol
 unfolding has_run_of
 ran_lines h job_was job_is console_was console_is c finished job console = refl
 
+pub ran_forgotten : (h : Journal) (job_was job_is : SourceState) (console_was console_is : SinkState) (c : Conducted h) (finished : HasFinished h) (job : TellsJob h job_was job_is) (console : TellsConsole h console_was console_is)
+    → (has_run_of h job_was job_is console_was console_is c finished job console).0.forgotten ≡ forgotten_of h
+unfolding has_run_of
+ran_forgotten h job_was job_is console_was console_is c finished job console = refl
+
 pub has_run : (h : Journal) (job_was job_is : SourceState) (console_was console_is : SinkState) → Conducted h → HasFinished h → TellsJob h job_was job_is → TellsConsole h console_was console_is
     → HostRan job_was job_is console_was console_is (stored_of h) (marks_of h) (is_shut h) (raises_of h) (got_of h) (end_of h)
 has_run h job_was job_is console_was console_is c finished job console = (has_run_of h job_was job_is console_was console_is c finished job console).0
