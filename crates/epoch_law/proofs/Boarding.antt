@@ -29,7 +29,7 @@ use Rattle.board_rules.proofs.Closing.{no_more_ticks, spent}
 use Rattle.board_rules.proofs.Keeping.{hand_is}
 use Rattle.board_epochs.specs.Epochs.{Closed, AreEpochs, log_of, log_on, opening_behind, point_of}
 use Rattle.board_epochs.specs.Epochs.Epochs.{goes}
-use Rattle.epoch_courses.specs.Course.{course_of, passed_so_far, point_behind}
+use Rattle.epoch_courses.specs.Course.{course_of, is_unanswered, passed_so_far, point_behind}
 use Rattle.epoch_courses.specs.Drives.{drives_of}
 use Rattle.epoch_courses.specs.Taken.{texts_in, bytes_with, bytes_behind, closed_texts, sent_by}
 use Rattle.epoch_courses.specs.Told.{answered_by, without_byes}
@@ -61,6 +61,7 @@ use Rattle.epoch_law.specs.Journals.{board_did}
 use Rattle.epoch_law.specs.Ran.{BoardRan, AreMade}
 use Rattle.epoch_law.proofs.Published.{before_all, none_before}
 use Rattle.epoch_law.proofs.Dropping.{drops_closed, none_dropped, none_passed}
+use Rattle.epoch_law.proofs.Losing.{all_banners, all_lost}
 
 -- ---- what was taken
 
@@ -121,11 +122,13 @@ module _ (state : State) (es : NewestFirst Closed) (h : Journal) (c : AreEpochs 
       by_cause (inl found) = closed_on _ (port_log h) _ found
       by_cause (inr limited) = opposite (has_limited h) limited (sym (alarmed_is first h) ∙ sym (same_but made first h).alarmed ∙ calm)
 
+  open_leads : LeadsTo (point_of first) (texts_in (taken_of h)) (passed_so_far made first h) (point_behind made first h) (texts_in (bytes_behind h))
+  open_leads =
+      subst (λ (ss : List Sent). LeadsTo (point_of first) ss (passed_so_far made first h) (point_behind made first h) (texts_in (bytes_behind h))) (sym (texts_now first h c.1.conducted))
+      (epoch_leads made first h (texts_in (bytes_behind h)) c.1.conducted known)
+
   open_drops : (room : ℕ) → DropsAreFew room 0 (texts_in (taken_of h)) (passed_so_far made first h)
-  open_drops room =
-      none_dropped room 0 (point_of first) (point_behind made first h) (texts_in (taken_of h)) (texts_in (bytes_behind h)) (passed_so_far made first h) (none_passed false made first h)
-      (subst (λ (ss : List Sent). LeadsTo (point_of first) ss (passed_so_far made first h) (point_behind made first h) (texts_in (bytes_behind h))) (sym (texts_now first h c.1.conducted))
-      (epoch_leads made first h (texts_in (bytes_behind h)) c.1.conducted known))
+  open_drops room = none_dropped room 0 (point_of first) (point_behind made first h) (texts_in (taken_of h)) (texts_in (bytes_behind h)) (passed_so_far made first h) (none_passed false made first h) open_leads
 
   drops : (room : ℕ) → AllByRecursion (λ ls. length (ended ls) ≤ room) (map dropped_by es) → DropsAreFew room 0 (items_in (taken_by (goes es h))) (course_of state made (goes es h))
   drops room few =
@@ -143,6 +146,9 @@ module _ (state : State) (es : NewestFirst Closed) (h : Journal) (c : AreEpochs 
     closes = closes;
     ends = (let e = ends_epochs state (goes es h) c in subst (λ (bytes : List ℕ). EndsEpochs (taken_by (goes es h)) bytes (board_did (goes es h)).loaded (board_did (goes es h)).at_answers) e.whole e);
     causes = subst (λ (ss : List Sent). CutsHaveCauses (opening state) ss (course_of state made (goes es h))) (all_items es h) (cuts_caused state made (goes es h) c known);
+    lost = all_lost state es (point_of first) (point_behind made first h) (texts_in (taken_of h)) (texts_in (bytes_behind h)) (passed_so_far made first h) c.0 (none_passed false made first h) open_leads refl;
+    greets = all_banners state es (opening state) (point_behind made first h) (items_in (taken_by (goes es h))) [] (passed_so_far made first h)
+        (λ m e before. none_passed (is_unanswered e.journal) m (opening_behind state before) e.journal) (none_passed false made first h) leads;
     drops = drops;
     console = subst (λ (rs : List Reply). IsTold (course_of state made (goes es h)) rs) (sym said) (console_tells state made es h behind c over said);
     told = finished_tell state made es h c over;

@@ -1,6 +1,7 @@
 -- Two ends of a link are connected.
-use Rattle.std.proofs.Common.{ℕ, ◌≤◌, List, [], ◌∷◌, length, map, subst}
+use Rattle.std.proofs.Common.{ℕ, ◌≤◌, List, [], ◌∷◌, length, map, subst, arith}
 use Rattle.std.specs.List.{AllByRecursion}
+use Rattle.std.proofs.lemmas.List.{length-map}
 use Rattle.realtime_flags.specs.Bits.{IsBalanced}
 use Rattle.run_law.proofs.Changing.{words_were_raised}
 use Rattle.run_law.proofs.Resetting.{taken_were_raised}
@@ -10,6 +11,7 @@ use Rattle.status_report.specs.Answering.{receive_room}
 use Rattle.step_line.specs.Logs.{NewestFirst}
 use Rattle.stream_host.specs.Conduct.{Conducted}
 use Rattle.stream_host.specs.Raises.{raises_in}
+use Rattle.stream_host.proofs.Cutting.{epochs_are}
 use Rattle.stream_host.specs.Steps as hosts
 use Rattle.board_rules.specs.Ports as ports
 use Rattle.board_rules.specs.Takes.{takes_in}
@@ -18,7 +20,7 @@ use Rattle.epoch_effects.specs.Words.{words_taken}
 use Rattle.epoch_links.specs.Drops.{AreAnsweredOver, DropFew, closed_of, dropped_by}
 use Rattle.epoch_links.specs.Links.{AreLinked, AreLinkedOver}
 use Rattle.epoch_links.proofs.Ending.{ends_epochs}
-use Rattle.epoch_links.proofs.Meeting.{drops_few}
+use Rattle.epoch_links.proofs.Meeting.{drops_few, forgets_dropped}
 use Rattle.epoch_law.specs.Joined.{AreConnected, AreRaisedFor}
 use Rattle.epoch_law.specs.Journals.{host_did, board_did}
 
@@ -31,6 +33,7 @@ connected host state r c are linked answered raised = record {
   link = subst (λ (bytes : List ℕ). AreLinked (host_did host).stored (host_did host).marks (host_did host).at_got (host_did host).shut bytes (board_did r).loaded (board_did r).at_answers (board_did r).closed) (ends_epochs state r are).whole linked;
   flags = raised;
   few = each_few (closed_of r) (drops_few host state r c are linked answered);
+  lost = λ many. forgets_dropped host state r c are linked answered (let begun = (epochs_are host c).begun in let all = length-map (closed_of r) dropped_by in omega (arith, many, begun, all));
 }
 
 -- ---- words of flags

@@ -112,7 +112,7 @@ passes p last (l ∷ lines) more left (a_broken o ∷ ps) none f =
     (ap (λ (os : List Outcome). drop (length os) (l ∷ lines)) (cuts_answer_none ps cuts), cuts)
 
 -- no line raises an alarm before a calm point
-no_limits : (p last : Point) (sent left : List Sent) (ps : List Passed) → LeadsTo p sent ps last left → last.before.alarmed ≡ false → limits_in (lines_in ps) ≡ 0
+pub no_limits : (p last : Point) (sent left : List Sent) (ps : List Passed) → LeadsTo p sent ps last left → last.before.alarmed ≡ false → limits_in (lines_in ps) ≡ 0
 no_limits p last sent left [] f calm = refl
 no_limits p last sent left (a_cut k at ∷ ps) f calm = no_limits (behind_cut at p) last sent left ps f.1 calm
 no_limits p last sent left (a_reset r ∷ ps) f calm = no_limits (behind_the_reset r p) last (behind_reset sent) left ps f.1 calm
@@ -143,8 +143,8 @@ module _ (made : ℕ) (first : Opening) (e : Closed) (is : IsEpoch first e.journ
       ∙ append_assoc (map a_text (lines_of e.journal)) (texts_in (bytes_behind e.journal ++ taken_in (port_log e.work))) (a_stop ∷ more)))
       (comes_there made first e.journal left is may known).leads
 
-  answered : answers_in (answered_of e.journal) ≡ length (lines_in (passed_at_reset made first e.journal))
-  answered =
+  pub answered_there : answers_in (answered_of e.journal) ≡ length (lines_in (passed_at_reset made first e.journal))
+  answered_there =
       let told = ap answers_in (told_at_end made first e.journal is may) in
       let same = answers_without (answered_of e.journal) in
       let both = answers_on first.tells (told_in (passed_at_reset made first e.journal)) in
@@ -157,7 +157,7 @@ module _ (made : ℕ) (first : Opening) (e : Closed) (is : IsEpoch first e.journ
       → DropsAreFew room 0 (map a_text lines ++ a_stop ∷ more) (passed_at_reset made first e.journal ++ a_reset (reset_of base first e.journal e.work) ∷ course)
   drops_one room base course few rest =
       course_drops room lines (dropped_by e) (passed_at_reset made first e.journal) (reset_of base first e.journal e.work) more course
-      (subst (λ (n : ℕ). PassesLines lines (passed_at_reset made first e.journal) (drop n lines)) (sym answered)
+      (subst (λ (n : ℕ). PassesLines lines (passed_at_reset made first e.journal) (drop n lines)) (sym answered_there)
       (passes (point_of first) (point_at_reset made first e.journal) lines more left (passed_at_reset made first e.journal) (none_passed (is_unanswered e.journal) made first e.journal) leads))
       few rest
 

@@ -13,7 +13,7 @@ use Rattle.stream_host.specs.Ran.{HasFinished, TellsConsole, end_of}
 use Rattle.stream_host.specs.Hosts.{TellsJob}
 use Rattle.stream_host.specs.Steps.{Journal, is_shut, has_limit, scanned_of, cut_of, raw_of, stored_of, marks_of}
 use Rattle.stream_host.proofs.Keeping.{IsCut, cut_is}
-use Rattle.stream_host.proofs.Running.{has_run_of, ran_lines, runs_of}
+use Rattle.stream_host.proofs.Running.{has_run_of, ran_lines, runs_of, ran_forgotten}
 use Rattle.epoch_links.specs.Pieces.{IsFrontOf}
 use Rattle.epoch_links.proofs.Awaiting.{awaits, all_got, got_or_all}
 use Rattle.epoch_links.proofs.Sending.{sends_front, sends_all}
@@ -71,6 +71,7 @@ host_sent h job_was job_is console_was console_is c finished job console =
           greeted = λ out. let s = sent_shut (is_shut h) (has_limit h) out in all_got h c s.0 s.1;
           whole = λ out. let s = sent_shut (is_shut h) (has_limit h) out in sends_all h c s.0 s.1;
         });
+        forgotten = ran_forgotten h job_was job_is console_was console_is c finished job console;
       },
       ran.1,
     )

@@ -7,6 +7,7 @@ pub mod Ending
 pub mod Fitting
 pub mod Making
 pub mod Dropping
+pub mod Losing
 pub mod Having
 pub mod Published
 pub mod Boarding

@@ -31,7 +31,7 @@ use Rattle.epoch_law.specs.Runs.{IsToldAndAnswered, IsRunAndRecorded, HasEffects
 use Rattle.epoch_law.proofs.Causing.{causes_with_more, drops_with_more}
 use Rattle.epoch_law.proofs.Ending.{all_ended, one_end}
 use Rattle.epoch_law.proofs.Fitting.{texts_fit, put_of_epochs, put_recorded, alarm_got, more_comes, is_out}
-use Rattle.epoch_law.proofs.Marking.{each_greeted}
+use Rattle.epoch_law.proofs.Marking.{banners_got, each_greeted}
 use Rattle.epoch_law.proofs.Sending.{cancels_scanned, reports_scanned, epochs_scanned, all_cancels, all_asked}
 
 errors_on : (rs ss : List Reply) → errors_among (rs ++ ss) ≡ errors_among rs + errors_among ss
@@ -126,10 +126,11 @@ module _ (form : Form) (job_was job_is : SourceState) (was is : Sinks) (end : Ho
         (drops_with_more receive_room 0 (opening board.first) board.last (items_in b.taken) [] more board.course board.leads (board.drops receive_room connected.few));
   }
 
-  ending : HasEnded job_was job_is (run_end end steps_failed) host.ran.reading host.ran.scanned host.ran.forgotten h.got
+  ending : HasEnded job_was job_is (run_end end steps_failed) host.ran.reading host.ran.scanned host.ran.forgotten board.course h.got
   ending = record {
+    lost = board.lost ∙ sym (connected.lost (banners_got h.got (told_in board.course) told ∙ ap (λ n. n + 1) board.greets)) ∙ sym host.forgotten;
     stop = host.ran.stop;
-    greeted = λ calm. each_greeted job_was job_is was.console is.console h end host.ran (told_in board.course ++ Bye ∷ []) (sent_out calm) told;
+    greeted = λ calm. each_greeted job_was job_is was.console is.console h end host.ran (told_in board.course) (sent_out calm) told;
     failed = host.ran.failed;
     source = host.ran.source;
     source_same = host.ran.source_same;

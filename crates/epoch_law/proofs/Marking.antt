@@ -1,5 +1,5 @@
 -- Once all is sent out, each reset that was scanned has its Banner.
-use Rattle.std.proofs.Common.{◌≡◌, ℕ, ◌+◌, ◌-◌, ◌≤◌, Bool, true, false, cond, List, [], ◌∷◌, length, sym, refl, ap, ◌∙◌, arith}
+use Rattle.std.proofs.Common.{◌≡◌, ℕ, ◌+◌, Bool, true, false, cond, List, [], ◌∷◌, ◌++◌, length, sym, refl, ap, ◌∙◌, arith}
 use Rattle.std.specs.List.{count_by, filter, flat_map}
 use Rattle.std.proofs.lemmas.List.{length-append, length-map, length-reverse}
 use Rattle.std.proofs.lemmas.List.Sums.{sum_by-cons, sum_by-append}
@@ -8,7 +8,8 @@ use Rattle.run_rules.specs.Lines.{lines_of}
 use Rattle.stream_host.specs.Epochs.{Epoch, AreEnds}
 use Rattle.status_report.specs.Answering.{is_banner, is_plain, without_reports}
 use Rattle.status_report.specs.declared.Reply.{Reply}
-use Rattle.status_report.specs.declared.Reply.TheVariants.{Banner}
+use Rattle.status_report.specs.declared.Reply.TheVariants.{Banner, Bye}
+use Rattle.status_report.specs.declared.Reply.TheVariants as replies
 use Rattle.stream_host.specs.Jobs.{is_reset, served, marks_at, marks_behind, sent_text, resets_scanned}
 use Rattle.stream_host.specs.Links.{banners_in}
 use Rattle.stream_host.specs.Ran.{HostEnd, HostRan, is_sent_out}
@@ -46,30 +47,37 @@ ends_count (m ∷ ms) (e ∷ es) are = let i = ends_count ms es are.1 in omega (
 banners_first : (r : Reply) (rs : List Reply) → banners_in (r ∷ rs) ≡ cond (is_banner r) 1 0 + banners_in rs
 banners_first r rs = sum_by-cons (λ (x : Reply). cond (is_banner x) 1 0) r rs
 
-fewer_plain : (rs : List Reply) → banners_in (without_reports rs) ≤ banners_in rs
-fewer_plain [] = omega arith
-fewer_plain (r ∷ rs) = by_test (is_plain r) (banners_first r rs) (banners_first r (without_reports rs)) (fewer_plain rs)
-  where
-    by_test : (t : Bool) → banners_in (r ∷ rs) ≡ cond (is_banner r) 1 0 + banners_in rs → banners_in (r ∷ without_reports rs) ≡ cond (is_banner r) 1 0 + banners_in (without_reports rs)
-        → banners_in (without_reports rs) ≤ banners_in rs → banners_in (cond t (r ∷ without_reports rs) (without_reports rs)) ≤ banners_in (r ∷ rs)
-    by_test true all plain fewer = omega (arith, all, plain, fewer)
-    by_test false all plain fewer = omega (arith, all, fewer)
+report_no_banner : (r : Reply) → is_plain r ≡ false → ◌≡◌ {A = ℕ} (cond (is_banner r) 1 0) 0
+report_no_banner (replies.Report t) e = refl
+report_no_banner _ e = absurd cc
 
--- a console that begins with the banner, reports left out, has one
-some_banner : (rs behind : List Reply) → without_reports rs ≡ Banner ∷ behind → 1 ≤ banners_in rs
-some_banner rs behind told =
-    let plain = ap banners_in told in
-    let first : banners_in (Banner ∷ behind) ≡ 1 + banners_in behind = banners_first Banner behind in
-    omega (arith, plain, first, fewer_plain rs)
+-- reports are no Banners
+plain_banners : (rs : List Reply) → banners_in (without_reports rs) ≡ banners_in rs
+plain_banners [] = refl
+plain_banners (r ∷ rs) = by_test (is_plain r) refl (banners_first r rs) (banners_first r (without_reports rs)) (plain_banners rs)
+  where
+    by_test : (t : Bool) → is_plain r ≡ t → banners_in (r ∷ rs) ≡ cond (is_banner r) 1 0 + banners_in rs → banners_in (r ∷ without_reports rs) ≡ cond (is_banner r) 1 0 + banners_in (without_reports rs)
+        → banners_in (without_reports rs) ≡ banners_in rs → banners_in (cond t (r ∷ without_reports rs) (without_reports rs)) ≡ banners_in (r ∷ rs)
+    by_test true e all plain same = omega (arith, all, plain, same)
+    by_test false e all plain same = omega (arith, all, same, report_no_banner r e)
+
+-- where a course was told behind the banner, and Bye behind it, a Banner of each of its resets was got, and the first
+pub banners_got : (rs told : List Reply) → without_reports rs ≡ Banner ∷ (told ++ Bye ∷ []) → banners_in rs ≡ banners_in told + 1
+banners_got rs told is =
+    let plain = plain_banners rs in
+    let all = ap banners_in is in
+    let first : banners_in (Banner ∷ (told ++ Bye ∷ [])) ≡ 1 + banners_in (told ++ Bye ∷ []) = banners_first Banner (told ++ Bye ∷ []) in
+    let both : banners_in (told ++ Bye ∷ []) ≡ banners_in told + 0 = sum_by-append (λ (r : Reply). cond (is_banner r) 1 0) told (Bye ∷ []) in
+    omega (arith, plain, all, first, both)
 
 -- so each reset has one, behind the first
-pub each_greeted : (job_was job_is : SourceState) (console_was console_is : SinkState) (h : HostDid) (end : HostEnd) (ran : HostRan job_was job_is console_was console_is h.stored h.marks h.shut h.raised h.got end) (behind : List Reply)
-    → is_sent_out h.shut h.got ≡ true → without_reports h.got ≡ Banner ∷ behind → banners_in h.got ≡ resets_scanned ran.scanned + 1
-each_greeted job_was job_is console_was console_is h end ran behind out told =
+pub each_greeted : (job_was job_is : SourceState) (console_was console_is : SinkState) (h : HostDid) (end : HostEnd) (ran : HostRan job_was job_is console_was console_is h.stored h.marks h.shut h.raised h.got end) (told : List Reply)
+    → is_sent_out h.shut h.got ≡ true → without_reports h.got ≡ Banner ∷ (told ++ Bye ∷ []) → banners_in h.got ≡ resets_scanned ran.scanned + 1
+each_greeted job_was job_is console_was console_is h end ran said out told =
     let ends = ends_count h.marks ran.ended (ran.all_ended out) in
     let marks = ap length (ran.all_marked out) in
     let long = length-reverse h.marks in
     let count = marks_count 0 (lines_of ran.scanned) in
     let begun = ran.epochs.begun in
-    let some = some_banner h.got behind told in
+    let some = banners_got h.got said told in
     omega (arith, ends, marks, long, count, begun, some)

@@ -3,15 +3,17 @@ use Rattle.std.specs.Prelude.{◌≡◌, ◌⊎◌, ℕ, ◌+◌, ◌≤◌, Boo
 use Rattle.std.specs.List.{AllByRecursion}
 use Rattle.run_rules.specs.Lines.{ended}
 use Rattle.status_report.specs.Answering.{receive_room}
+use Rattle.epoch_links.specs.Drops.{lines_among}
 use Rattle.epoch_links.specs.Links.{AreLinked}
 use Rattle.epoch_links.specs.Pieces.{joined}
-use Rattle.epoch_records.specs.Publishing.{AreSameHalts}
+use Rattle.epoch_records.specs.Publishing.{AreSameHalts, but_none}
 use Rattle.epoch_records.specs.SoFar.{HaltsUnseen}
 use Rattle.epoch_runs.specs.Epochs.{halts_seen}
 use Rattle.motion_ring.specs.Sides.{published_in, ticks_published}
 use Rattle.motion_ring.specs.declared.lists.Sent.{Sent}
 use Rattle.pulse_engine.specs.Logs.{PieceLog, pieces_of, counted, uncounted, halts_of}
 use Rattle.step_line.specs.declared.Piece.{Piece}
+use Rattle.stream_host.specs.Links.{banners_in}
 use Rattle.run_law.specs.Changes.{AreAskedIn}
 use Rattle.run_law.specs.Flags.{AreTaken}
 use Rattle.epoch_effects.specs.Words.{WordsTaken}
@@ -31,11 +33,13 @@ pub record ArePassed (b : BoardDid) (p : PulseDid) : Type 0 where
   pub halts : AreSameHalts b.halts p.halts
 
 -- Host and board by their link and the flags: what goes over the link goes together; what was taken of flags was raised; and the lines that
--- each reset leaves without an answer take 128 bytes at most, each with its LF.
+-- each reset leaves without an answer take 128 bytes at most, each with its LF. If the Banner of each was got, the host has forgotten as
+-- many lines.
 pub record AreConnected (h : HostDid) (b : BoardDid) : Type 0 where
   pub link : AreLinked h.stored h.marks h.at_got h.shut (joined b.taken) b.loaded b.at_answers b.closed
   pub flags : AreRaisedFor h.raised b.words
   pub few : AllByRecursion (λ ls. length (ended ls) ≤ receive_room) b.dropped
+  pub lost : banners_in h.got ≡ length b.dropped + 1 → h.forgotten ≡ lines_among b.dropped
 
 -- The pieces of a ring, where some may not have come to the pulse: it got or dropped the first of those published.
 pub record ArePassedSome (b : BoardDid) (p : PulseDid) : Type 0 where

@@ -20,6 +20,7 @@ host_did h = record {
   shut = hosts.is_shut h;
   raised = hosts.raises_of h;
   got = hosts.got_of h;
+  forgotten = hosts.forgotten_of h;
 }
 
 abbrev pub board_did : Epochs → BoardDid

@@ -1,5 +1,5 @@
 -- What the host, the board and the pulse have done in a whole run over epochs, as plain lists.
-use Rattle.std.specs.Prelude.{◌≡◌, ◌⊎◌, ℕ, ◌≤◌, Bool, true, false, List, [], ◌∷◌, ◌++◌, length, map, reverse, take}
+use Rattle.std.specs.Prelude.{◌≡◌, ◌⊎◌, ℕ, ◌+◌, ◌≤◌, Bool, true, false, List, [], ◌∷◌, ◌++◌, length, map, reverse, take}
 use Rattle.std.specs.List.{AllByRecursion, flat_map}
 use Rattle.flight.specs.Halts.{Stretch}
 use Rattle.flight.specs.Places.{origin}
@@ -10,6 +10,7 @@ use Rattle.run_rules.specs.States.{IsOpening}
 use Rattle.run_rules.specs.declared.State.{State}
 use Rattle.run_texts.specs.Besides.{CutsHaveCauses, DropsAreFew}
 use Rattle.run_texts.specs.Courses.{Passed, cuts_in}
+use Rattle.run_texts.specs.Courses.Passed.{a_line, a_broken, a_cut, a_reset}
 use Rattle.run_texts.specs.Parts.{parts_of}
 use Rattle.run_texts.specs.Points.{Point, opening}
 use Rattle.run_texts.specs.Sent.{sent_of}
@@ -23,6 +24,7 @@ use Rattle.step_line.specs.Logs.{NewestFirst}
 use Rattle.step_line.specs.declared.Piece.{Piece}
 use Rattle.step_line.specs.declared.Piece.TheVariants as pieces_as
 use Rattle.step_line.specs.declared.Record.{Record}
+use Rattle.stream_host.specs.Links.{banners_in}
 use Rattle.stream_host.specs.Ran.{HostEnd, HostRan, is_sent_out}
 use Rattle.step_line.specs.Pieces.{ticks_of}
 use Rattle.epoch_courses.specs.Drives.{Driven, AreDriven}
@@ -32,6 +34,7 @@ use Rattle.epoch_effects.specs.Pieces.{ArePublished}
 use Rattle.epoch_effects.specs.Asking.{AsksInTurn}
 use Rattle.epoch_effects.specs.Reports.{HasReported, TellsLock, AreOpened, resets_of}
 use Rattle.epoch_effects.specs.Words.{WordsTaken, AreTakenIn}
+use Rattle.epoch_links.specs.Drops.{lines_among}
 use Rattle.epoch_links.specs.Links.{AwaitsBanners, HasBanners, EndsEpochs}
 use Rattle.epoch_links.specs.Pieces.{Pieces, joined, items_in, IsFrontOf, IsAllOf}
 use Rattle.epoch_records.specs.Epochs.{Epoch}
@@ -43,7 +46,8 @@ use Rattle.epoch_records.specs.Stretches.{pieces_of_all, EndStretches, ArePutOve
 -- ---- the host
 
 -- What a host has done at its port: the bytes that it stored; its marks, the latest first; how many bytes were stored when each Banner was
--- got, the latest first; whether it has closed the link; the realtime bytes that it raised; and the replies that it got.
+-- got, the latest first; whether it has closed the link; the realtime bytes that it raised; and the replies that it got. And how many of
+-- its lines it has forgotten.
 pub record HostDid : Type 0 where
   pub stored : List ℕ
   pub marks : List ℕ
@@ -51,6 +55,7 @@ pub record HostDid : Type 0 where
   pub shut : Bool
   pub raised : List ℕ
   pub got : List Reply
+  pub forgotten : ℕ
 
 -- A rest was scanned behind some lines, and is none of them: the bytes behind the last LF, or nothing where the end of the job ends a line.
 abbrev pub IsRest : (scanned : List ℕ) → List (List ℕ) → (rest : List ℕ) → Type 0
@@ -71,6 +76,7 @@ pub record HasSent (job_was job_is : SourceState) (console_was console_is : Sink
   pub rest : List ℕ
   pub is_rest : IsRest ran.scanned ran.lines rest
   pub sends : Sends ran.lines rest d
+  pub forgotten : ran.forgotten ≡ d.forgotten
 
 -- ---- the board
 
@@ -90,6 +96,14 @@ pub record BoardDid : Type 0 where
   pub phase : Phase
   pub dropped : List (List (List ℕ))
 
+-- how many lines of a course resets have left without an answer: those that were begun, and those that were dropped
+abbrev pub lost_in : List Passed → ℕ
+lost_in [] = 0
+lost_in (a_line o ∷ ps) = lost_in ps
+lost_in (a_cut k at ∷ ps) = lost_in ps
+lost_in (a_broken o ∷ ps) = lost_in ps + 1
+lost_in (a_reset r ∷ ps) = lost_in ps + r.dropped
+
 -- the ticks that reports are judged by were recorded: they are those that were made in the epoch
 abbrev pub AreMade : List EpochEffects → List Epoch → Type 0
 AreMade [] [] = Unit {0}
@@ -101,7 +115,8 @@ AreMade (e ∷ es) [] = ⊥
 -- has broken off is answered; each reset drops the lines of its epoch that have no answer, and each cut has a jog as its cause. It has
 -- answered what the course tells, the banner first and Bye last, with reports among that. For each part of the course the planner was given
 -- what its lines ask for; epochs were run for the parts, and these were published, the last with the end. It has ended an epoch for each
--- reset. What words of flags have done in each epoch is as they were taken. Unless a line has raised an alarm, it found the link closed.
+-- reset, whose Banner the course tells, and the lines that these left without an answer are those that the course has lost. What words of
+-- flags have done in each epoch is as they were taken. Unless a line has raised an alarm, it found the link closed.
 pub record BoardRan (d : BoardDid) : Type 0 where
   pub first : State
   pub opens : IsOpening first
@@ -112,6 +127,8 @@ pub record BoardRan (d : BoardDid) : Type 0 where
   pub closes : last.before.alarmed ≡ false → d.closed ≡ true
   pub ends : EndsEpochs d.taken (joined d.taken) d.loaded d.at_answers
   pub causes : CutsHaveCauses (opening first) (items_in d.taken) course
+  pub lost : lost_in course ≡ lines_among d.dropped
+  pub greets : banners_in (told_in course) ≡ length d.dropped
   pub drops : (room : ℕ) → AllByRecursion (λ ls. length (ended ls) ≤ room) d.dropped → DropsAreFew room 0 (items_in d.taken) course
   pub console : IsTold course (without_byes d.answered)
   pub told : without_reports d.answered ≡ Banner ∷ (told_in course ++ Bye ∷ [])

@@ -42,7 +42,7 @@ use Rattle.epoch_effects.specs.Reports.{HasReported, TellsLock, AreOpened, reset
 use Rattle.epoch_effects.specs.Words.{WordsTaken}
 use Rattle.epoch_records.specs.Epochs.{Epoch, ArePut}
 use Rattle.epoch_records.specs.Runs.{AreRun}
-use Rattle.epoch_law.specs.Ran.{IsRest, AreMade}
+use Rattle.epoch_law.specs.Ran.{IsRest, AreMade, lost_in}
 
 -- ---- the job
 
@@ -123,10 +123,11 @@ pub record HasCauses (first : State) (sent : List Sent) (course : List Passed) :
 
 -- ---- the end
 
--- How the run ended. Why no more was sent is what the job says, or else an alarm, at the first line that is neither answered nor
--- forgotten. If no alarm was told, each reset that was scanned has a Banner, behind the first one. Of the source, the count of faults rose
--- if a call failed, and is as before if none did.
-pub record HasEnded (job_was job_is : SourceState) (end : RunEnd) (reading : Reading) (scanned : List ℕ) (forgotten : ℕ) (replies : List Reply) : Type 0 where
+-- How the run ended. As many lines were forgotten as resets have left without an answer. Why no more was sent is what the job says, or else
+-- an alarm, at the first line that is neither answered nor forgotten. If no alarm was told, each reset that was scanned has a Banner, behind
+-- the first one. Of the source, the count of faults rose if a call failed, and is as before if none did.
+pub record HasEnded (job_was job_is : SourceState) (end : RunEnd) (reading : Reading) (scanned : List ℕ) (forgotten : ℕ) (course : List Passed) (replies : List Reply) : Type 0 where
+  pub lost : lost_in course ≡ forgotten
   pub stop : end.stop ≡ or_alarm (has_alarm replies) (end.answered + forgotten) (stop_by reading scanned)
   pub greeted : has_alarm replies ≡ false → banners_in replies ≡ resets_scanned scanned + 1
   pub failed : end.source_failed ≡ is_failed reading
@@ -154,4 +155,4 @@ pub record IsRun (form : Form) (job_was job_is : SourceState) (was is : Sinks) (
   pub recording : IsRunAndRecorded form was is end fits.course drives epochs records
   pub doing : HasEffects scanned fits.first fits.course drives epochs replies effects
   pub causes : HasCauses fits.first (sent_of lines rest) fits.course
-  pub ending : HasEnded job_was job_is end reading scanned sending.forgotten replies
+  pub ending : HasEnded job_was job_is end reading scanned sending.forgotten fits.course replies
