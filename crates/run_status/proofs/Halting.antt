@@ -1,5 +1,6 @@
 -- A run that an alarm ended: the last line that was begun is beyond a soft limit.
-use Rattle.std.proofs.Common.{◌≡◌, ℕ, Bool, true, false, List, [], ◌∷◌, append-nil, refl, sym, ap, ◌∙◌}
+use Rattle.std.proofs.Common.{◌≡◌, ℕ, ◌+◌, Bool, true, false, cond, List, [], ◌∷◌, ◌++◌, length, append-nil, length-append, refl, sym, ap, ◌∙◌, arith}
+use Rattle.std.proofs.lemmas.List.Sums.{sum_by-append}
 use Rattle.std.specs.Io.KnownBytes.{Appends}
 use Rattle.step_record.specs.declared.forms.Form.{Form}
 use Rattle.step_record.specs.Forms.{text_in}
@@ -7,12 +8,12 @@ use Rattle.outside.specs.Causes.{SourceState, SinkState}
 use Rattle.outside.specs.Writing.{Took}
 use Rattle.run_rules.specs.Work.{Outcome, is_limit}
 use Rattle.run_rules.specs.Locking.{BecomesLocked}
-use Rattle.run_rules.specs.Outcomes.{Becomes, either}
-use Rattle.run_rules.specs.Told.{replies_text}
+use Rattle.run_rules.specs.Outcomes.{Becomes, either, limited}
+use Rattle.run_rules.specs.Told.{limits_in, replies_text}
 use Rattle.run_rules.proofs.Alarms.{beyond}
 use Rattle.run_rules.proofs.Answering.{halts}
 use Rattle.run_rules.proofs.Locking.{locked_still}
-use Rattle.run_texts.specs.Courses.{Passed, Follows, behind_cut, behind_the_reset}
+use Rattle.run_texts.specs.Courses.{Passed, Follows, behind_cut, behind_the_reset, lines_in}
 use Rattle.run_texts.specs.Courses.Passed.{a_line, a_broken, a_cut, a_reset}
 use Rattle.run_texts.specs.Points.{Point, IsPassed, behind_line, behind_broken, opening}
 use Rattle.run_texts.specs.Sent.{Sent, behind_reset, sent_of}
@@ -20,7 +21,10 @@ use Rattle.run_texts.specs.Sent.Sent.{a_text, a_stop}
 use Rattle.stream_host.specs.declared.Stop.TheVariants as stops
 use Rattle.run_law.specs.declared.RunEnd.{RunEnd}
 use Rattle.run_law.specs.Runs.{Sinks}
+use Rattle.epoch_law.specs.Ran.{lost_in}
 use Rattle.epoch_law.specs.Runs.{IsRun}
+use Rattle.epoch_law.proofs.Dropping.{no_limits}
+use Rattle.epoch_law.proofs.Losing.{lost_on, numbers}
 use Rattle.run_status.specs.Ends.{EndsInAlarm, IsAlarmedRun}
 use Rattle.run_status.proofs.Stops.{by_alarm}
 
@@ -140,18 +144,41 @@ ends_at p last (a_text line ∷ sent) (a_broken o ∷ ps) free alarmed g =
       beyond = rest.beyond;
     }
 
+-- ---- its number
+
+lines_behind : (ps : List Passed) (o : Outcome) → lines_in (ps ++ a_line o ∷ []) ≡ lines_in ps ++ o ∷ []
+lines_behind [] o = refl
+lines_behind (a_line x ∷ ps) o = ap (λ (os : List Outcome). x ∷ os) (lines_behind ps o)
+lines_behind (a_broken x ∷ ps) o = lines_behind ps o
+lines_behind (a_cut k at ∷ ps) o = lines_behind ps o
+lines_behind (a_reset r ∷ ps) o = lines_behind ps o
+
+-- it is the first that is neither answered nor lost
+numbered : (first : Point) (sent : List Sent) (course : List Passed) (answered lost : ℕ) → first.before.number ≡ 1 → (alarm : EndsInAlarm first sent course) → answered + limits_in (lines_in course) ≡ length (lines_in course)
+    → lost_in course ≡ lost → answered + lost + 1 ≡ alarm.point.before.number
+numbered first sent course answered lost one alarm each same =
+    let number = numbers first alarm.point sent (a_text alarm.line ∷ alarm.behind) alarm.earlier alarm.leads in
+    let none = no_limits first alarm.point sent (a_text alarm.line ∷ alarm.behind) alarm.earlier alarm.leads alarm.calm in
+    let lines = ap lines_in alarm.course_is ∙ lines_behind alarm.earlier (limited alarm.point.before) in
+    let many = ap length lines ∙ length-append (lines_in alarm.earlier) (limited alarm.point.before ∷ []) in
+    let limits : limits_in (lines_in course) ≡ limits_in (lines_in alarm.earlier) + 1 =
+    ap limits_in lines ∙ sum_by-append (λ (x : Outcome). cond (is_limit x.answer) 1 0) (lines_in alarm.earlier) (limited alarm.point.before ∷ []) in
+    let gone = ap lost_in alarm.course_is ∙ lost_on alarm.earlier (a_line (limited alarm.point.before) ∷ []) in
+    omega (arith, one, number, none, many, limits, gone, each, same)
+
 -- ---- the run
 
 pub halted_run : (form : Form) (job_was job_is : SourceState) (was is : Sinks) (end : RunEnd) (run : IsRun form job_was job_is was is end) (k : ℕ)
     → end.steps_failed ≡ false → end.console_failed ≡ false → end.stop ≡ stops.Alarm k → IsAlarmedRun form job_was job_is was is k
 halted_run form job_was job_is was is end run k es ec et =
     let why = by_alarm form job_was job_is was is end run k et in
+    let alarm = ends_at (opening run.fits.first) run.fits.last (sent_of run.lines run.rest) run.fits.course refl (sym run.telling.alarm ∙ why.got) run.fits.follows in
     record {
       end = end;
       run = run;
       going = sym why.end;
-      alarm = ends_at (opening run.fits.first) run.fits.last (sent_of run.lines run.rest) run.fits.course refl (sym run.telling.alarm ∙ why.got) run.fits.follows;
-      number = why.line;
+      alarm = alarm;
+      number = why.line ∙ numbered (opening run.fits.first) (sent_of run.lines run.rest) run.fits.course end.answered run.sending.forgotten refl alarm run.telling.each run.ending.lost;
       console = whole_text was.console is.console end.console_failed (replies_text run.replies) ec run.telling.console;
       steps = whole_text was.steps is.steps end.steps_failed (text_in form run.records) es run.recording.steps;
     }

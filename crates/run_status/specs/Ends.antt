@@ -87,15 +87,15 @@ pub record EndsInAlarm (from : Point) (sent : List Sent) (course : List Passed) 
   pub answered : point.unanswered ≡ false
   pub beyond : IsBeyond point.before line
 
--- A run that the alarm of line k ended. Nothing in what was scanned of the job ends the sending, and the course of the job ends with an
--- alarm. Line k is the first that is neither answered nor forgotten. The console has the whole text of the replies, and the steps that of
--- the records. What the replies and records are is what is so of each run.
+-- A run that the alarm of line k ended. Nothing in what was scanned of the job ends the sending, and the course of the job ends with the
+-- alarm of that line. The console has the whole text of the replies, and the steps that of the records. What the replies and records are
+-- is what is so of each run.
 pub record IsAlarmedRun (form : Form) (job_was job_is : SourceState) (was is : Sinks) (k : ℕ) : Type 0 where
   pub end : RunEnd
   pub run : IsRun form job_was job_is was is end
   pub going : stop_by run.reading run.scanned ≡ stops.End
   pub alarm : EndsInAlarm (opening run.fits.first) (sent_of run.lines run.rest) run.fits.course
-  pub number : k ≡ end.answered + run.sending.forgotten + 1
+  pub number : k ≡ alarm.point.before.number
   pub console : Appends was.console.held is.console.held (replies_text run.replies)
   pub steps : Appends was.steps.held is.steps.held (text_in form run.records)
 
