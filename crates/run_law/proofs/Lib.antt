@@ -5,6 +5,7 @@ pub mod Cancelling
 pub mod Slowing
 pub mod Resetting
 pub mod Alarming
+pub mod Begins
 pub mod Reporting
 pub mod Fronts
 pub mod Having
