@@ -43,7 +43,7 @@ abbrev h9 : State → State → PlannedMove → Segment → Journal
 h9 first last m s = words_taken no_changes nothing motions.Idle (h8 first last m s)
 
 a9 : (first last : State) (m : PlannedMove) (s : Segment) → IsBeyondBehind first last m s → Conducted (first_opening first) (h9 first last m s)
-a9 first last m s p = may_take_words (first_opening first) no_changes nothing motions.Idle (h8 first last m s) (a8 first last m s p) refl refl refl refl refl refl refl (λ e. inl refl)
+a9 first last m s p = may_take_words (first_opening first) no_changes nothing motions.Idle (h8 first last m s) (a8 first last m s p) refl refl refl refl refl refl refl refl (λ e. inl refl)
 
 abbrev h10 : State → State → PlannedMove → Segment → Journal
 h10 first last m s = at_port (loaded 0) ∷ h9 first last m s

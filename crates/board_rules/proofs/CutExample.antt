@@ -102,7 +102,7 @@ abbrev k10 : State → State → PlannedMove → PlannedMove → Segment → Jou
 k10 next last m n s = words_taken no_changes nothing motions.Jog (k9 next last m n s)
 
 d10 : (first next last : State) (m n : PlannedMove) (s : Segment) → AreTwoJogs first next last m n s → Conducted (first_opening first) (k10 next last m n s)
-d10 first next last m n s p = may_take_words (first_opening first) no_changes nothing motions.Jog (k9 next last m n s) (d9 first next last m n s p) refl refl refl refl refl refl refl (λ e. absurd cc)
+d10 first next last m n s p = may_take_words (first_opening first) no_changes nothing motions.Jog (k9 next last m n s) (d9 first next last m n s p) refl refl refl refl refl refl refl refl (λ e. absurd cc)
 
 abbrev k11 : State → State → PlannedMove → PlannedMove → Segment → Journal
 k11 next last m n s = at_port (loaded 0) ∷ k10 next last m n s
@@ -120,7 +120,7 @@ abbrev k13 : State → State → PlannedMove → PlannedMove → Segment → Jou
 k13 next last m n s = at_port (took_exec cancel) ∷ k12 next last m n s
 
 d13 : (first next last : State) (m n : PlannedMove) (s : Segment) → AreTwoJogs first next last m n s → Conducted (first_opening first) (k13 next last m n s)
-d13 first next last m n s p = (record { obeyed = refl; few = λ e. absurd cc }, d12 first next last m n s p)
+d13 first next last m n s p = (record { greeted = refl; obeyed = refl; few = λ e. absurd cc }, d12 first next last m n s p)
 
 abbrev k14 : State → State → PlannedMove → PlannedMove → Segment → Journal
 k14 next last m n s = became (on_exec cancel (queued m s)) motions.Cancelling ∷ k13 next last m n s

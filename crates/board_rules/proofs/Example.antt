@@ -143,13 +143,13 @@ abbrev j3 : Settings → Journal
 j3 s = words_taken no_changes hold motions.Held (j2 s)
 
 c3 : (s : Settings) → Conducted (first_opening (first_state s)) (j3 s)
-c3 s = may_take_words (first_opening (first_state s)) no_changes hold motions.Held (j2 s) (c2 s) refl refl refl refl refl refl refl (λ e. absurd cc)
+c3 s = may_take_words (first_opening (first_state s)) no_changes hold motions.Held (j2 s) (c2 s) refl refl refl refl refl refl refl refl (λ e. absurd cc)
 
 abbrev j4 : Settings → Journal
 j4 s = became (on_exec nothing false) motions.Held ∷ at_port (took_exec nothing) ∷ j3 s
 
 c4 : (s : Settings) → Conducted (first_opening (first_state s)) (j4 s)
-c4 s = ((refl, record { next = refl; reported = λ owed. absurd cc; blocks = refl; looked = λ s. absurd (let e = s.slows in cc); jog = refl; stopped = λ s. absurd (let e = s.slowed.slows in cc); halts = λ e. untrue e }), (record { obeyed = refl; few = λ asks. absurd cc }, c3 s))
+c4 s = ((refl, record { next = refl; reported = λ owed. absurd cc; blocks = refl; looked = λ s. absurd (let e = s.slows in cc); jog = refl; stopped = λ s. absurd (let e = s.slowed.slows in cc); halts = λ e. untrue e }), (record { greeted = refl; obeyed = refl; few = λ asks. absurd cc }, c3 s))
 
 abbrev j5 : Settings → Journal
 j5 s = turned (Wait on.Resume) ∷ j4 s
@@ -161,7 +161,7 @@ abbrev j6 : Settings → Journal
 j6 s = words_taken no_changes resume motions.Idle (j5 s)
 
 c6 : (s : Settings) → Conducted (first_opening (first_state s)) (j6 s)
-c6 s = may_take_words (first_opening (first_state s)) no_changes resume motions.Idle (j5 s) (c5 s) refl refl refl refl refl refl refl (λ e. inr refl)
+c6 s = may_take_words (first_opening (first_state s)) no_changes resume motions.Idle (j5 s) (c5 s) refl refl refl refl refl refl refl refl (λ e. inr refl)
 
 abbrev j7 : Settings → Journal
 j7 s = at_port (loaded 0) ∷ j6 s
@@ -203,7 +203,7 @@ abbrev j13 : Settings → Journal
 j13 s = words_taken no_changes nothing motions.Idle (j12 s)
 
 c13 : (s : Settings) → Conducted (first_opening (first_state s)) (j13 s)
-c13 s = may_take_words (first_opening (first_state s)) no_changes nothing motions.Idle (j12 s) (c12 s) refl refl refl refl refl refl refl (λ e. inl refl)
+c13 s = may_take_words (first_opening (first_state s)) no_changes nothing motions.Idle (j12 s) (c12 s) refl refl refl refl refl refl refl refl (λ e. inl refl)
 
 abbrev j14 : Settings → Journal
 j14 s = did Rest [] ∷ at_port (loaded 1) ∷ j13 s
@@ -233,7 +233,7 @@ abbrev j18 : Settings → Journal
 j18 s = words_taken no_changes nothing motions.Idle (j17 s)
 
 c18 : (s : Settings) → Conducted (first_opening (first_state s)) (j18 s)
-c18 s = may_take_words (first_opening (first_state s)) no_changes nothing motions.Idle (j17 s) (c17 s) refl refl refl refl refl refl refl (λ e. inl refl)
+c18 s = may_take_words (first_opening (first_state s)) no_changes nothing motions.Idle (j17 s) (c17 s) refl refl refl refl refl refl refl refl (λ e. inl refl)
 
 abbrev j19 : Settings → Journal
 j19 s = closing ∷ at_port found_closed ∷ j18 s

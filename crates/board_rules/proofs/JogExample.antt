@@ -121,7 +121,7 @@ abbrev j3 : State → PlannedMove → Segment → Journal
 j3 last m s = words_taken no_changes nothing motions.Idle (j2 last m s)
 
 c3 : (first last : State) (m : PlannedMove) (s : Segment) → IsOneJog first last m s → Conducted (first_opening first) (j3 last m s)
-c3 first last m s p = may_take_words (first_opening first) no_changes nothing motions.Idle (j2 last m s) (c2 first last m s p) refl refl refl refl refl refl refl (λ e. inl refl)
+c3 first last m s p = may_take_words (first_opening first) no_changes nothing motions.Idle (j2 last m s) (c2 first last m s p) refl refl refl refl refl refl refl refl (λ e. inl refl)
 
 abbrev j4 : State → PlannedMove → Segment → Journal
 j4 last m s = at_port (loaded 0) ∷ j3 last m s
@@ -175,7 +175,7 @@ abbrev j12 : State → PlannedMove → Segment → Journal
 j12 last m s = words_taken no_changes nothing motions.Idle (j11 last m s)
 
 c12 : (first last : State) (m : PlannedMove) (s : Segment) → IsOneJog first last m s → Conducted (first_opening first) (j12 last m s)
-c12 first last m s p = may_take_words (first_opening first) no_changes nothing motions.Idle (j11 last m s) (c11 first last m s p) refl refl refl refl refl refl refl (λ e. inl refl)
+c12 first last m s p = may_take_words (first_opening first) no_changes nothing motions.Idle (j11 last m s) (c11 first last m s p) refl refl refl refl refl refl refl refl (λ e. inl refl)
 
 abbrev j13 : State → PlannedMove → Segment → Journal
 j13 last m s = closing ∷ at_port found_closed ∷ j12 last m s

@@ -21,6 +21,7 @@ pub mod Lines
 pub mod Unlocking
 pub mod Answering
 pub mod Greeting
+pub mod Greeted
 pub mod Closing
 pub mod Ending
 pub mod Breaking

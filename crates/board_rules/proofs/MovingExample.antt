@@ -77,7 +77,7 @@ abbrev j3 : State → PlannedMove → Segment → Journal
 j3 last m s = words_taken no_changes nothing motions.Idle (j2 last m s)
 
 c3 : (first last : State) (m : PlannedMove) (s : Segment) → IsOneSegment first last m s → Conducted (first_opening first) (j3 last m s)
-c3 first last m s p = may_take_words (first_opening first) no_changes nothing motions.Idle (j2 last m s) (c2 first last m s p) refl refl refl refl refl refl refl (λ e. inl refl)
+c3 first last m s p = may_take_words (first_opening first) no_changes nothing motions.Idle (j2 last m s) (c2 first last m s p) refl refl refl refl refl refl refl refl (λ e. inl refl)
 
 abbrev j4 : State → PlannedMove → Segment → Journal
 j4 last m s = at_port (loaded 0) ∷ j3 last m s
@@ -119,7 +119,7 @@ abbrev j10 : State → PlannedMove → Segment → Journal
 j10 last m s = words_taken no_changes nothing motions.Run (j9 last m s)
 
 c10 : (first last : State) (m : PlannedMove) (s : Segment) → IsOneSegment first last m s → Conducted (first_opening first) (j10 last m s)
-c10 first last m s p = may_take_words (first_opening first) no_changes nothing motions.Run (j9 last m s) (c9 first last m s p) refl refl refl refl refl refl refl (λ e. absurd cc)
+c10 first last m s p = may_take_words (first_opening first) no_changes nothing motions.Run (j9 last m s) (c9 first last m s p) refl refl refl refl refl refl refl refl (λ e. absurd cc)
 
 abbrev j11 : State → PlannedMove → Segment → Journal
 j11 last m s = turned Did ∷ at_port (published (pieces.Segment s)) ∷ did (Take Go) (pieces.Segment s ∷ []) ∷ j10 last m s
@@ -149,7 +149,7 @@ abbrev j15 : State → PlannedMove → Segment → Journal
 j15 last m s = words_taken no_changes nothing motions.Idle (j14 last m s)
 
 c15 : (first last : State) (m : PlannedMove) (s : Segment) → IsOneSegment first last m s → Conducted (first_opening first) (j15 last m s)
-c15 first last m s p = may_take_words (first_opening first) no_changes nothing motions.Idle (j14 last m s) (c14 first last m s p) refl refl refl refl refl refl refl (λ e. inl refl)
+c15 first last m s p = may_take_words (first_opening first) no_changes nothing motions.Idle (j14 last m s) (c14 first last m s p) refl refl refl refl refl refl refl refl (λ e. inl refl)
 
 abbrev j16 : State → PlannedMove → Segment → Journal
 j16 last m s = closing ∷ at_port found_closed ∷ j15 last m s

@@ -1,4 +1,4 @@
--- Between two turns a board may take its words of flags, where the motion does not slow down, and the bytes of a line.
+-- Between two turns a board may take its words of flags, once the banner is told, where the motion does not slow down, and the bytes of a line.
 use Rattle.std.proofs.Common.{◌≡◌, ◌⊎◌, inl, inr, ℕ, ◌+◌, ◌^◌, ◌<◌, Bool, true, false, cond, ◌&&◌, ◌||◌, not, List, [], ◌∷◌, ◌++◌, drop, length, nat_eq, nat_le, refl, sym, ap, ◌∙◌, arith}
 use Rattle.std.specs.Prelude.{Some}
 use Rattle.std.specs.List.{list_any}
@@ -21,7 +21,7 @@ use Rattle.step_line.specs.Asking.Asked.{a_move}
 use Rattle.step_line.specs.declared.planned_move.PlannedMove.{PlannedMove}
 use Rattle.board_rules.specs.Steps.{Journal, taken_of, plan_of, motion_of, left_of}
 use Rattle.board_rules.specs.Steps.Step.{at_port, became, turned}
-use Rattle.board_rules.specs.Turns.{this_turn, unobeyed_of, owes_report, has_blocks, has_jogged, has_jog_to_start, is_full, is_limited, waits_to_jog, starts_cycle}
+use Rattle.board_rules.specs.Turns.{this_turn, is_greeted, unobeyed_of, owes_report, has_blocks, has_jogged, has_jog_to_start, is_full, is_limited, waits_to_jog, starts_cycle}
 use Rattle.board_rules.specs.Conduct.{Conducted, IsNextTask, AreWaiting, MayPoll, MayTake}
 use Rattle.board_rules.proofs.Turning.{few_tries, obeyed_between}
 use Rattle.board_rules.proofs.Causing.{jog_starts}
@@ -108,9 +108,9 @@ limited_word word queued m is =
 not_slowing : {A : Type 0} (m : Motion) → is_stopping m ≡ true → is_stopping m ≡ false → A
 not_slowing m slows still = absurd (let e = sym slows ∙ still in cc)
 
-pub may_request : (first : Opening) (word : Exec) (m : Motion) (h : Journal) → Conducted first h → this_turn h ≡ [] → owes_report h ≡ false → asks_report word ≡ false → asks_reset word ≡ false
+pub may_request : (first : Opening) (word : Exec) (m : Motion) (h : Journal) → Conducted first h → this_turn h ≡ [] → is_greeted h ≡ true → owes_report h ≡ false → asks_report word ≡ false → asks_reset word ≡ false
     → is_stopping (motion_of first h) ≡ false → after_word word (queued_in h) (motion_of first h) ≡ m → StoodBefore first m h → Conducted first (requested word m h)
-may_request first word m h c between unowed asks_none no_reset still becomes stood =
+may_request first word m h c between greeted unowed asks_none no_reset still becomes stood =
     let none = obeyed_between first h c between unowed in
     let taken : unobeyed_of (at_port (took_exec word) ∷ h) ≡ word ∷ [] = ap (λ (r : Bool). cond r (unobeyed_of h) (unobeyed_of h ++ word ∷ [])) no_reset ∙ ap (λ (words : List Exec). words ++ word ∷ []) none in (
       record {
@@ -135,12 +135,12 @@ may_request first word m h c between unowed asks_none no_reset still becomes sto
             halts = halts_between first h c between;
           },
         ),
-        (record { obeyed = none; few = λ asks. absurd (let e = sym asks ∙ asks_none in cc) }, c),
+        (record { greeted = greeted; obeyed = none; few = λ asks. absurd (let e = sym asks ∙ asks_none in cc) }, c),
       ),
     )
 
-pub may_take_no_change : (first : Opening) (word : Ovr) (h : Journal) → has_changes word ≡ false → Conducted first h → this_turn h ≡ [] → Conducted first (unchanged word h)
-may_take_no_change first word h none c between = (
+pub may_take_no_change : (first : Opening) (word : Ovr) (h : Journal) → has_changes word ≡ false → Conducted first h → this_turn h ≡ [] → is_greeted h ≡ true → Conducted first (unchanged word h)
+may_take_no_change first word h none c between greeted = (
   record {
     once = rw between (omega arith);
     adds = λ move next. adds first h move c between next;
@@ -150,16 +150,16 @@ may_take_no_change first word h none c between = (
     changed = rw between (rw none refl);
     halts = halts_between first h c between;
   },
-  (tt, c),
+  (greeted, c),
 )
 
 -- both words are taken, that of overrides first, which has no changes
 abbrev pub words_taken : Ovr → Exec → Motion → Journal → Journal
 words_taken changes word m h = requested word m (unchanged changes h)
 
-pub may_take_words : (first : Opening) (changes : Ovr) (word : Exec) (m : Motion) (h : Journal) → Conducted first h → this_turn h ≡ [] → has_changes changes ≡ false → owes_report h ≡ false → asks_report word ≡ false → asks_reset word ≡ false
+pub may_take_words : (first : Opening) (changes : Ovr) (word : Exec) (m : Motion) (h : Journal) → Conducted first h → this_turn h ≡ [] → is_greeted h ≡ true → has_changes changes ≡ false → owes_report h ≡ false → asks_report word ≡ false → asks_reset word ≡ false
     → is_stopping (motion_of first h) ≡ false → after_word word (queued_in h) (motion_of first h) ≡ m → StoodBefore first m h → Conducted first (words_taken changes word m h)
-may_take_words first changes word m h c between none = may_request first word m (unchanged changes h) (may_take_no_change first changes h none c between) refl
+may_take_words first changes word m h c between greeted none = may_request first word m (unchanged changes h) (may_take_no_change first changes h none c between greeted) refl greeted
 
 -- a turn in which a byte is taken
 abbrev byte_taken : ℕ → Journal → Journal

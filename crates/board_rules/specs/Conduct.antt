@@ -48,6 +48,7 @@ use Rattle.board_rules.specs.Turns.{
   this_turn,
   publishing,
   passing,
+  is_greeted,
   unobeyed_of,
   owes_report,
   takes_changes,
@@ -132,11 +133,16 @@ pub record MayTell (first : Opening) (r : Reply) (h : Journal) : Type 0 where
   pub empty : r ≡ Bye → hand_of h ≡ []
   pub unlocked : awaits_unlock first h ≡ false
 
--- A word of requests is taken once the last one is obeyed. Fewer than 2 ^ 31 that ask for a report were taken before
--- one that does, as the port promises.
+-- A word of requests is taken once the banner is told, and the last one is obeyed. Fewer than 2 ^ 31 that ask for a
+-- report were taken before one that does, as the port promises.
 pub record MayTakeRequests (word : Exec) (h : Journal) : Type 0 where
+  pub greeted : is_greeted h ≡ true
   pub obeyed : unobeyed_of h ≡ []
   pub few : asks_report word ≡ true → HasFewReports (port_log h)
+
+-- a word of changes of overrides is taken once the banner is told
+abbrev pub MayTakeChanges : Journal → Type 0
+MayTakeChanges h = is_greeted h ≡ true
 
 -- a piece is handed back if the port has no room, as it promises
 pub record MayKeep (done : ℕ) (h : Journal) : Type 0 where
@@ -321,7 +327,7 @@ abbrev pub IsRoom : Option (ℕ × ℕ) → Journal → Type 0
 IsRoom None h = Unit {0}
 IsRoom (Some (blocks, bytes)) h = (blocks + length (plan_of h).blocks ≡ most_blocks) × (list_any (finds_free bytes) (this_turn h) ≡ true)
 
--- A report is answered for a word that was taken and asked for one. In its turn the done ticks were loaded: the place
+-- A report is answered for a word that was taken and asked for one, so behind the banner. In its turn the done ticks were loaded: the place
 -- is that after these, on all axes; the cycle is over if nothing is left to run and each is done, and a machine that
 -- has stopped is held, or its jogs are cut. The feed is 0 if each tick that was given is done.
 pub record IsReportAt (first : Opening) (r : Report) (h : Journal) : Type 0 where
@@ -347,6 +353,7 @@ MayAtPort first (answered r) h = MayTell first r h
 MayAtPort first (reported r) h = IsReportAt first r h
 MayAtPort first no_reply_room h = (tells_next (left_of first h) || owes_report h) ≡ true
 MayAtPort first (took_exec word) h = MayTakeRequests word h
+MayAtPort first (took_ovr word) h = MayTakeChanges h
 MayAtPort first (published p) h = IsInHand p h × IsTimely p h
 MayAtPort first (no_piece_room done) h = MayKeep done h
 MayAtPort first (loaded done) h = MayBeDone done (port_log h)

@@ -1,5 +1,5 @@
 -- Where a journal begins: what was done before its first step, and what is told first.
-use Rattle.std.specs.Prelude.{◌≡◌, ℕ, ◌+◌, false, List, [], ◌∷◌}
+use Rattle.std.specs.Prelude.{◌≡◌, ℕ, ◌+◌, false, cond, List, [], ◌∷◌}
 use Rattle.feed_hold.specs.declared.Motion.{Motion}
 use Rattle.feed_hold.specs.declared.Motion.TheVariants as motions
 use Rattle.flight.specs.Places.{origin}
@@ -7,7 +7,7 @@ use Rattle.run_rules.specs.declared.State.{State}
 use Rattle.run_rules.specs.Outcomes.{Before, start}
 use Rattle.status_report.specs.declared.Reply.{Reply}
 use Rattle.status_report.specs.declared.Reply.TheVariants.{Banner}
-use Rattle.status_report.specs.Answering.{is_answer, is_bye, is_report}
+use Rattle.status_report.specs.Answering.{is_answer, is_banner, is_bye, is_report}
 use Rattle.units.specs.declared.Steps3.{Steps3}
 
 -- how many lines were begun before, and the state that they leave; the place where the machine stands, and the state of
@@ -32,6 +32,11 @@ pub record IsGreeting (r : Reply) : Type 0 where
   pub answers : is_answer r ≡ false
   pub reports : is_report r ≡ false
   pub parts : is_bye r ≡ false
+
+-- what greets, up to the banner
+abbrev pub up_to_banner : List Reply → List Reply
+up_to_banner [] = []
+up_to_banner (r ∷ rs) = r ∷ cond (is_banner r) [] (up_to_banner rs)
 
 -- so many replies greet at most
 abbrev pub most_greetings : ℕ

@@ -19,9 +19,10 @@ use Rattle.run_rules.specs.Locking.{locked_behind}
 use Rattle.run_rules.specs.Work.{Task, has_moves}
 use Rattle.run_rules.specs.Work.Task.{ask, tell, pause, normal, finish, halt}
 use Rattle.run_rules.specs.Outcomes.{jogged_behind, begins_with_dollar}
+use Rattle.serial_ring.specs.Logs.{has_greeted}
 use Rattle.step_line.specs.Asking.Asked.{a_move, a_rest}
 use Rattle.board_rules.specs.Openings.{Opening}
-use Rattle.board_rules.specs.Ports.{PortStep, asks_reset, has_changes, owes_in}
+use Rattle.board_rules.specs.Ports.{PortStep, asks_reset, has_changes, owes_in, link_steps}
 use Rattle.board_rules.specs.Ports.PortStep.{took, found_empty, found_closed, found_free, answered, reported, no_reply_room, took_exec, took_ovr, published, no_piece_room, loaded}
 use Rattle.board_rules.specs.Steps.{Step, Journal, port_log, open_of, whole_of, lines_of, has_limited, left_of, plan_of, motion_of}
 use Rattle.board_rules.specs.Steps.Step.{at_port, began, did, made_end, evened, paused, became, cut, halted, closing, turned}
@@ -103,6 +104,10 @@ loads _ = false
 
 -- ---- the words of flags
 
+-- the banner was told
+abbrev pub is_greeted : Journal → Bool
+is_greeted h = has_greeted (link_steps (port_log h))
+
 -- a word of requests is taken that is to be obeyed
 abbrev pub takes_requests : Step → Bool
 takes_requests (at_port (took_exec word)) = not (asks_reset word)
@@ -163,18 +168,22 @@ abbrev pub by_wait : Turn → Bool → Bool
 by_wait (Wait on) taken = false
 by_wait t taken = taken
 
--- the word of requests was taken since the last line was taken to its LF, and since anything was waited for
+-- No word is taken before the banner is told: what was waited for until then does not count.
+abbrev pub by_turn : (greeted : Bool) → Turn → Bool → Bool
+by_turn greeted t taken = cond greeted (by_wait t taken) taken
+
+-- the word of requests was taken since the last line was taken to its LF, and since anything was waited for behind the banner
 abbrev pub requests_taken : Journal → Bool
 requests_taken [] = true
 requests_taken (at_port e ∷ h) = requests_at e (requests_taken h)
-requests_taken (turned t ∷ h) = by_wait t (requests_taken h)
+requests_taken (turned t ∷ h) = by_turn (is_greeted h) t (requests_taken h)
 requests_taken (_ ∷ h) = requests_taken h
 
 -- so was the word of changes of overrides
 abbrev pub changes_taken : Journal → Bool
 changes_taken [] = true
 changes_taken (at_port e ∷ h) = changes_taken_at e (changes_taken h)
-changes_taken (turned t ∷ h) = by_wait t (changes_taken h)
+changes_taken (turned t ∷ h) = by_turn (is_greeted h) t (changes_taken h)
 changes_taken (_ ∷ h) = changes_taken h
 
 -- both were

@@ -3,6 +3,7 @@
 ghost use Rattle.std.specs.Prelude.{◌≡◌, ◌↔◌, ℕ, ◌+◌, ◌*◌, ◌^◌, ◌≤◌, ◌<◌, ◌⊎◌, Bool, true, false, ◌&&◌, ◌||◌, cond, List, [], ◌∷◌, ◌++◌, length, map, reverse, Some};
 ghost use Rattle.std.specs.List.{AllByRecursion, count_by, flat_map, list_any, sum};
 ghost use Rattle.code_table.specs.declared.flags.Exec.{Exec as AnyExec};
+ghost use Rattle.code_table.specs.declared.flags.Ovr.{Ovr as AnyOvr};
 ghost use Rattle.feed_hold.specs.declared.Motion.{Motion as AnyMotion};
 ghost use Rattle.feed_hold.specs.declared.Motion.TheVariants.{Idle, Run, Holding, Held, Jog, Cancelling, Stopping, Alarm};
 ghost use Rattle.feed_hold.specs.Motions.{after, is_stopping};
@@ -16,7 +17,7 @@ ghost use Rattle.outside.specs.declared.Turn.{Turn as AnyTurn};
 ghost use Rattle.outside.specs.declared.Turn.TheVariants.{Wait};
 ghost use Rattle.planner_runs.specs.declared.Action.TheVariants.{Take};
 ghost use Rattle.planner_runs.specs.Runs.{IsPlannerRun, IsAtRest, Plans, IsStart, most_blocks, normal_overrides, all_asked, ticks_left};
-ghost use Rattle.board_rules.specs.Openings.{Opening, IsPlaced, before_first, first_opening};
+ghost use Rattle.board_rules.specs.Openings.{Opening, IsPlaced, before_first, first_opening, up_to_banner};
 ghost use Rattle.run_rules.specs.declared.State.{State};
 ghost use Rattle.run_rules.specs.States.{IsOpening};
 ghost use Rattle.run_rules.specs.Work.{Outcome, is_limit, tells, asks};
@@ -61,7 +62,7 @@ ghost use Rattle.board_rules.specs.Cuts.{
 ghost use Rattle.board_rules.specs.Ports.{MayAnswer, MayPublish, MayBeDone, asks_reset, sent_in, unstopped, has_held_in, has_slowed_in, has_changed_in, reports_in};
 ghost use Rattle.board_rules.specs.Whole.{course_of};
 ghost use Rattle.run_rules.specs.Reports.{Reported};
-ghost use Rattle.board_rules.specs.Ports.PortStep.{answered, took_exec, reported, published};
+ghost use Rattle.board_rules.specs.Ports.PortStep.{answered, took_exec, took_ovr, reported, published};
 ghost use Rattle.status_report.specs.declared.reports.Report.{Report as AnyReport};
 ghost use Rattle.board_rules.specs.Steps.{
   Step,
@@ -102,6 +103,7 @@ ghost use Rattle.board_rules.specs.Turns.{
   takes_changes,
   replans,
   asks_no_start,
+  is_greeted,
   requests_taken,
   changes_taken,
   loads,
@@ -144,6 +146,18 @@ pub fn boards_answer_each_line_once()
     ensures due { (first : Opening) (h : Journal) (r : AnyReply) → Conducted first h → IsNextTask first (tell r) h → is_answer r ≡ true →
         answers_in (answered_of h) < lfs_in (taken_of h) }
     ensures fits { (first : Opening) (h : Journal) (r : AnyReply) → Conducted first h → IsNextTask first (tell r) h → IsReply r → MayAnswer (port_log h) r }
+{}
+
+/// An epoch is greeted before all else. No word of flags is taken, and no report answered, before the banner is told; until then no
+/// byte is taken and no line begun, and what was answered is a front of what greets, of which the rest is to be told. From then on
+/// what was answered begins with what greets, up to the banner. Where no reply is next the banner is told.
+pub fn boards_greet_first()
+    ensures words { (first : Opening) (h : Journal) (word : AnyExec) → Conducted first (at_port (took_exec word) ∷ h) → is_greeted h ≡ true }
+    ensures changes { (first : Opening) (h : Journal) (word : AnyOvr) → Conducted first (at_port (took_ovr word) ∷ h) → is_greeted h ≡ true }
+    ensures reports { (first : Opening) (h : Journal) (r : AnyReport) → Conducted first (at_port (reported r) ∷ h) → is_greeted h ≡ true }
+    ensures before { (first : Opening) (h : Journal) → Conducted first h → is_greeted h ≡ false → (taken_of h ≡ []) × ((outcomes_of h ≡ []) × (answered_of h ++ tells (left_of first h) ≡ first.tells)) }
+    ensures behind { (first : Opening) (h : Journal) → Conducted first h → is_greeted h ≡ true → (behind : List AnyReply) × (answered_of h ≡ up_to_banner first.tells ++ behind) }
+    ensures told { (first : Opening) (h : Journal) → Conducted first h → tells_next (left_of first h) ≡ false → is_greeted h ≡ true }
 {}
 
 /// A board begins 2^31 lines at most, since its port gives no more bytes; so it gives fewer than 2^62 ticks, and
@@ -243,7 +257,7 @@ pub fn boards_take_turns()
 {}
 
 /// A line is begun once both words of flags were taken after its LF, what they ask for is done, and no report is owed.
-/// When anything is waited for, both were taken since the last wait, and obeyed. A word of requests lets a machine that
+/// When anything is waited for, both were taken since the last wait behind the banner, and obeyed. A word of requests lets a machine that
 /// is held stay so if it asks for a reset, since it is not obeyed then, or asks for no start, or for a hold. A machine that slows down is held, or in alarm, once it has
 /// stopped and each tick is done; and one whose jogs were cancelled stands then, once its jogs were cut. The board
 /// looks for that before it obeys a word, so that a machine that has stopped is held by then, or its jogs are cut. A

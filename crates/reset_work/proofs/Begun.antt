@@ -30,7 +30,7 @@ conducted : (state : State) → Conducted (first_opening state) asked
 conducted state = (
   ends _ _ (λ w. untrue w.blocks) refl refl refl refl refl refl,
   (
-    record { obeyed = refl; few = λ report. absurd cc },
+    record { greeted = refl; obeyed = refl; few = λ report. absurd cc },
     (ends _ _ (λ w. untrue w.blocks) refl refl refl refl refl refl, (record { next = refl; plain = refl; unowed = refl; empty = λ e. absurd cc; unlocked = refl }, opens state)),
   ),
 )
