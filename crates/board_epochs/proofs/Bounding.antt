@@ -151,7 +151,7 @@ pub answered_behind : (before : BoardLog) (h : Journal) → length (answered_in 
 answered_behind before h = ap (λ (rs : List Reply). length rs) (answered_on (known_in before) (port_log h) before) ∙ length-append (answered_in before) (answered_of h)
 
 -- no reply is answered by a reset's work
-no_replies : (number : ℕ) (before : BoardLog) (w : Work) → Works number before w → length (answered_in (all_of before w)) ≡ length (answered_in before)
+pub no_replies : (number : ℕ) (before : BoardLog) (w : Work) → Works number before w → answered_in (all_of before w) ≡ answered_in before
 no_replies number before [] c = refl
 no_replies number before (at_port (answered r) ∷ w) c = absurd (never number (all_of before w) (stage_of before w) (answered r) tt c.0)
 no_replies number before (at_port (reported r) ∷ w) c = absurd (never number (all_of before w) (stage_of before w) (reported r) tt c.0)
@@ -187,7 +187,7 @@ few_on first before e n is b m =
     let few = pieces_bounded first h c (not_ended (reverse (published_of h)) (no_ends_back (published_of h) (none_ended first h c (unended first h is.resetting.epoch is.resetting.may)))) in
     let all = ap (λ (x : Sent). length (ring.published_in x)) end.0 in
     let had = m.pieces in
-    let replies = m.replies in let told = answered_behind before h in let none = no_replies number lb e.work is.resetting.works in
+    let replies = m.replies in let told = answered_behind before h in let none = ap (λ (rs : List Reply). length rs) (no_replies number lb e.work is.resetting.works) in
     let lines = answered_by_lines first h c in let bytes = lines_in_bytes first h c in
     let asked = reports_on (known_in before) (port_log h) before in let later = more_reports (port_log e.work) lb in
     record {

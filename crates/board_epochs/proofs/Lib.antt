@@ -11,3 +11,4 @@ pub mod Asking
 pub mod Telling
 pub mod Texts
 pub mod Locked
+pub mod Greetings

@@ -25,7 +25,8 @@ use Rattle.board_epochs.specs.Bounds.{loaded_mark, AreMarked}
 use Rattle.board_epochs.specs.Epochs.{Closed, AreClosed, closed_log, log_on, log_behind, log_of, opening_behind}
 use Rattle.board_epochs.specs.Epochs.Epochs.{goes}
 use Rattle.board_epochs.proofs.Bounding.{AreConducted, Marked, marked_behind, few_behind, few_epochs, taken_behind, answered_behind, more_taken}
-use Rattle.board_epochs.proofs.Greeted.{by_count, greeted_with, ungreeted, next_there}
+use Rattle.board_rules.proofs.Greeted.{by_count}
+use Rattle.board_epochs.proofs.Greeted.{greeted_with, ungreeted, next_there}
 use Rattle.board_epochs.proofs.Onto.{steps_on, reports_on}
 
 -- ---- a line

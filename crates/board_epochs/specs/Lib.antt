@@ -3,3 +3,4 @@ pub mod Work
 pub mod Bounds
 pub mod Epochs
 pub mod Reports
+pub mod Greetings

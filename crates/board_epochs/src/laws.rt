@@ -1,6 +1,6 @@
 //! Laws of epochs.
 
-ghost use Rattle.std.specs.Prelude.{◌≡◌, ℕ, ◌+◌, ◌^◌, ◌≤◌, ◌<◌, ◌⊎◌, ◌||◌, true, false, [], length, reverse};
+ghost use Rattle.std.specs.Prelude.{◌≡◌, ℕ, ◌+◌, ◌^◌, ◌≤◌, ◌<◌, ◌⊎◌, ◌||◌, true, false, [], ◌∷◌, length, reverse};
 ghost use Rattle.feed_hold.specs.declared.Motion.TheVariants.{Stopping};
 ghost use Rattle.feed_hold.specs.Motions.{behind_reset};
 ghost use Rattle.motion_ring.specs.Sides.{ticks_published};
@@ -9,6 +9,7 @@ ghost use Rattle.run_rules.specs.declared.State.{State};
 ghost use Rattle.run_rules.specs.States.{IsOpening};
 ghost use Rattle.run_rules.specs.Work.Task.{tell};
 ghost use Rattle.run_texts.specs.Courses.{behind_the_reset};
+ghost use Rattle.run_texts.specs.Fronts.{BeginsWith};
 ghost use Rattle.run_texts.specs.Points.{Point, opening};
 ghost use Rattle.run_texts.specs.Told.{told_at_reset};
 ghost use Rattle.status_report.specs.Replies.{IsReply};
@@ -18,17 +19,18 @@ ghost use Rattle.step_line.specs.declared.Mark.{Mark as AnyMark};
 ghost use Rattle.step_line.specs.declared.Piece.{Piece as AnyPiece};
 ghost use Rattle.step_line.specs.Logs.{NewestFirst};
 ghost use Rattle.board_rules.specs.Conduct.{Conducted, MayOpen, IsInHand, IsNextTask};
-ghost use Rattle.board_rules.specs.Openings.{Opening, IsPlaced, first_opening};
-ghost use Rattle.board_rules.specs.Ports.{taken_in, known_in, sent_in, MayAnswer, MayPublish, MayStop, MayAskHalt, MayBeDone, LacksPieceRoom, HasTakenFew, HasFewReports};
+ghost use Rattle.board_rules.specs.Openings.{Opening, IsPlaced, first_opening, up_to_banner};
+ghost use Rattle.board_rules.specs.Ports.{taken_in, answered_in, known_in, sent_in, MayAnswer, MayPublish, MayStop, MayAskHalt, MayBeDone, LacksPieceRoom, HasTakenFew, HasFewReports};
 ghost use Rattle.board_rules.specs.Steps.{Journal, port_log, has_limited, known_of, given_of, planned_of, plan_of, before_of, closed_tells, motion_of, lines_of, outcomes_of, answered_of};
 ghost use Rattle.board_rules.specs.Turns.{is_alarm, is_limited};
 ghost use Rattle.planner_runs.specs.Runs.{fresh_plan};
 ghost use Rattle.board_epochs.specs.Bounds.{IsFew, AreMarked};
+ghost use Rattle.board_epochs.specs.Greetings.{IsGreeted};
 ghost use Rattle.board_epochs.specs.Reports.{TellLock};
 ghost use Rattle.board_epochs.specs.Resets.{MayReset};
 ghost use Rattle.board_epochs.specs.Work.{Work, stage_of};
 ghost use Rattle.board_epochs.specs.Work.Stage.{stops, awaits_halt, publishes};
-ghost use Rattle.board_epochs.specs.Epochs.{Closed, AreClosed, AreEpochs, IsEpoch, answered_state, last_line, lines_dropped, reset_of, next_opening, opening_behind, point_of, closed_log, ticks_made, log_behind, log_of};
+ghost use Rattle.board_epochs.specs.Epochs.{Closed, AreClosed, Epochs, AreEpochs, IsEpoch, answered_state, last_line, lines_dropped, reset_of, next_opening, opening_behind, point_of, closed_log, ticks_made, log_behind, log_of};
 ghost use Rattle.board_epochs.specs.Epochs.Epochs.{goes, resets};
 
 /// Each epoch opens where a journal may begin: the machine stands, idle or locked, one Banner greets, and the position is
@@ -113,6 +115,15 @@ pub fn resets_are_those_of_the_texts()
     ensures begins { (state : State) → opening state ≡ point_of (first_opening state) }
     ensures number { (base : ℕ) (first : Opening) (h : Journal) (w : Work) → Conducted first h → (reset_of base first h w).number + 1 ≡ (before_of first h).number }
     ensures locks { (base : ℕ) (first : Opening) (h : Journal) (w : Work) → (reset_of base first h w).locked ≡ ((reset_of base first h w).alarm || is_alarm (motion_of first h)) }
+{}
+
+/// What is answered in an epoch begins with what greets there, up to the banner, or is a front of that: no report comes before the
+/// banner of its epoch. An epoch that a reset ends was greeted, since no reply is next then. So what is answered over all epochs
+/// begins with the banner of the first.
+pub fn epochs_are_greeted_first()
+    ensures now { (first : Opening) (h : Journal) → Conducted first h → IsGreeted first.tells (answered_of h) }
+    ensures reset { (first : Opening) (h : Journal) → Conducted first h → MayReset first h → BeginsWith (answered_of h) (up_to_banner first.tells) }
+    ensures all { (state : State) (es : Epochs) → AreEpochs state es → IsGreeted (AnyReply.Banner ∷ []) (answered_in (log_of es)) }
 {}
 
 /// A machine that is locked as an epoch begins is told in alarm until a line is begun that unlocks it; and once that line is
