@@ -165,6 +165,7 @@ begun first was now t h o j none is other still =
       resetting_is = k.resetting_is;
       taken_is = k.taken_is;
       answered_is = k.answered_is;
+      greeted_is = k.greeted_is;
       prompt = (record { further = λ e. absurd (let f = sym e ∙ sym k.resetting_is ∙ none in cc); waits = k.unready }, k.prompt);
       unready = λ may. absurd (let e = may.between in cc);
       jogged_is = j.jogs ∙ ap (jogged_behind o.kind) k.jogged_is;
@@ -252,6 +253,7 @@ begun_limited first was now m h o j none is runs =
       resetting_is = k.resetting_is;
       taken_is = k.taken_is;
       answered_is = k.answered_is;
+      greeted_is = k.greeted_is;
       prompt = (
         record { further = λ e. refl; waits = λ may. absurd (let e = may.between in cc) },
         (record { further = λ e. absurd (let f = sym e ∙ sym k.resetting_is ∙ none in cc); waits = k.unready }, k.prompt),
@@ -291,6 +293,7 @@ begun_unlocked first was now m h o j none alarm one runs =
       resetting_is = k.resetting_is;
       taken_is = k.taken_is;
       answered_is = k.answered_is;
+      greeted_is = k.greeted_is;
       prompt = (
         record { further = λ e. refl; waits = λ may. absurd (let e = may.between in cc) },
         (record { further = λ e. absurd (let f = sym e ∙ sym k.resetting_is ∙ none in cc); waits = k.unready }, k.prompt),

@@ -19,23 +19,24 @@ use Rattle.step_line.specs.Asking.Asked.{a_move}
 use Rattle.step_line.specs.declared.Piece.{Piece}
 use Rattle.step_line.specs.declared.planned_move.PlannedMove.{PlannedMove}
 use Rattle.run_rules.specs.Work.{Task, has_moves, pauses}
-use Rattle.run_rules.specs.Work.Task.{ask}
+use Rattle.run_rules.specs.Work.Task.{ask, tell}
 use Rattle.board_rules.specs.Openings.{Opening}
 use Rattle.board_rules.specs.Ports.{asks_reset}
 use Rattle.board_rules.specs.Ports.PortStep.{took_exec}
 use Rattle.board_rules.specs.Steps.{Step, Journal, left_of, whole_of, closed_tells, hand_of, plan_of, motion_of}
 use Rattle.board_rules.specs.Steps.Step.{at_port, became}
 use Rattle.board_rules.specs.Cuts.{has_cut}
-use Rattle.board_rules.specs.Turns.{this_turn, is_going, publishing, passing, unobeyed_of, owes_report, takes_changes, replans, asks_no_start, flags_taken, has_blocks, has_jogged, has_jog_to_start, waits_to_jog, has_segment, is_full, is_due, is_halting, is_limited, halts_next, is_counted, is_held_up, needs_motion, awaits_motion, starts_cycle, tries_of, most_tries}
+use Rattle.board_rules.specs.Turns.{this_turn, is_going, publishing, passing, unobeyed_of, owes_report, takes_changes, replans, asks_no_start, flags_taken, has_blocks, has_jogged, has_jog_to_start, waits_to_jog, has_segment, is_full, is_due, is_halting, is_limited, halts_next, is_counted, is_held_up, needs_motion, awaits_motion, tells_next, starts_cycle, tries_of, most_tries}
 use Rattle.board_rules.specs.Conduct.{Conducted, EndsTurn, IsNextTask, AreWaiting, HasSlowedDown}
 use Rattle.board_rules.proofs.Staying.{both_taken, stays_held}
 use Rattle.board_rules.proofs.Given.{known_within}
+use Rattle.board_rules.proofs.Greeted.{greeted_where}
 use Rattle.units.specs.Truths.{one_if}
 use Rattle.board_turns.specs.declared.board.Board.{Board}
 use Rattle.board_turns.specs.declared.board.Beat.TheVariants.{Motion}
 use Rattle.board_turns.specs.declared.board.Flags.{Flags}
 use Rattle.board_turns.specs.declared.board.Flags.TheVariants as words
-use Rattle.board_turns.specs.Boards.{Keeps, Rounds, NoneWaits, IsFree, IsAsked, TakesFlags, takes_no_word, words_left, changes_left, number_of}
+use Rattle.board_turns.specs.Boards.{Keeps, Rounds, NoneWaits, IsFree, IsAsked, AwaitsWords, TakesFlags, takes_no_word, words_left, changes_left, number_of}
 use Rattle.board_turns.specs.Turning.{HasPiece, IsHeldUp, MayRun, PassesNothing, StaysSo, IsCutNow, HasSettled, AreWorked, BoardWorked, obeyed, obeying, to_obey}
 use Rattle.board_turns.specs.Reporting.{IsBehind}
 use Rattle.board_rules.proofs.Facts.{uncounted, uncounted_line}
@@ -51,6 +52,17 @@ some_left : (first : Opening) (h : Journal) → is_held_up first h ≡ true → 
 some_left first h held_up partial none =
     let same = ap (λ (ts : List Task). needs_motion ts (whole_of h) (is_full (plan_of h))) none in
     absurd (let e = sym partial ∙ sym same ∙ held_up in cc)
+
+-- no reply is next then, so the banner is told
+none_told : (tasks : List Task) (whole full : Bool) → needs_motion tasks whole full ≡ true → tells_next tasks ≡ false
+none_told (tell r ∷ tasks) whole full held_up = absurd cc
+none_told _ whole full held_up = refl
+
+pub held_awaits : (first : Opening) (h : Journal) → Conducted first h → IsHeldUp first h → AwaitsWords h
+held_awaits first h c halted = record {
+  greeted = greeted_where first h c (none_told (left_of first h) (whole_of h) (is_full (plan_of h)) halted.held_up);
+  obeyed = (free_of h halted.ready.quiet).obeyed;
+}
 
 -- few tries stand behind the last poll
 pub few_halted : (first : Opening) (h : Journal) → IsHeldUp first h → tries_of first h + one_if (whole_of h) ≤ 1

@@ -38,6 +38,7 @@ use Rattle.board_turns.specs.Reporting.{HasObserved, HasAskedRoom, IsBehind, IsR
 use Rattle.board_turns.proofs.Steps.{report_told, report_kept, other_flags, halts_by}
 use Rattle.board_rules.proofs.Tries.{counts_none, publishes_none, publishes_one}
 use Rattle.board_rules.proofs.Facts.{uncounted_owing}
+use Rattle.board_rules.proofs.Greeted.{owed_greeted}
 pub use Rattle.board_turns.proofs.Halting.{behind_word}
 use Rattle.board_turns.proofs.Halting.{waited_before}
 use Rattle.board_turns.proofs.Settling.{none_waits_so, none_fits_so}
@@ -226,7 +227,7 @@ waits_for_room : (first : Opening) (board : Board) (was : Flags) (h next : Journ
 waits_for_room first board was h next steps are keeps l tried beat both = record {
   keeps = keeps;
   rounds = subst (λ b. (Rounds first) b next) (sym beat) (rounds_still first next l.none_waits l.tries);
-  flags = subst (λ f. TakesFlags f next) (sym both) l.words;
+  flags = subst (λ f. TakesFlags f next) (sym both) (record { greeted = owed_greeted first next keeps.conducted l.owed; obeyed = l.words });
   still = λ e. absurd (motion_beat board beat e);
   beat = λ o e. beat;
   steps = steps;

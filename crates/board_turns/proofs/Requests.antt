@@ -11,7 +11,7 @@ use Rattle.board_rules.specs.Ports.{has_changes}
 use Rattle.board_rules.specs.Ports.PortStep.{took_exec, took_ovr}
 use Rattle.board_rules.specs.Steps.{Journal, has_limited, port_log, given_of, hand_of, plan_of, motion_of}
 use Rattle.board_rules.specs.Steps.Step.{at_port, did, became}
-use Rattle.board_rules.specs.Turns.{owes_report, has_blocks, is_alarm, is_locked}
+use Rattle.board_rules.specs.Turns.{is_greeted, owes_report, has_blocks, is_alarm, is_locked}
 use Rattle.feed_hold.specs.declared.Motion.{Motion as AnyMotion}
 use Rattle.feed_hold.specs.declared.Motion.TheVariants as motions
 use Rattle.feed_hold.proofs.Reaching.{StaysOrReaches, reached}
@@ -38,6 +38,7 @@ takes_word first c owes resetting word h k may is asks = record {
   resetting_is = asks;
   taken_is = k.taken_is;
   answered_is = k.answered_is;
+  greeted_is = k.greeted_is;
   prompt = (record { further = λ e. refl; waits = k.unready }, k.prompt);
   unready = λ may. absurd (let e = may.between in cc);
   jogged_is = k.jogged_is;
@@ -73,6 +74,7 @@ obeys first c m word h k may runs = record {
   resetting_is = k.resetting_is;
   taken_is = k.taken_is;
   answered_is = k.answered_is;
+  greeted_is = k.greeted_is;
   prompt = (record { further = λ e. refl; waits = k.unready }, k.prompt);
   unready = λ may. absurd (let e = may.between in cc);
   jogged_is = k.jogged_is;
@@ -86,11 +88,11 @@ obeys first c m word h k may runs = record {
 }
 
 -- a word of changes of overrides is taken
-pub takes_changes : (first : Opening) (c : Board) (word : Ovr) (h : Journal) → Keeps first c h → Keeps first c (at_port (took_ovr word) ∷ h)
-takes_changes first c word h k = record {
+pub takes_changes : (first : Opening) (c : Board) (word : Ovr) (h : Journal) → Keeps first c h → is_greeted h ≡ true → Keeps first c (at_port (took_ovr word) ∷ h)
+takes_changes first c word h k greeted = record {
   placed = k.placed;
   short = k.short;
-  conducted = (tt, k.conducted);
+  conducted = (greeted, k.conducted);
   machine = k.machine;
   lines = k.lines;
   input = k.input;
@@ -99,6 +101,7 @@ takes_changes first c word h k = record {
   resetting_is = k.resetting_is;
   taken_is = k.taken_is;
   answered_is = k.answered_is;
+  greeted_is = k.greeted_is;
   prompt = (record { further = λ e. refl; waits = k.unready }, k.prompt);
   unready = λ may. absurd (let e = may.between in cc);
   jogged_is = k.jogged_is;
@@ -112,15 +115,15 @@ takes_changes first c word h k = record {
 }
 
 -- it is planned for what a word makes of the overrides
-pub changes : (first : Opening) (c : Board) (m : Machine) (word : Ovr) (h : Journal) → Keeps first c h → has_changes word ≡ true → IsOverrides m.overrides
+pub changes : (first : Opening) (c : Board) (m : Machine) (word : Ovr) (h : Journal) → Keeps first c h → is_greeted h ≡ true → has_changes word ≡ true → IsOverrides m.overrides
     → Runs m (record (plan_of h) { overrides = taken (plan_of h).overrides word }) (motion_of first h) (hand_of h) (given_of h)
     → Keeps first (record c { machine = m }) (did (Override (taken (plan_of h).overrides word)) [] ∷ at_port (took_ovr word) ∷ h)
-changes first c m word h k some range runs = record {
+changes first c m word h k greeted some range runs = record {
   placed = k.placed;
   short = k.short;
   conducted = (
     (record { word = word; earlier = port_log h; last = refl; some = some; taken = refl }, (subst IsOverrides (sym runs.same) range, refl)),
-    (tt, k.conducted),
+    (greeted, k.conducted),
   );
   machine = rw (append-nil (hand_of h), append-nil (given_of h)) runs;
   lines = k.lines;
@@ -130,6 +133,7 @@ changes first c m word h k some range runs = record {
   resetting_is = k.resetting_is;
   taken_is = k.taken_is;
   answered_is = k.answered_is;
+  greeted_is = k.greeted_is;
   prompt = (record { further = λ e. refl; waits = λ may. absurd (let e = may.between in cc) }, (record { further = λ e. refl; waits = k.unready }, k.prompt));
   unready = λ may. absurd (let e = may.between in cc);
   jogged_is = k.jogged_is;
@@ -141,3 +145,7 @@ changes first c m word h k some range runs = record {
   unlocked = k.unlocked;
   tries = k.tries;
 }
+
+-- a board that keeps the same of the banner keeps it told
+pub still_greeted : (first : Opening) (was is : Board) (h next : Journal) → Keeps first was h → Keeps first is next → is.greeted ≡ was.greeted → is_greeted h ≡ true → is_greeted next ≡ true
+still_greeted first was is h next k n same greeted = sym n.greeted_is ∙ same ∙ k.greeted_is ∙ greeted

@@ -10,7 +10,7 @@ use Rattle.run_rules.specs.Work.{Task}
 use Rattle.run_rules.specs.Work.Task.{ask, tell, pause, normal, finish}
 use Rattle.status_report.specs.declared.Reply.{Reply}
 use Rattle.status_report.specs.declared.Reply.TheVariants.{Bye}
-use Rattle.status_report.specs.Answering.{is_answer, is_report}
+use Rattle.status_report.specs.Answering.{is_answer, is_banner, is_report}
 use Rattle.status_report.specs.declared.reports.Report.{Report}
 use Rattle.flight.specs.Flights.{Flying, Flies}
 use Rattle.step_line.specs.declared.Mark.{Mark as AnyMark}
@@ -65,6 +65,7 @@ sent first c m f p h k is timely runs flies = record {
   resetting_is = k.resetting_is;
   taken_is = k.taken_is;
   answered_is = k.answered_is;
+  greeted_is = k.greeted_is;
   prompt = (record { further = λ e. refl; waits = k.unready }, k.prompt);
   unready = λ may. absurd (let e = may.between in cc);
   jogged_is = k.jogged_is;
@@ -91,6 +92,7 @@ not_sent first c done h k some full = record {
   resetting_is = k.resetting_is;
   taken_is = k.taken_is;
   answered_is = k.answered_is;
+  greeted_is = k.greeted_is;
   prompt = (record { further = λ e. refl; waits = k.unready }, k.prompt);
   unready = λ may. absurd (let e = may.between in cc);
   jogged_is = k.jogged_is;
@@ -117,6 +119,7 @@ looked first c done h k may = record {
   resetting_is = k.resetting_is;
   taken_is = k.taken_is;
   answered_is = k.answered_is;
+  greeted_is = k.greeted_is;
   prompt = (record { further = λ e. refl; waits = k.unready }, k.prompt);
   unready = λ may. absurd (let e = may.between in cc);
   jogged_is = k.jogged_is;
@@ -139,9 +142,9 @@ one_less c i first h w is = record {
 }
 
 -- a reply is told
-pub told : (first : Opening) (c : Board) (i : Interpreting) (s : State) (r : Reply) (h : Journal) → Keeps first c h → IsNextTask first (tell r) h → is_report r ≡ false → owes_report h ≡ false → (r ≡ Bye → hand_of h ≡ []) → i ≡ record c.lines { left = drop 1 c.lines.left }
-    → s ≡ cond (is_answer r) c.lines.state c.answered → Keeps first (record c { lines = i; answered = s }) (at_port (answered r) ∷ h)
-told first c i s r h k next plain unowed empty is state = record {
+pub told : (first : Opening) (c : Board) (i : Interpreting) (s : State) (greeted : Bool) (r : Reply) (h : Journal) → Keeps first c h → IsNextTask first (tell r) h → is_report r ≡ false → owes_report h ≡ false → (r ≡ Bye → hand_of h ≡ []) → i ≡ record c.lines { left = drop 1 c.lines.left }
+    → s ≡ cond (is_answer r) c.lines.state c.answered → greeted ≡ (is_banner r || c.greeted) → Keeps first (record c { lines = i; answered = s; greeted = greeted }) (at_port (answered r) ∷ h)
+told first c i s greeted r h k next plain unowed empty is state greets = record {
   placed = k.placed;
   short = k.short;
   conducted = (record { next = next; plain = plain; unowed = unowed; empty = empty; unlocked = k.unlocked }, k.conducted);
@@ -153,6 +156,7 @@ told first c i s r h k next plain unowed empty is state = record {
   resetting_is = k.resetting_is;
   taken_is = k.taken_is;
   answered_is = state ∙ ap (λ (x : State). cond (is_answer r) x c.answered) k.lines.state_is ∙ ap (cond (is_answer r) (before_of first h).state) k.answered_is;
+  greeted_is = greets ∙ ap (λ (t : Bool). is_banner r || t) k.greeted_is;
   prompt = (record { further = λ e. refl; waits = k.unready }, k.prompt);
   unready = λ may. absurd (let e = may.between in cc);
   jogged_is = k.jogged_is;
@@ -179,6 +183,7 @@ not_told first c h k next = record {
   resetting_is = k.resetting_is;
   taken_is = k.taken_is;
   answered_is = k.answered_is;
+  greeted_is = k.greeted_is;
   prompt = (record { further = λ e. refl; waits = k.unready }, k.prompt);
   unready = λ may. absurd (let e = may.between in cc);
   jogged_is = k.jogged_is;
@@ -205,6 +210,7 @@ report_told first c r h k may = record {
   resetting_is = k.resetting_is;
   taken_is = k.taken_is;
   answered_is = k.answered_is;
+  greeted_is = k.greeted_is;
   prompt = (record { further = λ e. refl; waits = k.unready }, k.prompt);
   unready = λ may. absurd (let e = may.between in cc);
   jogged_is = k.jogged_is;
@@ -235,6 +241,7 @@ report_kept first c h k owed = record {
   resetting_is = k.resetting_is;
   taken_is = k.taken_is;
   answered_is = k.answered_is;
+  greeted_is = k.greeted_is;
   prompt = (record { further = λ e. refl; waits = k.unready }, k.prompt);
   unready = λ may. absurd (let e = may.between in cc);
   jogged_is = k.jogged_is;
@@ -261,6 +268,7 @@ polled_empty first c h k may = record {
   resetting_is = k.resetting_is;
   taken_is = k.taken_is;
   answered_is = k.answered_is;
+  greeted_is = k.greeted_is;
   prompt = (record { further = λ e. refl; waits = k.unready }, k.prompt);
   unready = λ may. absurd (let e = may.between in cc);
   jogged_is = k.jogged_is;
@@ -287,6 +295,7 @@ polled_closed first c h k may = record {
   resetting_is = k.resetting_is;
   taken_is = k.taken_is;
   answered_is = k.answered_is;
+  greeted_is = k.greeted_is;
   prompt = (record { further = λ e. refl; waits = k.unready }, k.prompt);
   unready = λ may. absurd (let e = may.between in cc);
   jogged_is = k.jogged_is;
@@ -316,6 +325,7 @@ added_move first c m i mv h k next planned room runs is = record {
   resetting_is = k.resetting_is;
   taken_is = k.taken_is;
   answered_is = k.answered_is;
+  greeted_is = k.greeted_is;
   prompt = (record { further = λ e. refl; waits = k.unready }, k.prompt);
   unready = λ may. absurd (let e = may.between in cc);
   jogged_is = k.jogged_is;
@@ -361,6 +371,7 @@ took_segment first c m s h k moves empty next runs = record {
   resetting_is = k.resetting_is;
   taken_is = k.taken_is;
   answered_is = k.answered_is;
+  greeted_is = k.greeted_is;
   prompt = (record { further = λ e. refl; waits = k.unready }, k.prompt);
   unready = λ may. absurd (let e = may.between in cc);
   jogged_is = k.jogged_is;
@@ -400,6 +411,7 @@ marked first c m i mark h k next good empty rest runs is = record {
   resetting_is = k.resetting_is;
   taken_is = k.taken_is;
   answered_is = k.answered_is;
+  greeted_is = k.greeted_is;
   prompt = (record { further = λ e. refl; waits = k.unready }, k.prompt);
   unready = λ may. absurd (let e = may.between in cc);
   jogged_is = k.jogged_is;
@@ -427,6 +439,7 @@ rested first c i h k next drained stands is = record {
   resetting_is = k.resetting_is;
   taken_is = k.taken_is;
   answered_is = k.answered_is;
+  greeted_is = k.greeted_is;
   prompt = (record { further = λ e. refl; waits = k.unready }, k.prompt);
   unready = λ may. absurd (let e = may.between in cc);
   jogged_is = k.jogged_is;
@@ -455,6 +468,7 @@ evens first c m i h k next drained stands runs is = record {
   resetting_is = k.resetting_is;
   taken_is = k.taken_is;
   answered_is = k.answered_is;
+  greeted_is = k.greeted_is;
   prompt = (record { further = λ e. refl; waits = k.unready }, k.prompt);
   unready = λ may. absurd (let e = may.between in cc);
   jogged_is = k.jogged_is;
@@ -482,6 +496,7 @@ held_for_pause first c m i h k next drained stands runs is = record {
   resetting_is = k.resetting_is;
   taken_is = k.taken_is;
   answered_is = k.answered_is;
+  greeted_is = k.greeted_is;
   prompt = (record { further = λ e. refl; waits = k.unready }, k.prompt);
   unready = λ may. absurd (let e = may.between in cc);
   jogged_is = k.jogged_is;
@@ -510,6 +525,7 @@ ended first c m i h k next drained stands closes runs is = record {
   resetting_is = k.resetting_is;
   taken_is = k.taken_is;
   answered_is = k.answered_is;
+  greeted_is = k.greeted_is;
   prompt = (record { further = λ e. refl; waits = k.unready }, k.prompt);
   unready = λ may. absurd (let e = may.between in cc);
   jogged_is = k.jogged_is;
@@ -543,6 +559,7 @@ started first c m jog h k stands may runs = record {
   resetting_is = k.resetting_is;
   taken_is = k.taken_is;
   answered_is = k.answered_is;
+  greeted_is = k.greeted_is;
   prompt = (record { further = λ e. refl; waits = k.unready }, k.prompt);
   unready = λ may. absurd (let e = may.between in cc);
   jogged_is = k.jogged_is;
@@ -580,6 +597,7 @@ drained first c m h k was may runs = record {
   resetting_is = k.resetting_is;
   taken_is = k.taken_is;
   answered_is = k.answered_is;
+  greeted_is = k.greeted_is;
   prompt = (record { further = λ e. refl; waits = k.unready }, k.prompt);
   unready = λ may. absurd (let e = may.between in cc);
   jogged_is = k.jogged_is;

@@ -61,6 +61,7 @@ stops first c m h k slows stopped runs = record {
   resetting_is = k.resetting_is;
   taken_is = k.taken_is;
   answered_is = k.answered_is;
+  greeted_is = k.greeted_is;
   prompt = (record { further = λ e. refl; waits = k.unready }, k.prompt);
   unready = λ may. absurd (let e = may.between in cc);
   jogged_is = k.jogged_is;
@@ -103,6 +104,7 @@ locks first c m h k slows stopped runs = record {
   resetting_is = k.resetting_is;
   taken_is = k.taken_is;
   answered_is = k.answered_is;
+  greeted_is = k.greeted_is;
   prompt = (record { further = λ e. refl; waits = k.unready }, k.prompt);
   unready = λ may. absurd (let e = may.between in cc);
   jogged_is = k.jogged_is;
@@ -133,6 +135,7 @@ cancel_over first c m h k cancelled was found runs = record {
   resetting_is = k.resetting_is;
   taken_is = k.taken_is;
   answered_is = k.answered_is;
+  greeted_is = k.greeted_is;
   prompt = (record { further = λ e. refl; waits = k.unready }, k.prompt);
   unready = λ may. absurd (let e = may.between in cc);
   jogged_is = k.jogged_is;
@@ -237,6 +240,7 @@ cut_made first c m i k at h keeps uncut found number place left same state runs 
   resetting_is = keeps.resetting_is;
   taken_is = keeps.taken_is;
   answered_is = keeps.answered_is;
+  greeted_is = keeps.greeted_is;
   prompt = (record { further = λ e. refl; waits = keeps.unready }, keeps.prompt);
   unready = λ may. absurd (let e = may.between in cc);
   jogged_is = keeps.jogged_is;

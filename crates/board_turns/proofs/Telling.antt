@@ -69,6 +69,7 @@ other_machine first c m h k runs = record {
   resetting_is = k.resetting_is;
   taken_is = k.taken_is;
   answered_is = k.answered_is;
+  greeted_is = k.greeted_is;
   prompt = k.prompt;
   unready = k.unready;
   jogged_is = k.jogged_is;

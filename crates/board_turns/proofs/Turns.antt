@@ -38,6 +38,7 @@ closes first c i h k unreset may is = record {
   resetting_is = k.resetting_is;
   taken_is = k.taken_is;
   answered_is = k.answered_is;
+  greeted_is = k.greeted_is;
   prompt = (record { further = λ e. absurd (let f = sym e ∙ unreset in cc); waits = k.unready }, k.prompt);
   unready = λ may. absurd (let e = may.between in cc);
   jogged_is = k.jogged_is;
@@ -64,6 +65,7 @@ ends first c f t h k may = record {
   resetting_is = k.resetting_is;
   taken_is = k.taken_is;
   answered_is = k.answered_is;
+  greeted_is = k.greeted_is;
   prompt = (record { further = λ e. refl; waits = k.unready }, k.prompt);
   jogged_is = k.jogged_is;
   cut_is = k.cut_is;
@@ -89,6 +91,7 @@ begins_turn first c h k unready = record {
   resetting_is = k.resetting_is;
   taken_is = k.taken_is;
   answered_is = k.answered_is;
+  greeted_is = k.greeted_is;
   prompt = k.prompt;
   unready = unready;
   jogged_is = k.jogged_is;
@@ -115,6 +118,7 @@ room_found first c bytes h k = record {
   resetting_is = k.resetting_is;
   taken_is = k.taken_is;
   answered_is = k.answered_is;
+  greeted_is = k.greeted_is;
   prompt = (record { further = λ e. refl; waits = k.unready }, k.prompt);
   unready = λ may. absurd (let e = may.between in cc);
   jogged_is = k.jogged_is;
@@ -141,6 +145,7 @@ other_beat first c b h k = record {
   resetting_is = k.resetting_is;
   taken_is = k.taken_is;
   answered_is = k.answered_is;
+  greeted_is = k.greeted_is;
   prompt = k.prompt;
   unready = k.unready;
   jogged_is = k.jogged_is;
@@ -166,6 +171,7 @@ other_flags first c f h k = record {
   resetting_is = k.resetting_is;
   taken_is = k.taken_is;
   answered_is = k.answered_is;
+  greeted_is = k.greeted_is;
   prompt = k.prompt;
   unready = k.unready;
   jogged_is = k.jogged_is;
@@ -192,6 +198,7 @@ other_flight first c f h k flown = record {
   resetting_is = k.resetting_is;
   taken_is = k.taken_is;
   answered_is = k.answered_is;
+  greeted_is = k.greeted_is;
   prompt = k.prompt;
   unready = k.unready;
   jogged_is = k.jogged_is;

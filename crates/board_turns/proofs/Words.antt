@@ -19,7 +19,7 @@ use Rattle.board_rules.specs.Ports.PortStep.{took_exec, took_ovr}
 use Rattle.board_rules.specs.Steps.{Step, Journal, port_log, left_of, whole_of, closed_tells, plan_of, motion_of}
 use Rattle.board_rules.specs.Steps.Step.{at_port, did}
 use Rattle.board_rules.specs.Cuts.{has_cut}
-use Rattle.board_rules.specs.Turns.{this_turn, publishing, found_none, unobeyed_of, owes_report, takes_changes, replans, changes_taken, starts_cycle, has_blocks, has_jogged, has_jog_to_start, is_full, tries_of}
+use Rattle.board_rules.specs.Turns.{this_turn, publishing, found_none, is_greeted, unobeyed_of, owes_report, takes_changes, replans, changes_taken, starts_cycle, has_blocks, has_jogged, has_jog_to_start, is_full, tries_of}
 use Rattle.board_rules.specs.Conduct.{IsNextTask, AreWaiting, MayObey}
 use Rattle.board_rules.proofs.Waiting.{adds}
 use Rattle.units.specs.Truths.{one_if}
@@ -27,7 +27,7 @@ use Rattle.board_turns.specs.declared.board.Board.{Board}
 use Rattle.board_turns.specs.declared.board.Beat.{Beat}
 use Rattle.board_turns.specs.declared.board.Beat.TheVariants.{Motion, Main}
 use Rattle.board_turns.specs.declared.board.Flags.TheVariants as words
-use Rattle.board_turns.specs.Boards.{Keeps, Rounds, NoneWaits, HasChanges, TakesFlags, GoingBetween, GoingFits, takes_no_word, has_published, words_left, changes_left, number_of}
+use Rattle.board_turns.specs.Boards.{Keeps, Rounds, NoneWaits, AwaitsWords, HasChanges, TakesFlags, GoingBetween, GoingFits, takes_no_word, has_published, words_left, changes_left, number_of}
 use Rattle.board_turns.specs.Turning.{HasSettled, AreWorked, BoardWorked, asked, flags_behind, obeyed, obeying, replanned, to_obey}
 use Rattle.board_turns.specs.Reporting.{MayObeyNow}
 use Rattle.board_rules.proofs.Tries.{counts_none, counts_one}
@@ -77,6 +77,7 @@ record TakesChanges (first : Opening) (h next : Journal) : Type 0 where
   waiting : AreWaiting first next → AreWaiting first h
   full : is_full (plan_of next) ≡ is_full (plan_of h)
   taken : changes_taken next ≡ true
+  greeted : is_greeted next ≡ is_greeted h
   words : unobeyed_of next ≡ unobeyed_of h
   jogged : has_jogged next ≡ has_jogged h
 
@@ -99,6 +100,7 @@ none_changed first word h none = record {
   waiting = λ w. record { stands = w.stands; blocks = w.blocks };
   full = refl;
   taken = refl;
+  greeted = refl;
   words = refl;
   jogged = refl;
 }
@@ -127,6 +129,7 @@ some_changed first word h some =
       waiting = λ w. record { stands = w.stands; blocks = w.blocks };
       full = refl;
       taken = refl;
+      greeted = refl;
       words = refl;
       jogged = refl;
     }
@@ -147,7 +150,7 @@ changes_worked : (first : Opening) (was board : Board) (h next : Journal) → Go
 changes_worked first was board h next f between both t keeps same_beat flag = record {
   keeps = keeps;
   rounds = subst (λ b. (Rounds first) b next) (sym beat) (rounds_still first next none few);
-  flags = subst (λ x. TakesFlags x next) (sym flag) (record { changes = t.taken; obeyed = t.words ∙ none_left });
+  flags = subst (λ x. TakesFlags x next) (sym flag) (record { greeted = t.greeted ∙ awaits.greeted; changes = t.taken; obeyed = t.words ∙ none_left });
   still = λ e. absurd (let x = sym (ap has_published beat) ∙ e in cc);
   beat = λ o e. absurd cc;
   steps = t.steps;
@@ -167,8 +170,11 @@ changes_worked first was board h next f between both t keeps same_beat flag = re
     beat : board.beat ≡ Motion
     beat = same_beat ∙ beat_is first was h f (ap takes_no_word both)
 
+    awaits : AwaitsWords h
+    awaits = subst (λ x. TakesFlags x h) both f.flags
+
     none_left : unobeyed_of h ≡ []
-    none_left = subst (λ x. TakesFlags x h) both f.flags
+    none_left = awaits.obeyed
 
     none : NoneWaits first next
     none = none_waits_changed first h next t f.rounds.none_waits

@@ -15,7 +15,7 @@ use Rattle.std.specs.declared.option.Option.{Option}
 use Rattle.board_rules.specs.Openings.{Opening, IsPlaced}
 use Rattle.board_rules.specs.Steps.{Step, Journal, port_log, taken_of, has_limited, published_of, known_of, open_of, whole_of, before_of, left_of, closed_tells, given_of, hand_of, plan_of, motion_of}
 use Rattle.board_rules.specs.Steps.Step.{turned}
-use Rattle.board_rules.specs.Turns.{this_turn, unobeyed_of, owes_report, moving, is_full, is_halting, awaits_unlock, awaits_motion, has_jogged, changes_taken, flags_taken, tries_of, missed_of, waits_of}
+use Rattle.board_rules.specs.Turns.{this_turn, is_greeted, unobeyed_of, owes_report, moving, is_full, is_halting, awaits_unlock, awaits_motion, has_jogged, changes_taken, flags_taken, tries_of, missed_of, waits_of}
 use Rattle.board_rules.specs.Conduct.{Conducted, AreWaiting}
 use Rattle.board_rules.specs.Cuts.{has_cut}
 pub use Rattle.board_rules.specs.Within.{changes_left}
@@ -65,6 +65,7 @@ pub record Keeps (first : Opening) (board : Board) (h : Journal) : Type 0 where
   pub resetting_is : board.resetting ≡ has_reset h
   pub taken_is : board.taken ≡ length (taken_of h)
   pub answered_is : board.answered ≡ answered_state first h
+  pub greeted_is : board.greeted ≡ is_greeted h
   pub prompt : IsPrompt first h
   pub unready : MayReset first h → ⊥
   pub jogged_is : board.jogged ≡ has_jogged h
@@ -89,6 +90,7 @@ pub record KeepsBetween (first : Opening) (board : Board) (h : Journal) : Type 0
   pub resetting_is : board.resetting ≡ has_reset h
   pub taken_is : board.taken ≡ length (taken_of h)
   pub answered_is : board.answered ≡ answered_state first h
+  pub greeted_is : board.greeted ≡ is_greeted h
   pub prompt : IsPrompt first h
   pub jogged_is : board.jogged ≡ has_jogged h
   pub cut_is : board.cut ≡ has_cut h
@@ -131,14 +133,20 @@ pub record IsAsked (word : Option Exec) (h : Journal) : Type 0 where
   pub next : unobeyed_of h ≡ option_to_list word
   pub owed : owes_report h ≡ true
 
+-- both are to be taken: the banner is told, and the last word of requests is obeyed
+pub record AwaitsWords (h : Journal) : Type 0 where
+  pub greeted : is_greeted h ≡ true
+  pub obeyed : unobeyed_of h ≡ []
+
 -- the word of changes of overrides was taken
 pub record HasChanges (h : Journal) : Type 0 where
+  pub greeted : is_greeted h ≡ true
   pub changes : changes_taken h ≡ true
   pub obeyed : unobeyed_of h ≡ []
 
 -- what the words of flags say that are to be taken, or obeyed, before the board goes on
 abbrev pub TakesFlags : Flags → Journal → Type 0
-TakesFlags words.Both h = unobeyed_of h ≡ []
+TakesFlags words.Both h = AwaitsWords h
 TakesFlags words.Requests h = HasChanges h
 TakesFlags (words.Report word) h = IsAsked word h
 TakesFlags words.None h = IsFree h

@@ -255,6 +255,10 @@ asked first word h = cond (owes_report (at_port (took_exec word) ∷ h)) (at_por
 abbrev pub flags_behind : Bool → Exec → Flags
 flags_behind owes word = cond owes (words.Report (to_obey word)) words.None
 
+-- both words of flags are to be taken behind a wait, once the banner is told
+abbrev pub words_awaited : (greeted : Bool) → Flags → Flags
+words_awaited greeted f = cond greeted words.Both f
+
 -- a word of changes of overrides was taken, and it is planned for what they come to, where it holds one
 abbrev pub replanned : Ovr → Journal → Journal
 replanned word h = cond (has_changes word) (did (Override (taken (plan_of h).overrides word)) [] ∷ (at_port (took_ovr word) ∷ h)) (at_port (took_ovr word) ∷ h)

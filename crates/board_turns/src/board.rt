@@ -16,7 +16,7 @@ ghost use Rattle.board_epochs.specs.Resets.{MayReset};
 ghost use Rattle.board_rules.specs.Steps.{Journal, port_log, taken_of, left_of, motion_of, has_closed};
 ghost use Rattle.board_rules.specs.Openings.{Opening, first_opening};
 ghost use Rattle.board_rules.specs.Steps.Step.{at_port};
-ghost use Rattle.board_rules.specs.Turns.{this_turn, tells_next, awaits_motion, begins_in, machine_in, needs_motion, flags_taken, found_nothing, has_blocks, is_full, is_locked};
+ghost use Rattle.board_rules.specs.Turns.{this_turn, is_greeted, tells_next, awaits_motion, begins_in, machine_in, needs_motion, flags_taken, found_nothing, has_blocks, is_full, is_locked};
 ghost use Rattle.board_rules.specs.Conduct.{IsNextTask, MayTake, MayPoll};
 ghost use Rattle.board_turns.specs.Boards.{Keeps, EpochFits, GoingFits, GoingTurned, BoardIsOver, GoingBetween, IsFree, TakesFlags, takes_no_word, board_number};
 ghost use Rattle.board_turns.specs.Turning.{IsNextMove, HasPiece, IsReady, MayRun, MayAwait, MayJudge, IsLooked, NeedsNoWait, IsWholeLine, HasPolled, HasStopped, PassesNothing, DidAlone, HasLooked, HasAdded, HasFilled, HasBegun, Tried, HasTried, BoardWorked, IsHeldUp, IsJudged, GoesOn, LetsLines, HasSettled, IsPassed, WorksOn};
@@ -71,6 +71,8 @@ pub struct Board {
     pub(crate) taken: u32,
     /// The state behind the answered lines.
     pub(crate) answered: Answered,
+    /// The banner is told.
+    pub(crate) greeted: bool,
     pub(crate) beat: Beat,
     pub(crate) closing: bool,
     /// The last that was accepted of G-code and jogs is a jog.
@@ -121,6 +123,7 @@ impl Board {
             resetting: false,
             taken: 0,
             answered,
+            greeted: false,
             beat: Beat::Motion,
             closing: false,
             jogged: false,
@@ -232,7 +235,7 @@ impl Board {
         requires flags { self.old.flags ≡ Flags.None }
         requires few { self.old.taken < 2 ^ 31 }
         ensures kept { (first : Opening) (h : Journal) → Keeps first self.old h → MayTake first h → first.lines + length (taken_of h) < 2 ^ 31 → Keeps first self.new (at_port (took byte) ∷ h) }
-        ensures flags { (first : Opening) (h : Journal) → IsFree h → TakesFlags self.new.flags (at_port (took byte) ∷ h) }
+        ensures flags { (first : Opening) (h : Journal) → IsFree h → is_greeted h ≡ true → TakesFlags self.new.flags (at_port (took byte) ∷ h) }
         ensures same { self.new ≡ record self.old { input = self.new.input; flags = self.new.flags; taken = self.new.taken } }
     {
         self.taken += 1;
@@ -588,7 +591,7 @@ impl Board {
     {
         let turn = self.work(port);
         if let Turn::Wait(_) = turn {
-            self.flags = Flags::Both;
+            self.await_words();
         }
         turn
     }

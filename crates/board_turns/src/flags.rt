@@ -1,6 +1,6 @@
 //! How a board takes its words of flags, and waits for a machine that is to be held, or is held.
 
-ghost use Rattle.std.specs.Prelude.{◌≡◌, ◌≢◌, ◌∷◌, [], false};
+ghost use Rattle.std.specs.Prelude.{◌≡◌, ◌≢◌, ◌∷◌, [], true, false};
 ghost use Rattle.code_table.specs.declared.flags.Exec.{Exec as AnyExec};
 ghost use Rattle.code_table.specs.declared.flags.Ovr.{Ovr as AnyOvr};
 ghost use Rattle.feed_hold.specs.declared.Motion.TheVariants.{Held};
@@ -8,11 +8,11 @@ ghost use Rattle.outside.specs.declared.Turn.TheVariants.{Done};
 ghost use Rattle.board_rules.specs.Steps.{Journal, port_log};
 ghost use Rattle.board_rules.specs.Openings.{Opening};
 ghost use Rattle.board_epochs.specs.Resets.{drops_resets, has_reset};
-ghost use Rattle.board_turns.specs.Boards.{Keeps};
+ghost use Rattle.board_turns.specs.Boards.{Keeps, AwaitsWords};
 ghost use Rattle.board_rules.specs.Ports.PortStep.{took_exec};
 ghost use Rattle.board_rules.specs.Steps.Step.{at_port};
-ghost use Rattle.board_rules.specs.Turns.{unobeyed_of, owes_report, has_jog_to_start};
-ghost use Rattle.board_turns.specs.Turning.{HasPiece, IsHeldUp, HasSettled, asked, flags_behind, replanned, WorksOn};
+ghost use Rattle.board_rules.specs.Turns.{is_greeted, owes_report, has_jog_to_start};
+ghost use Rattle.board_turns.specs.Turning.{HasPiece, IsHeldUp, HasSettled, asked, flags_behind, replanned, words_awaited, WorksOn};
 
 use crate::board::{Beat, Board, Flags};
 use crate::reports::{asks_report, asks_reset, to_obey};
@@ -54,12 +54,22 @@ impl Board {
         (asks_reset(word) && !self.drops_resets()) || self.resetting
     }
 
+    /// Both words of flags are to be taken behind a wait, once the banner is told: no report comes before it.
+    #[inline]
+    pub(crate) fn await_words(&mut self)
+        ensures { self.new ≡ record self.old { flags = words_awaited self.old.greeted self.old.flags } }
+    {
+        if self.greeted {
+            self.flags = Flags::Both;
+        }
+    }
+
     /// Takes the word of requests, and does what it asks of the motion, unless it asks for a reset; where a report is owed
     /// then, that comes first. What comes of a machine that has stopped comes before.
     #[inline(never)]
     pub(crate) fn take_requests<P: EpochPort>(&mut self, port: &mut P)
-        requires stands { (rest : P.Rest) × (first : Opening) × (h : Journal) × P.stands port.old rest first (port_log h) × Keeps first self.old h × (unobeyed_of h ≡ []) × (has_jog_to_start first h ≡ false) }
-        ensures goes_on { (rest : P.Rest) (first : Opening) (h : Journal) → P.stands port.old rest first (port_log h) → Keeps first self.old h → unobeyed_of h ≡ [] → has_jog_to_start first h ≡ false
+        requires stands { (rest : P.Rest) × (first : Opening) × (h : Journal) × P.stands port.old rest first (port_log h) × Keeps first self.old h × AwaitsWords h × (has_jog_to_start first h ≡ false) }
+        ensures goes_on { (rest : P.Rest) (first : Opening) (h : Journal) → P.stands port.old rest first (port_log h) → Keeps first self.old h → AwaitsWords h → has_jog_to_start first h ≡ false
             → (word : AnyExec) × (mid : Journal) × HasSettled first h mid × P.stands port.new rest first (port_log (asked first word mid)) × Keeps first self.new (asked first word mid)
             × (self.new.flags ≡ flags_behind (owes_report (at_port (took_exec word) ∷ mid)) word) }
         ensures same { self.new ≡ record self.old { machine = self.new.machine; flight = self.new.flight; lines = self.new.lines; cut = self.new.cut; flags = self.new.flags; owes = self.new.owes; resetting = self.new.resetting } }
@@ -79,8 +89,8 @@ impl Board {
 
     /// Takes the word of changes of overrides, and plans anew where it holds one.
     pub(crate) fn take_changes<P: EpochPort>(&mut self, port: &mut P)
-        requires stands { (rest : P.Rest) × (first : Opening) × (h : Journal) × P.stands port.old rest first (port_log h) × Keeps first self.old h }
-        ensures goes_on { (rest : P.Rest) (first : Opening) (h : Journal) → P.stands port.old rest first (port_log h) → Keeps first self.old h
+        requires stands { (rest : P.Rest) × (first : Opening) × (h : Journal) × P.stands port.old rest first (port_log h) × Keeps first self.old h × (is_greeted h ≡ true) }
+        ensures goes_on { (rest : P.Rest) (first : Opening) (h : Journal) → P.stands port.old rest first (port_log h) → Keeps first self.old h → is_greeted h ≡ true
             → (word : AnyOvr) × P.stands port.new rest first (port_log (replanned word h)) × Keeps first self.new (replanned word h) }
         ensures same { self.new ≡ record self.old { machine = self.new.machine } }
     {

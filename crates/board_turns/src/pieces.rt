@@ -4,7 +4,7 @@ ghost use Rattle.std.specs.Prelude.{◌≡◌, ◌≢◌, ◌↔◌, ◌<◌, �
 ghost use Rattle.feed_hold.specs.declared.Motion.TheVariants.{Idle};
 ghost use Rattle.outside.specs.declared.Turn.TheVariants.{Done};
 ghost use Rattle.run_rules.specs.Work.Task.{ask, tell, finish};
-ghost use Rattle.status_report.specs.Answering.{is_answer, is_report};
+ghost use Rattle.status_report.specs.Answering.{is_answer, is_banner, is_report};
 ghost use Rattle.status_report.specs.declared.Reply.{Reply as AnyReply};
 ghost use Rattle.step_line.specs.Asking.Asked.{a_mark};
 ghost use Rattle.step_line.specs.Records.{IsMark};
@@ -160,12 +160,15 @@ impl Board {
         reply == Reply::Bye && self.machine.hand.is_some()
     }
 
-    /// Keeps the state behind the answered lines, where this reply answers one.
+    /// Keeps the state behind the answered lines, where this reply answers one, and that the banner is told, where it is that.
     fn keep_answered(&mut self, reply: Reply)
-        ensures { self.new ≡ record self.old { answered = cond (is_answer reply) self.old.lines.state self.old.answered } }
+        ensures { self.new ≡ record self.old { answered = cond (is_answer reply) self.old.lines.state self.old.answered; greeted = is_banner reply || self.old.greeted } }
     {
         if let Reply::Ok | Reply::Error(_) = reply {
             self.answered = Answered::behind(&self.lines);
+        }
+        if let Reply::Banner = reply {
+            self.greeted = true;
         }
     }
 
@@ -174,7 +177,7 @@ impl Board {
         requires { self.old.lines.left ≢ [] }
         ensures told { (first : Opening) (h : Journal) → Keeps first self.old h → IsNextTask first (tell reply) h → is_report reply ≡ false → owes_report h ≡ false
             → (reply ≡ Reply.Bye → hand_of h ≡ []) → Keeps first self.new (at_port (answered reply) ∷ h) }
-        ensures same { self.new ≡ record self.old { lines = self.new.lines; answered = self.new.answered } }
+        ensures same { self.new ≡ record self.old { lines = self.new.lines; answered = self.new.answered; greeted = self.new.greeted } }
     {
         self.keep_answered(reply);
         self.lines.done();
@@ -207,7 +210,7 @@ impl Board {
         requires stands { (rest : P.Rest) × (first : Opening) × (h : Journal) × P.stands port.old rest first (port_log h) × Keeps first self.old h × (owes_report h ≡ false) }
         ensures goes_on { (rest : P.Rest) (first : Opening) (h : Journal) → P.stands port.old rest first (port_log h) → Keeps first self.old h → owes_report h ≡ false
             → (next : Journal) × P.stands port.new rest first (port_log next) × Keeps first self.new next × MayHaveTold h next }
-        ensures same { self.new ≡ record self.old { lines = self.new.lines; answered = self.new.answered } }
+        ensures same { self.new ≡ record self.old { lines = self.new.lines; answered = self.new.answered; greeted = self.new.greeted } }
     {
         if self.lines.todo() != Todo::Tell {
             return;

@@ -54,6 +54,7 @@ impl Board {
           owes = false;
           resetting = false;
           taken = 0;
+          greeted = false;
           beat = Beat.Motion;
           closing = false;
           jogged = false;
@@ -66,6 +67,7 @@ impl Board {
         self.owes = false;
         self.resetting = false;
         self.taken = 0;
+        self.greeted = false;
         self.beat = Beat::Motion;
         self.closing = false;
         self.jogged = false;

@@ -3,17 +3,16 @@ use Rattle.board_rules.specs.Steps.{Journal, port_log}
 use Rattle.board_turns.specs.declared.board.Board.{Board}
 use Rattle.board_turns.specs.Boards.{Keeps}
 use Rattle.board_turns.specs.Turning.{obeyed, flags_behind}
-use Rattle.board_turns.proofs.Ends.{free_of}
-use Rattle.board_turns.proofs.Halting.{taken, no_jog_held, did_ask, did_resume, waits_for_resume}
+use Rattle.board_turns.proofs.Halting.{taken, held_awaits, no_jog_held, did_ask, did_resume, waits_for_resume}
 use Rattle.board_turns.proofs.Words.{asked_owed, asked_free, asked_owes}
 use Rattle.board_turns.proofs.board.Board.await_resume.Goals as goal
 
 pub take_requests-requires : goal.take_requests-requires
-take_requests-requires g c = let r = c.requires.stands in let first = r.1 in record { stands = (r.0, first, r.2, r.3, r.4, (free_of r.2 r.5.ready.quiet).obeyed, no_jog_held first r.2 (sym r.4.machine.motion_is ∙ c.requires.held)) }
+take_requests-requires g c = let r = c.requires.stands in let first = r.1 in record { stands = (r.0, first, r.2, r.3, r.4, held_awaits first r.2 r.4.conducted r.5, no_jog_held first r.2 (sym r.4.machine.motion_is ∙ c.requires.held)) }
 
 pub returns-then-self-clause-goes_on : goal.returns-then-self-clause-goes_on
 returns-then-self-clause-goes_on g c = λ rest first h stands k halted none.
-    let n = c.take_requests.ensures.goes_on rest first h stands k (free_of h halted.ready.quiet).obeyed (no_jog_held first h (sym k.machine.motion_is ∙ c.requires.held)) in
+    let n = c.take_requests.ensures.goes_on rest first h stands k (held_awaits first h k.conducted halted) (no_jog_held first h (sym k.machine.motion_is ∙ c.requires.held)) in
     let same = c.take_requests.ensures.same in
     let owed = sym (n.4.owes_is ∙ asked_owes first n.0 n.1) ∙ c.if-self.true in
     let is = asked_owed first n.0 n.1 owed in (
@@ -25,7 +24,7 @@ returns-then-self-clause-goes_on g c = λ rest first h stands k halted none.
 
 pub returns-then-is_held-clause-goes_on : goal.returns-then-is_held-clause-goes_on
 returns-then-is_held-clause-goes_on g c = λ rest first h stands k halted none.
-    let n = c.take_requests.ensures.goes_on rest first h stands k (free_of h halted.ready.quiet).obeyed (no_jog_held first h (sym k.machine.motion_is ∙ c.requires.held)) in
+    let n = c.take_requests.ensures.goes_on rest first h stands k (held_awaits first h k.conducted halted) (no_jog_held first h (sym k.machine.motion_is ∙ c.requires.held)) in
     let same = c.take_requests.ensures.same in
     let unowed = sym (n.4.owes_is ∙ asked_owes first n.0 n.1) ∙ c.if-self.false in
     let is = asked_free first n.0 n.1 unowed in
@@ -38,7 +37,7 @@ returns-then-is_held-clause-goes_on g c = λ rest first h stands k halted none.
 
 pub returns-clause-goes_on : goal.returns-clause-goes_on
 returns-clause-goes_on g c = λ rest first h stands k halted none.
-    let n = c.take_requests.ensures.goes_on rest first h stands k (free_of h halted.ready.quiet).obeyed (no_jog_held first h (sym k.machine.motion_is ∙ c.requires.held)) in
+    let n = c.take_requests.ensures.goes_on rest first h stands k (held_awaits first h k.conducted halted) (no_jog_held first h (sym k.machine.motion_is ∙ c.requires.held)) in
     let same = c.take_requests.ensures.same in
     let unowed = sym (n.4.owes_is ∙ asked_owes first n.0 n.1) ∙ c.if-self.false in
     let is = asked_free first n.0 n.1 unowed in

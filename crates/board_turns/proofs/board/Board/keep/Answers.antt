@@ -28,6 +28,7 @@ returns-then-byte-eq10-clause-kept c = λ first h k may room. record {
   resetting_is = k.resetting_is;
   taken_is = taken_more c.args.byte h c.args.self.now.taken k.taken_is;
   answered_is = k.answered_is;
+  greeted_is = k.greeted_is;
   prompt = (record { further = λ e. refl; waits = k.unready }, k.prompt);
   unready = λ may. absurd (let e = may.between in cc);
   jogged_is = k.jogged_is;
@@ -53,6 +54,7 @@ returns-else-byte-eq10-clause-kept c = λ first h k may room. record {
   resetting_is = k.resetting_is;
   taken_is = taken_more c.args.byte h c.args.self.now.taken k.taken_is;
   answered_is = k.answered_is;
+  greeted_is = k.greeted_is;
   prompt = (record { further = λ e. refl; waits = k.unready }, k.prompt);
   unready = λ may. absurd (let e = may.between in cc);
   jogged_is = k.jogged_is;

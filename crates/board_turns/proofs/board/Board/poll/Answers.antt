@@ -2,6 +2,7 @@ use Rattle.std.proofs.Common.{[], ◌∷◌, refl, ap, ◌∙◌, arith}
 use Rattle.board_rules.specs.Steps.{port_log}
 use Rattle.board_rules.specs.Steps.Step.{at_port}
 use Rattle.board_rules.specs.Ports.PortStep.{took, found_empty, found_closed}
+use Rattle.board_rules.proofs.Greeted.{greeted_free}
 use Rattle.board_turns.specs.declared.board.Board.{Board}
 use Rattle.board_turns.proofs.Steps.{polled_empty, polled_closed}
 use Rattle.board_turns.proofs.Ends.{works_on, free_of}
@@ -23,7 +24,7 @@ returns-in-Byte-clause-goes_on g c = λ rest first h stands keeps ready may.
     let b = c.in-Byte.byte in
     let few = c.byte.ensures.few b c.in-Byte.is rest first (port_log h) stands in
     let kept = c.keep.ensures.kept first h keeps (record { polls = may; few = omega (arith, few) }) few in
-    let takes = c.keep.ensures.flags first h (free_of h ready.quiet) in
+    let takes = c.keep.ensures.flags first h (free_of h ready.quiet) (greeted_free first h keeps.conducted may.all_done) in
     let beat = ap (λ (s : Board). s.beat) c.keep.ensures.same ∙ c.requires.beat in
     (at_port (took b) ∷ h, c.byte.ensures.byte b c.in-Byte.is rest first (port_log h) stands, took_worked first c.args.self.now.flags _ b h kept takes ready may beat)
 

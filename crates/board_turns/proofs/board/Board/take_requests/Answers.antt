@@ -9,17 +9,17 @@ use Rattle.board_turns.specs.Boards.{Keeps}
 use Rattle.board_turns.specs.Turning.{flags_behind, obeying}
 use Rattle.board_turns.specs.Reporting.{MayObeyNow}
 use Rattle.board_turns.proofs.Steps.{other_flags, halts_by}
-use Rattle.board_turns.proofs.Requests.{takes_word}
+use Rattle.board_turns.proofs.Requests.{takes_word, still_greeted}
 use Rattle.board_turns.proofs.Halting.{taken}
 use Rattle.board_turns.proofs.Words.{asked_owed, asked_free, port_stands, obeys_at_once}
 use Rattle.board_turns.proofs.board.Board.take_requests.Goals as goal
 
 pub returns-then-self-clause-goes_on : goal.returns-then-self-clause-goes_on
-returns-then-self-clause-goes_on g c = λ rest first h stands k none no_jog.
+returns-then-self-clause-goes_on g c = λ rest first h stands k awaits no_jog.
     let n = c.settle.ensures.goes_on rest first h stands k in
     let j = n.0 in
     let word = c.take_exec-word.result in
-    let may : MayTakeRequests word j = record { obeyed = n.3.passes.words ∙ none; few = λ e. c.take_exec-word.ensures.few e rest first (port_log j) n.1 } in
+    let may : MayTakeRequests word j = record { greeted = still_greeted first c.args.self.now c.settle.new.self h j k n.2 (ap (λ (b : Board). b.greeted) c.settle.ensures.same) awaits.greeted; obeyed = n.3.passes.words ∙ awaits.obeyed; few = λ e. c.take_exec-word.ensures.few e rest first (port_log j) n.1 } in
     let owes_is = ap (λ b. b || c.settle.new.self.owes) c.asks_report.ensures ∙ ap (λ b. asks_report word || b) n.2.owes_is in
     let owed : owes_report (taken word j) ≡ _ = sym owes_is ∙ c.if-self.true in
     let is = asked_owed first word j owed in
@@ -33,12 +33,12 @@ returns-then-self-clause-goes_on g c = λ rest first h stands k none no_jog.
     )
 
 pub returns-clause-goes_on : goal.returns-clause-goes_on
-returns-clause-goes_on g c = λ rest first h stands k none no_jog.
+returns-clause-goes_on g c = λ rest first h stands k awaits no_jog.
     let n = c.settle.ensures.goes_on rest first h stands k in
     let j = n.0 in
     let word = c.take_exec-word.result in
-    let left = n.3.passes.words ∙ none in
-    let takes : MayTakeRequests word j = record { obeyed = left; few = λ e. c.take_exec-word.ensures.few e rest first (port_log j) n.1 } in
+    let left = n.3.passes.words ∙ awaits.obeyed in
+    let takes : MayTakeRequests word j = record { greeted = still_greeted first c.args.self.now c.settle.new.self h j k n.2 (ap (λ (b : Board). b.greeted) c.settle.ensures.same) awaits.greeted; obeyed = left; few = λ e. c.take_exec-word.ensures.few e rest first (port_log j) n.1 } in
     let owes_is = ap (λ b. b || c.settle.new.self.owes) c.asks_report.ensures ∙ ap (λ b. asks_report word || b) n.2.owes_is in
     let unowed : owes_report (taken word j) ≡ _ = sym owes_is ∙ c.if-self.false in
     let is = asked_free first word j unowed in

@@ -1,5 +1,5 @@
-use Rattle.std.proofs.Common.{◌∙◌, ◌∷◌, cond, drop, refl, sym, ap, subst}
-use Rattle.status_report.specs.Answering.{is_answer}
+use Rattle.std.proofs.Common.{◌∙◌, ◌||◌, ◌∷◌, cond, drop, refl, sym, ap, subst}
+use Rattle.status_report.specs.Answering.{is_answer, is_banner}
 use Rattle.board_rules.specs.Ports.PortStep.{answered}
 use Rattle.board_rules.specs.Steps.Step.{at_port}
 use Rattle.board_turns.specs.declared.board.Board.{Board}
@@ -12,4 +12,4 @@ returns-clause-told c = λ first h k next plain unowed empty.
     let s = c.args.self.now in
     let one_less = c.done.ensures ∙ ap (λ (b : Board). record b.lines { left = drop 1 b.lines.left }) c.keep_answered.ensures in
     subst (λ (b : Board). Keeps first (record b { lines = c.done.new.self }) (at_port (answered c.args.reply) ∷ h)) (sym c.keep_answered.ensures)
-    (told first s c.done.new.self (cond (is_answer c.args.reply) s.lines.state s.answered) c.args.reply h k next plain unowed empty one_less refl)
+    (told first s c.done.new.self (cond (is_answer c.args.reply) s.lines.state s.answered) (is_banner c.args.reply || s.greeted) c.args.reply h k next plain unowed empty one_less refl refl)

@@ -1,7 +1,9 @@
-use Rattle.std.proofs.Common.{◌∷◌, refl, ap}
+use Rattle.std.proofs.Common.{◌∷◌, refl, sym, ap, subst}
 use Rattle.outside.specs.declared.Turn.{Turn}
 use Rattle.board_rules.specs.Steps.Step.{turned}
-use Rattle.board_turns.specs.declared.board.Flags.TheVariants as words
+use Rattle.board_turns.specs.declared.board.Board.{Board}
+use Rattle.board_turns.specs.Boards.{EpochFits, GoingTurned}
+use Rattle.board_turns.specs.Turning.{words_awaited}
 use Rattle.board_turns.proofs.Ends.{flags_behind, turned_by, no_wait_keeps}
 use Rattle.board_turns.proofs.Numbers.{number_few}
 use Rattle.board_turns.proofs.Resetting.{begins_going}
@@ -12,8 +14,14 @@ returns-in-Wait-clause-goes_on g c = λ rest first h stands f between unready.
     let n = c.work-turn.ensures.goes_on rest first h stands (begins_going first c.args.self.now h f unready) between in
     let t = c.work-turn.result in
     let board = c.work-turn.new.self in
-    let r = turned_by first t c.args.self.now board words.Both h n.0 (ap (λ (x : Turn). flags_behind x board.flags) c.in-Wait.is) n.2 in
-    (turned t ∷ n.0, n.1, r.0, refl, r.1)
+    let r = turned_by first t c.args.self.now board (words_awaited board.greeted board.flags) h n.0 (ap (λ (x : Turn). flags_behind x board.greeted board.flags) c.in-Wait.is) n.2 in
+    let is = sym c.await_words.ensures in (
+      turned t ∷ n.0,
+      n.1,
+      subst (λ (b : Board). EpochFits first b (turned t ∷ n.0)) is r.0,
+      refl,
+      subst (λ (b : Board). GoingTurned first t c.args.self.now b h (turned t ∷ n.0)) is r.1,
+    )
 
 pub returns-in_default : goal.returns-in_default
 returns-in_default g c = record {
@@ -21,7 +29,7 @@ returns-in_default g c = record {
       (let n = c.work-turn.ensures.goes_on rest first h stands (begins_going first c.args.self.now h f unready) between in
       let t = c.work-turn.result in
       let board = c.work-turn.new.self in
-      let r = turned_by first t c.args.self.now board board.flags h n.0 (no_wait_keeps t board.flags c.in_default.not-Wait) n.2 in
+      let r = turned_by first t c.args.self.now board board.flags h n.0 (no_wait_keeps t board.greeted board.flags c.in_default.not-Wait) n.2 in
       (turned t ∷ n.0, n.1, r.0, refl, r.1));
   done = c.work-turn.ensures.done;
   still = c.work-turn.ensures.still;
