@@ -1,5 +1,5 @@
 -- What a board has done fits the texts, where its parts are recorded.
-use Rattle.std.proofs.Common.{◌≡◌, ◌⊎◌, ℕ, ◌≤◌, true, List, [], ◌∷◌}
+use Rattle.std.proofs.Common.{◌≡◌, ℕ, ◌≤◌, true, List, []}
 use Rattle.flight.specs.Places.{origin}
 use Rattle.run_rules.specs.declared.State.{State}
 use Rattle.run_rules.specs.States.{IsOpening}
@@ -7,8 +7,6 @@ use Rattle.run_texts.specs.Fits.{FitsTexts}
 use Rattle.run_texts.specs.Parts.{parts_of}
 use Rattle.run_texts.specs.Recorded.{AreRecorded}
 use Rattle.run_texts.specs.SoFar.{AreMadeSoFar, FitsSoFar}
-use Rattle.status_report.specs.declared.Reply.{Reply}
-use Rattle.status_report.specs.declared.Reply.TheVariants.{Banner}
 use Rattle.step_line.specs.Logs.{NewestFirst}
 use Rattle.step_line.specs.declared.Record.{Record}
 use Rattle.board_rules.specs.Conduct.{IsFinished}
@@ -22,48 +20,49 @@ use Rattle.epoch_courses.specs.Taken.{closed_texts, sent_by, left_by}
 use Rattle.epoch_courses.specs.Told.{answered_by, without_byes}
 use Rattle.epoch_courses.proofs.Chain.{marked_leads, epochs_lead, epochs_follow}
 use Rattle.epoch_courses.proofs.Cuts.{course_cuts, marked_cuts}
-use Rattle.epoch_courses.proofs.Told.{console_tells, marked_told, told_so_far}
+use Rattle.epoch_courses.proofs.Told.{marked_told, told_so_far}
+use Rattle.epoch_courses.proofs.Banner.{banner_begins, console_told}
 
-pub finished_fits : (state : State) (made : ℕ) (es : NewestFirst Closed) (h : Journal) (behind : List Reply) (records : List Record) → IsOpening state → AreEpochs state (goes es h) → IsFinished (opening_behind state es) h → known_of h ≤ made
-    → without_byes (answered_by (goes es h)) ≡ Banner ∷ behind → AreRecorded origin (parts_of (course_of state made (goes es h))) records → FitsTexts (sent_by (goes es h)) (cancel_words_in (log_of (goes es h))) (Banner ∷ behind) records
-finished_fits state made es h behind records opens c over known said recorded = record {
+pub finished_fits : (state : State) (made : ℕ) (es : NewestFirst Closed) (h : Journal) (records : List Record) → IsOpening state → AreEpochs state (goes es h) → IsFinished (opening_behind state es) h → known_of h ≤ made
+    → AreRecorded origin (parts_of (course_of state made (goes es h))) records → FitsTexts (sent_by (goes es h)) (cancel_words_in (log_of (goes es h))) (without_byes (answered_by (goes es h))) records
+finished_fits state made es h records opens c over known recorded = record {
   first = state;
   opens = opens;
   course = course_of state made (goes es h);
   last = point_behind made (opening_behind state es) h;
   follows = epochs_follow state made es h c over known;
-  told = console_tells state made es h behind c over said;
+  told = console_told state made es h c over;
   recorded = recorded;
   few = course_cuts state made (goes es h) c;
 }
 
 pub so_far_fits : (state : State) (made : ℕ) (es : Epochs) (records : List Record) → IsOpening state → AreEpochs state es → known_of (open_journal es) ≤ made
-    → (without_byes (answered_by es) ≡ []) ⊎ ((behind : List Reply) × (without_byes (answered_by es) ≡ Banner ∷ behind)) → AreMadeSoFar origin (parts_of (course_of state made es)) records
+    → AreMadeSoFar origin (parts_of (course_of state made es)) records
     → FitsSoFar (sent_by es) (cancel_words_in (log_of es)) (without_byes (answered_by es)) records
-so_far_fits state made es records opens c known said recorded = record {
+so_far_fits state made es records opens c known recorded = record {
   first = state;
   opens = opens;
   course = course_of state made es;
   point = stands_at state made es;
   left = left_by es;
   leads = epochs_lead state made es c known;
-  begins = said;
+  begins = banner_begins state es c;
   told = told_so_far state made es c;
   made = recorded;
   few = course_cuts state made es c;
 }
 
 pub marked_fits : (state : State) (es : NewestFirst Closed) (h : Journal) (w : Work) (records : List Record) → IsOpening state → AreEpochs state (resets es h w) → is_marked (stage_of (log_behind (closed_log es) h) w) ≡ true
-    → (without_byes (answered_by (resets es h w)) ≡ []) ⊎ ((behind : List Reply) × (without_byes (answered_by (resets es h w)) ≡ Banner ∷ behind)) → AreMadeSoFar origin (parts_of (closed_course state (with_reset es h w))) records
+    → AreMadeSoFar origin (parts_of (closed_course state (with_reset es h w))) records
     → FitsSoFar (closed_texts (with_reset es h w)) (cancel_words_in (log_of (resets es h w))) (without_byes (answered_by (resets es h w))) records
-marked_fits state es h w records opens c marked said recorded = record {
+marked_fits state es h w records opens c marked recorded = record {
   first = state;
   opens = opens;
   course = closed_course state (with_reset es h w);
   point = point_of (opening_behind state (with_reset es h w));
   left = [];
   leads = marked_leads state es h w c marked;
-  begins = said;
+  begins = banner_begins state (resets es h w) c;
   told = marked_told state es h w c;
   made = recorded;
   few = marked_cuts state es h w c;

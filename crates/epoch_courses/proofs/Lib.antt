@@ -12,6 +12,7 @@ pub mod Resets
 pub mod Chain
 pub mod Telling
 pub mod Told
+pub mod Banner
 pub mod Heads
 pub mod Drives
 pub mod Asking

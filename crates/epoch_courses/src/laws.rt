@@ -45,7 +45,7 @@ pub fn epochs_are_a_course()
 
 /// What a board has answered over its epochs, reports left out, and what it is to tell yet, is the banner, what its course
 /// tells, and Bye once the run is being closed. So what is answered is at any time a front of what the course tells; and once
-/// all is done it is all of it: a console that begins with the banner tells the course.
+/// all is done it is all of it. It begins with the banner, and no report comes before that: it is a console that tells the course.
 pub fn epochs_tell_their_course()
     ensures told { (state : State) (made : ℕ) (es : Epochs) → AreEpochs state es → AnyReply.Banner ∷ (told_in (course_of state made es) ++ closing_by es) ≡ without_reports (answered_by es) ++ untold_by state es }
     ensures finished { (state : State) (made : ℕ) (es : NewestFirst Closed) (h : Journal) → AreEpochs state (goes es h) → IsFinished (opening_behind state es) h →
@@ -53,8 +53,9 @@ pub fn epochs_tell_their_course()
     ensures so_far { (state : State) (made : ℕ) (es : Epochs) → AreEpochs state es → BeginsWith (AnyReply.Banner ∷ told_in (course_of state made es)) (without_reports (without_byes (answered_by es))) }
     ensures marked { (state : State) (es : NewestFirst Closed) (h : Journal) (w : Work) → AreEpochs state (resets es h w) →
         BeginsWith (AnyReply.Banner ∷ told_in (closed_course state (with_reset es h w))) (without_reports (without_byes (answered_by (resets es h w)))) }
-    ensures console { (state : State) (made : ℕ) (es : NewestFirst Closed) (h : Journal) (behind : List AnyReply) → AreEpochs state (goes es h) → IsFinished (opening_behind state es) h →
-        without_byes (answered_by (goes es h)) ≡ AnyReply.Banner ∷ behind → IsTold (course_of state made (goes es h)) (AnyReply.Banner ∷ behind) }
+    ensures begins { (state : State) (es : Epochs) → AreEpochs state es → (without_byes (answered_by es) ≡ []) ⊎ ((behind : List AnyReply) × (without_byes (answered_by es) ≡ AnyReply.Banner ∷ behind)) }
+    ensures console { (state : State) (made : ℕ) (es : NewestFirst Closed) (h : Journal) → AreEpochs state (goes es h) → IsFinished (opening_behind state es) h →
+        IsTold (course_of state made (goes es h)) (without_byes (answered_by (goes es h))) }
 {}
 
 /// Part by part, what the lines of the course ask for is what the planner was given, and what was left to ask. Each part is a
@@ -70,15 +71,15 @@ pub fn epochs_ask_for_parts()
 {}
 
 /// What a board has done over its epochs fits the texts: what it has taken, with the words that may cut jogs, what it has
-/// answered, if that begins with the banner, and what is recorded of the parts of its course. So it does so far.
+/// answered, and what is recorded of the parts of its course. So it does so far.
 pub fn epochs_fit_the_texts()
-    ensures fits { (state : State) (made : ℕ) (es : NewestFirst Closed) (h : Journal) (behind : List AnyReply) (records : List AnyRecord) → IsOpening state → AreEpochs state (goes es h) → IsFinished (opening_behind state es) h → known_of h ≤ made →
-        without_byes (answered_by (goes es h)) ≡ AnyReply.Banner ∷ behind → AreRecorded origin (parts_of (course_of state made (goes es h))) records →
-        FitsTexts (sent_by (goes es h)) (cancel_words_in (log_of (goes es h))) (AnyReply.Banner ∷ behind) records }
+    ensures fits { (state : State) (made : ℕ) (es : NewestFirst Closed) (h : Journal) (records : List AnyRecord) → IsOpening state → AreEpochs state (goes es h) → IsFinished (opening_behind state es) h → known_of h ≤ made →
+        AreRecorded origin (parts_of (course_of state made (goes es h))) records →
+        FitsTexts (sent_by (goes es h)) (cancel_words_in (log_of (goes es h))) (without_byes (answered_by (goes es h))) records }
     ensures so_far { (state : State) (made : ℕ) (es : Epochs) (records : List AnyRecord) → IsOpening state → AreEpochs state es → known_of (open_journal es) ≤ made →
-        (without_byes (answered_by es) ≡ []) ⊎ ((behind : List AnyReply) × (without_byes (answered_by es) ≡ AnyReply.Banner ∷ behind)) → AreMadeSoFar origin (parts_of (course_of state made es)) records →
+        AreMadeSoFar origin (parts_of (course_of state made es)) records →
         FitsSoFar (sent_by es) (cancel_words_in (log_of es)) (without_byes (answered_by es)) records }
     ensures marked { (state : State) (es : NewestFirst Closed) (h : Journal) (w : Work) (records : List AnyRecord) → IsOpening state → AreEpochs state (resets es h w) → is_marked (stage_of (log_behind (closed_log es) h) w) ≡ true →
-        (without_byes (answered_by (resets es h w)) ≡ []) ⊎ ((behind : List AnyReply) × (without_byes (answered_by (resets es h w)) ≡ AnyReply.Banner ∷ behind)) → AreMadeSoFar origin (parts_of (closed_course state (with_reset es h w))) records →
+        AreMadeSoFar origin (parts_of (closed_course state (with_reset es h w))) records →
         FitsSoFar (closed_texts (with_reset es h w)) (cancel_words_in (log_of (resets es h w))) (without_byes (answered_by (resets es h w))) records }
 {}

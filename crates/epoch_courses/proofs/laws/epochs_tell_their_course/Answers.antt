@@ -1,4 +1,5 @@
-use Rattle.epoch_courses.proofs.Told.{epochs_tell, finished_tell, told_so_far, console_tells, marked_told}
+use Rattle.epoch_courses.proofs.Banner.{banner_begins, console_told}
+use Rattle.epoch_courses.proofs.Told.{epochs_tell, finished_tell, told_so_far, marked_told}
 use Rattle.epoch_courses.proofs.laws.epochs_tell_their_course.Goals as goal
 
 pub returns-clause-told : goal.returns-clause-told
@@ -11,7 +12,10 @@ pub returns-clause-so_far : goal.returns-clause-so_far
 returns-clause-so_far c = told_so_far
 
 pub returns-clause-console : goal.returns-clause-console
-returns-clause-console c = console_tells
+returns-clause-console c = console_told
+
+pub returns-clause-begins : goal.returns-clause-begins
+returns-clause-begins c = banner_begins
 
 pub returns-clause-marked : goal.returns-clause-marked
 returns-clause-marked c = marked_told
