@@ -12,3 +12,4 @@ pub mod Opened
 pub mod Telling
 pub mod Chain
 pub mod Once
+pub mod Greeted

@@ -106,14 +106,14 @@ same_reset at s t same = ap (λ (x : Settings). reset_with at x s.parser.offsets
 
 -- ---- epoch by epoch
 
-first_reset : (ps : List Passed) (r : Reset) (rest : List Passed) → HasNoReset ps → resets_of (ps ++ a_reset r ∷ rest) ≡ r ∷ resets_of rest
+pub first_reset : (ps : List Passed) (r : Reset) (rest : List Passed) → HasNoReset ps → resets_of (ps ++ a_reset r ∷ rest) ≡ r ∷ resets_of rest
 first_reset [] r rest none = refl
 first_reset (a_reset s ∷ ps) r rest none = absurd none
 first_reset (a_line o ∷ ps) r rest none = first_reset ps r rest none
 first_reset (a_broken o ∷ ps) r rest none = first_reset ps r rest none
 first_reset (a_cut k at ∷ ps) r rest none = first_reset ps r rest none
 
-no_reset : (ps : List Passed) → HasNoReset ps → resets_of ps ≡ []
+pub no_reset : (ps : List Passed) → HasNoReset ps → resets_of ps ≡ []
 no_reset [] none = refl
 no_reset (a_reset s ∷ ps) none = absurd none
 no_reset (a_line o ∷ ps) none = no_reset ps none

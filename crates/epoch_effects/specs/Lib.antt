@@ -5,3 +5,4 @@ pub mod Reports
 pub mod Pieces
 pub mod Locks
 pub mod Over
+pub mod Greetings

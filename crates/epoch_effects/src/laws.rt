@@ -1,6 +1,6 @@
 //! Laws of what words of flags do.
 
-ghost use Rattle.std.specs.Prelude.{◌≡◌, ℕ, ◌+◌, ◌≤◌, false, List, length, map};
+ghost use Rattle.std.specs.Prelude.{◌≡◌, ℕ, ◌+◌, ◌≤◌, false, List, [], ◌∷◌, length, map};
 ghost use Rattle.std.specs.List.{AllByRecursion, flat_map};
 ghost use Rattle.flight.specs.Places.{origin};
 ghost use Rattle.run_rules.specs.declared.State.{State};
@@ -12,6 +12,7 @@ ghost use Rattle.run_texts.specs.Sent.{Sent};
 ghost use Rattle.run_texts.specs.SoFar.{LeadsTo};
 ghost use Rattle.run_texts.specs.Told.{told_in};
 ghost use Rattle.status_report.specs.Answering.{answers_in};
+ghost use Rattle.status_report.specs.declared.Reply.{Reply as AnyReply};
 ghost use Rattle.step_line.specs.Logs.{NewestFirst};
 ghost use Rattle.board_rules.specs.Conduct.{IsFinished};
 ghost use Rattle.board_rules.specs.Steps.{Journal, known_of};
@@ -23,6 +24,7 @@ ghost use Rattle.epoch_courses.specs.Taken.{sent_by};
 ghost use Rattle.epoch_courses.specs.Told.{answered_by, untold_by};
 ghost use Rattle.epoch_effects.specs.Asking.{AsksInTurn};
 ghost use Rattle.epoch_effects.specs.Effects.{AreEffects};
+ghost use Rattle.epoch_effects.specs.Greetings.{AreGreeted};
 ghost use Rattle.epoch_effects.specs.Over.{effects_of};
 ghost use Rattle.epoch_effects.specs.Pieces.{ArePublished};
 ghost use Rattle.epoch_effects.specs.Reports.{HasReported, TellsLock, AreOpened, resets_of};
@@ -52,13 +54,15 @@ pub fn cuts_have_causes()
 /// that asked for one. All lines that were begun in an epoch but the last are answered, and the ticks of those up to the last
 /// answered one that settles were found done. While an epoch is locked its reports tell of an alarm, and behind the line that
 /// unlocks it only of one that a line has raised. The pieces whose ticks these are were given for the parts of the epoch. What was
-/// answered in the epochs is all that was answered; and each epoch opens as the reset before it says, the first as a run begins.
+/// answered in the epochs is all that was answered; and each epoch opens as the reset before it says, the first as a run begins. What
+/// is answered in an epoch begins with what greets it, up to the banner: no report comes before.
 pub fn reports_fit_their_epochs()
     ensures fit { (state : State) (made : ℕ) (es : Epochs) → AreEpochs state es → known_of (open_journal es) ≤ made → AllByRecursion HasReported (effects_of state made es) }
     ensures locks { (state : State) (made : ℕ) (es : Epochs) → AreEpochs state es → AllByRecursion TellsLock (effects_of state made es) }
     ensures published { (state : State) (made : ℕ) (es : Epochs) → AreEpochs state es → known_of (open_journal es) ≤ made → AllByRecursion ArePublished (effects_of state made es) }
     ensures answered { (state : State) (made : ℕ) (es : Epochs) → AreEpochs state es → answered_by es ≡ flat_map (λ e. e.answered) (effects_of state made es) }
     ensures opened { (state : State) (made : ℕ) (es : Epochs) → AreEpochs state es → AreOpened state origin false (resets_of (course_of state made es)) (effects_of state made es) }
+    ensures greeted { (state : State) (made : ℕ) (es : Epochs) → AreEpochs state es → AreGreeted (AnyReply.Banner ∷ []) (resets_of (course_of state made es)) (effects_of state made es) }
 {}
 
 /// Over all epochs each line that is passed has one answer, but for one that raises an alarm, and the errors are those of the
