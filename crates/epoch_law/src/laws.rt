@@ -1,6 +1,6 @@
 //! Laws of runs over epochs.
 
-ghost use Rattle.std.specs.Prelude.{◌≡◌, ℕ, ◌≤◌, Bool, true, List, ◌∷◌, length};
+ghost use Rattle.std.specs.Prelude.{◌≡◌, ℕ, ◌≤◌, Bool, true, List, length};
 ghost use Rattle.motion_ring.specs.Sides.{ticks_published};
 ghost use Rattle.outside.specs.Causes.{SourceState, SinkState};
 ghost use Rattle.pulse_engine.specs.Logs.{PieceLog, RecordLog, end_is_put, records_put};
@@ -15,7 +15,6 @@ ghost use Rattle.run_rules.specs.declared.State.{State};
 ghost use Rattle.run_texts.specs.Fits.{FitsTexts};
 ghost use Rattle.run_texts.specs.Fronts.{BeginsWith};
 ghost use Rattle.run_texts.specs.Sent.{sent_of};
-ghost use Rattle.status_report.specs.declared.Reply.{Reply as AnyReply};
 ghost use Rattle.step_line.specs.Asking.{ticks_among};
 ghost use Rattle.step_line.specs.Logs.{NewestFirst};
 ghost use Rattle.step_line.specs.declared.Record.{Record as AnyRecord};
@@ -31,7 +30,7 @@ ghost use Rattle.board_rules.specs.Steps.{Journal};
 ghost use Rattle.board_rules.specs.Takes.{takes_in};
 ghost use Rattle.board_epochs.specs.Epochs.{Closed, Epochs, AreEpochs, log_of, opening_behind};
 ghost use Rattle.board_epochs.specs.Epochs.Epochs.{goes};
-ghost use Rattle.epoch_courses.specs.Told.{answered_by, without_byes};
+ghost use Rattle.epoch_courses.specs.Told.{without_byes};
 ghost use Rattle.epoch_effects.specs.Words.{words_taken};
 ghost use Rattle.epoch_links.specs.Drops.{AreAnsweredOver};
 ghost use Rattle.epoch_links.specs.Links.{AreLinkedOver};
@@ -39,7 +38,7 @@ ghost use Rattle.epoch_law.specs.Joined.{AreConnected, ArePassed, ArePassedSome,
 ghost use Rattle.epoch_law.specs.Journals.{host_did, board_did, pulse_did};
 ghost use Rattle.epoch_law.specs.Ran.{HostDid, HasSent, BoardDid, BoardRan, PulseDid, PulseRan};
 ghost use Rattle.epoch_law.specs.Runs.{IsRun};
-ghost use Rattle.epoch_law.specs.SoFar.{Sending, BeginWithBanner, BoardRuns, PulseRuns, IsSoFar};
+ghost use Rattle.epoch_law.specs.SoFar.{Sending, BoardRuns, PulseRuns, IsSoFar};
 
 /// Where a host, a board and a pulse have run over epochs, the board has taken what the host has stored, the host has got what the board
 /// has answered, and the pulse has got or dropped what the board has published, the texts fit: the lines and resets that came of the job,
@@ -79,11 +78,9 @@ pub fn words_that_are_taken_were_raised()
     ensures { (words : List ℕ) (host : HostLog) (board : BoardLog) → IsBalanced words (raises_in host) (takes_in board) → AreRaisedFor (bytes_raised_in host) (words_taken board) }
 {}
 
-/// A board that keeps to its rules over epochs, has closed its run and has nothing left to do, has run, if what it has answered begins with
-/// the banner: its rules alone let a report come before.
+/// A board that keeps to its rules over epochs, has closed its run and has nothing left to do, has run.
 pub fn boards_have_run()
-    ensures { (state : State) (es : NewestFirst Closed) (h : Journal) (behind : List AnyReply) → IsOpening state → AreEpochs state (goes es h) → IsFinished (opening_behind state es) h →
-        without_byes (answered_by (goes es h)) ≡ AnyReply.Banner ∷ behind → BoardRan (board_did (goes es h)) }
+    ensures { (state : State) (es : NewestFirst Closed) (h : Journal) → IsOpening state → AreEpochs state (goes es h) → IsFinished (opening_behind state es) h → BoardRan (board_did (goes es h)) }
 {}
 
 /// A pulse that has put the end has run, whatever it halted.
@@ -111,11 +108,11 @@ pub fn actors_make_a_run_so_far()
         AreConnected h b → ArePassedSoFar (length (ticks_among p.put)) b p → BeginsWith b.answered h.got → BeginsWith p.put records → IsSoFar form job_was job_is was is }
 {}
 
-/// A board that keeps to its rules over epochs runs, at any time, if what it has answered begins with the banner. So many ticks are put in
-/// all, at least those that it knows of, and no more than it has published.
+/// A board that keeps to its rules over epochs runs, at any time. So many ticks are put in all, at least those that it knows of, and no
+/// more than it has published.
 pub fn boards_run()
     ensures { (state : State) (ticks : ℕ) (es : Epochs) → IsOpening state → AreEpochs state es → known_in (log_of es) ≤ ticks → ticks ≤ ticks_published (sent_in (log_of es)) →
-        BeginWithBanner (without_byes (answered_by es)) → BoardRuns ticks (board_did es) }
+        BoardRuns ticks (board_did es) }
 {}
 
 /// A pulse runs at any time, whatever it halted.

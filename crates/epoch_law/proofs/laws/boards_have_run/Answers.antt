@@ -1,5 +1,7 @@
+use Rattle.board_rules.specs.Steps.{known_of}
+use Rattle.epoch_courses.proofs.Banner.{finished_begins}
 use Rattle.epoch_law.proofs.Boarding.{board_ran}
 use Rattle.epoch_law.proofs.laws.boards_have_run.Goals as goal
 
 pub returns : goal.returns
-returns c = λ state es h behind opens are over said. board_ran state es h are over behind opens said
+returns c = λ state es h opens are over. let begins = finished_begins state (known_of h) es h are over in board_ran state es h are over begins.0 opens begins.1

@@ -1,5 +1,6 @@
+use Rattle.epoch_courses.proofs.Banner.{banner_begins}
 use Rattle.epoch_law.proofs.BoardingSoFar.{board_runs}
 use Rattle.epoch_law.proofs.laws.boards_run.Goals as goal
 
 pub returns : goal.returns
-returns c = board_runs
+returns c = λ state ticks es opens are low high. board_runs state ticks es opens are low high (banner_begins state es are)
