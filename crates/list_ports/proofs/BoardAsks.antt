@@ -19,7 +19,7 @@ use Rattle.board_rules.specs.Ports.{asks_report}
 use Rattle.board_rules.specs.Ports.PortStep.{took, answered, reported, no_reply_room, took_exec, published, no_piece_room}
 use Rattle.board_rules.specs.Steps.{Journal, port_log, answered_of, left_of, left_by}
 use Rattle.board_rules.specs.Steps.Step.{at_port, began, did, made_end, evened, paused, cut, halted, closing, turned}
-use Rattle.board_rules.specs.Turns.{owes_report, requests_taken, changes_taken, by_wait}
+use Rattle.board_rules.specs.Turns.{is_greeted, owes_report, requests_taken, changes_taken, by_turn}
 use Rattle.board_rules.specs.Conduct.{Conducted, IsNextTask}
 use Rattle.board_rules.proofs.Dropping.{tells_kept}
 use Rattle.board_rules.specs.Breaking.{Doings, EndsRun, IsConducted, log_of, answered_of as all_answered}
@@ -41,16 +41,17 @@ both_and true true e f = refl
 both_and true false e f = absurd cc
 both_and false y e f = absurd cc
 
-no_wait : (t : Turn) (taken : Bool) → by_wait t taken ≡ true → taken ≡ true
-no_wait Did taken e = e
-no_wait (Wait on) taken e = absurd cc
-no_wait Done taken e = e
+no_wait : (greeted : Bool) (t : Turn) (taken : Bool) → by_turn greeted t taken ≡ true → taken ≡ true
+no_wait false t taken e = e
+no_wait true Did taken e = e
+no_wait true (Wait on) taken e = absurd cc
+no_wait true Done taken e = e
 
 taken_looked : (h : Journal) → requests_taken h ≡ true → has_looked (port_log h) ≡ true
 taken_looked [] e = refl
 taken_looked (at_port (took b) ∷ h) e = both_and (not (nat_eq b 10)) (has_looked (port_log h)) (left_and (not (nat_eq b 10)) (requests_taken h) e) (taken_looked h (right_and (not (nat_eq b 10)) (requests_taken h) e))
 taken_looked (at_port (took_exec word) ∷ h) e = refl
-taken_looked (turned t ∷ h) e = taken_looked h (no_wait t (requests_taken h) e)
+taken_looked (turned t ∷ h) e = taken_looked h (no_wait (is_greeted h) t (requests_taken h) e)
 taken_looked (_ ∷ h) e = taken_looked h e
 
 abbrev AreAnswered : List Task → Type 0
