@@ -437,7 +437,7 @@ Needs first on.Resume h = NeedsResume first h
 Needs first o h = ⊥
 
 -- Something is waited for: there is a cause, nothing went on its way in this turn, both words of flags were taken and
--- obeyed since the last wait, and if a segment is due, the board tried to publish one since the last wait for the same.
+-- obeyed since the last wait behind the banner, and if a segment is due, the board tried to publish one since the last wait for the same.
 -- If a report is owed, there was no room for it in this turn.
 pub record Waits (first : Opening) (o : On) (h : Journal) : Type 0 where
   pub ends : EndsTurn first h

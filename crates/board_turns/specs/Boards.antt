@@ -121,7 +121,7 @@ pub record Rounds (first : Opening) (beat : Beat) (h : Journal) : Type 0 where
   pub held : is_halting (motion_of first h) ≡ true → whole_of h ≡ true → tries_of first h ≡ 0
   pub owed : owes_report h ≡ true → tries_of first h + one_if (whole_of h) ≤ 1
 
--- both words of flags were taken since the last line feed, and since the last wait; what they ask for is done
+-- both words of flags were taken since the last line feed, and since the last wait behind the banner; what they ask for is done
 pub record IsFree (h : Journal) : Type 0 where
   pub flags : flags_taken h ≡ true
   pub obeyed : unobeyed_of h ≡ []
