@@ -3,8 +3,8 @@ use Rattle.std.specs.Prelude.{◌≡◌, []}
 use Rattle.serial_ring.specs.Ends.{link_of_board}
 use Rattle.realtime_flags.specs.Ends.{taken_in}
 use Rattle.motion_ring.specs.Ends.{ring_of_out}
-use Rattle.board_rules.specs.Breaking.{Doings as BoardJournal, log_of as board_log}
-use Rattle.board_rules.specs.Breaking.Doings.{goes}
+use Rattle.board_epochs.specs.Epochs.{Epochs, log_of}
+use Rattle.board_epochs.specs.Epochs.Epochs.{goes}
 use Rattle.outside.specs.declared.Turn.{Turn}
 use Rattle.controller.specs.Boards.{BoardFits, BoardTurned, BoardRests}
 use Rattle.controller.specs.Boards.{IsBetween as IsBetweenOfBoard}
@@ -16,26 +16,26 @@ use Rattle.thread_rig.specs.declared.board.BoardSide.{BoardSide}
 pub record BoardIsNew (side : BoardSide) : Type 0 where
   pub did : BoardLogs side.link []
   pub sees : BoardSees side.link []
-  pub fits : BoardFits side.board (goes [])
+  pub fits : BoardFits side.board (goes [] [])
 
 -- ---- turns were made
 
--- The board has, and what its ends took, answered and published is what its journal says.
+-- The board has, over its epochs, and what its ends took, answered, published and found of halts is what these say.
 pub record BoardRunsAt (was is : BoardSide) : Type 0 where
-  pub journal : BoardJournal
+  pub epochs : Epochs
   pub link : link_of_board is.link.end ≡ link_of_board was.link.end
   pub flags : taken_in is.link.flags ≡ taken_in was.link.flags
   pub pieces : ring_of_out is.link.pieces ≡ ring_of_out was.link.pieces
-  pub did : BoardLogs is.link (board_log journal)
-  pub sees : BoardSees is.link (board_log journal)
-  pub fits : BoardFits is.board journal
-  pub between : IsBetweenOfBoard journal
+  pub did : BoardLogs is.link (log_of epochs)
+  pub sees : BoardSees is.link (log_of epochs)
+  pub fits : BoardFits is.board epochs
+  pub between : IsBetweenOfBoard epochs
 
 -- It was one turn, the first: what it did is all that was done, and the board's rules allow it.
 pub record BoardHasBegun (was is : BoardSide) : Type 0 where
   pub runs : BoardRunsAt was is
   pub turn : Turn
-  pub turned : BoardTurned turn was.board is.board (goes []) runs.journal
+  pub turned : BoardTurned turn was.board is.board (goes [] []) runs.epochs
 
 -- ---- and the board is done
 

@@ -1,7 +1,8 @@
 //! A run of a job by four actors, each in a thread of its own.
 
 ghost use Rattle.std.specs.Prelude.{◌≡◌, IfOk, OnErr};
-ghost use Rattle.run_law.specs.Devices.{devices, HasRun};
+ghost use Rattle.run_law.specs.Devices.{devices};
+ghost use Rattle.epoch_law.specs.Devices.{HasRun};
 
 use crate::{Rig, rigs_run, run_threads};
 use outside::{Gate, OutOfMemory, Sink, Source};

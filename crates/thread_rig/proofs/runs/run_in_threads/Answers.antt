@@ -1,7 +1,8 @@
 use Rattle.std.proofs.Common.{◌≡◌, subst}
 use Rattle.step_record.specs.declared.forms.Form.{Form}
 use Rattle.run_law.specs.declared.RunEnd.{RunEnd}
-use Rattle.run_law.specs.Devices.{Devices, HasRun}
+use Rattle.run_law.specs.Devices.{Devices}
+use Rattle.epoch_law.specs.Devices.{HasRun}
 use Rattle.thread_rig.proofs.runs.run_in_threads.Goals as goal
 
 in_form : (was now : Devices) (end : RunEnd) (its form : Form) → its ≡ form → HasRun its was now end → HasRun form was now end

@@ -1,0 +1,45 @@
+-- What a board has done that rests: it has run, and each stop of its resets has its halt.
+use Rattle.std.proofs.Common.{◌≡◌, ℕ, List, [], ◌∷◌, length, map, refl, sym, ap, subst}
+use Rattle.run_rules.specs.declared.State.{State}
+use Rattle.run_rules.specs.States.{IsOpening}
+use Rattle.step_line.specs.Logs.{NewestFirst}
+use Rattle.motion_ring.specs.declared.lists.Sent.{Sent}
+use Rattle.motion_ring.specs.Sides.{published_in, pieces_at}
+use Rattle.board_rules.specs.Conduct.{IsFinished}
+use Rattle.board_rules.specs.Ports.{known_in, sent_in}
+use Rattle.board_rules.specs.Steps.{Journal, port_log}
+use Rattle.board_rules.proofs.Unstopped.{journals_never_stop}
+use Rattle.board_epochs.specs.Epochs.{Closed, Epochs, AreClosed, AreEpochs, IsEpoch, closed_log, last_line, log_behind, log_of, opening_behind}
+use Rattle.board_epochs.specs.Epochs.Epochs.{goes, resets}
+use Rattle.board_epochs.proofs.Onto.{sent_on}
+use Rattle.board_epochs.proofs.Working.{works_end}
+use Rattle.controller.specs.Boards.{HaveFinished}
+use Rattle.epoch_law.specs.Journals.{board_did}
+use Rattle.epoch_law.specs.Ran.{BoardRan}
+
+-- each stop that was stored has its halt, at the same pieces
+abbrev pub HasHalts : Sent → Type 0
+HasHalts s = s.stops ≡ map pieces_at s.halts
+
+-- an epoch stores none
+halts_behind : (state : State) (es : NewestFirst Closed) (h : Journal) → IsEpoch (opening_behind state es) h → HasHalts (sent_in (closed_log es)) → HasHalts (sent_in (log_behind (closed_log es) h))
+halts_behind state es h c was = subst HasHalts (sym (sent_on (known_in (closed_log es)) (port_log h) (closed_log es) (journals_never_stop (opening_behind state es) h c.conducted))) was
+
+-- and the work of a reset stores one, and finds its halt
+closed_halts : (state : State) (es : NewestFirst Closed) → AreClosed state es → HasHalts (sent_in (closed_log es))
+closed_halts state [] c = refl
+closed_halts state (e ∷ es) c =
+    let first = opening_behind state es in
+    let before = log_behind (closed_log es) e.journal in
+    let was = halts_behind state es e.journal c.0.resetting.epoch (closed_halts state es c.1) in
+    subst HasHalts (sym (works_end (last_line first e.journal) before e.work c.0.resetting.works c.0.worked.done).0) (ap (λ (ns : List ℕ). length (published_in (sent_in before)) ∷ ns) was)
+
+pub all_halts : (state : State) (e : Epochs) → AreEpochs state e → HaveFinished state e → HasHalts (sent_in (log_of e))
+all_halts state (goes es h) are over = halts_behind state es h are.1 (closed_halts state es are.0)
+all_halts state (resets es h w) are over = absurd over
+
+-- by the law of boards it has run
+pub board_ran : ((state : State) (es : NewestFirst Closed) (h : Journal) → IsOpening state → AreEpochs state (goes es h) → IsFinished (opening_behind state es) h → BoardRan (board_did (goes es h)))
+    → (state : State) (e : Epochs) → IsOpening state → AreEpochs state e → HaveFinished state e → BoardRan (board_did e)
+board_ran law state (goes es h) opens are over = law state es h opens are over
+board_ran law state (resets es h w) opens are over = absurd over
