@@ -10,7 +10,7 @@ use Rattle.stream_host.specs.Steps.{Journal as HostJournal, port_log as host_log
 use Rattle.stream_host.specs.Hosts.{HostFits, HostTurned, HostTellsOn}
 use Rattle.stream_host.specs.Hosts.{IsBetween as IsBetweenOfHost}
 use Rattle.board_rules.specs.Ports.{BoardLog}
-use Rattle.board_rules.specs.Breaking.{Doings as BoardJournal, log_of as board_log}
+use Rattle.board_epochs.specs.Epochs.{Epochs, log_of as board_log}
 use Rattle.controller.specs.declared.controller.Controller.{Controller}
 use Rattle.controller.specs.Boards.{BoardFits, BoardTurned}
 use Rattle.controller.specs.Boards.{IsBetween as IsBetweenOfBoard}
@@ -63,8 +63,8 @@ host_moves w host' lists' t job job' console console' steps turns = record {
 }
 
 pub board_moves : (w : Seen) (board' : Controller) (lists' : Listed) (t : Turn) (now : Devices)
-    → ((far : HostLog × PieceLog) (h : BoardJournal) → Joined w.lists far.0 (board_log h) far.1 → BoardFits w.board h → IsBetweenOfBoard h
-    → (next : BoardJournal) × Joined lists' far.0 (board_log next) far.1 × BoardFits board' next × IsBetweenOfBoard next × BoardTurned t w.board board' h next)
+    → ((far : HostLog × PieceLog) (h : Epochs) → Joined w.lists far.0 (board_log h) far.1 → BoardFits w.board h → IsBetweenOfBoard h
+    → (next : Epochs) × Joined lists' far.0 (board_log next) far.1 × BoardFits board' next × IsBetweenOfBoard next × BoardTurned t w.board board' h next)
     → Moves actors.Board t now now w (record w { board = board'; lists = lists' })
 board_moves w board' lists' t now turns = record {
   on = λ hist h. let n = turns (host_log hist.host, hist.pulse) hist.board h.joined h.board h.board_between in (

@@ -2,7 +2,7 @@
 use Rattle.std.proofs.Common.{◌≡◌, [], refl, sym}
 use Rattle.stream_host.specs.Hosts.{HostFits}
 use Rattle.stream_host.proofs.Running.{tells_nothing, new_shows_nothing}
-use Rattle.board_rules.specs.Breaking.Doings.{goes}
+use Rattle.board_epochs.specs.Epochs.Epochs.{goes}
 use Rattle.controller.specs.Boards.{BoardFits}
 use Rattle.pulse_engine.specs.Turns.{PulseFits}
 use Rattle.list_ports.specs.Joining.{Joined}
@@ -10,7 +10,7 @@ use Rattle.actor_turns.specs.Worlds.{Seen, Devices, Holds, Stands, no_history}
 use Rattle.step_record.specs.declared.forms.Form.{Form}
 use Rattle.step_record.specs.Recording.{RecorderFits}
 
-pub holds_nothing : (w : Seen) → Joined w.lists [] [] [] → w.waiting ≡ [] → HostFits w.host [] → BoardFits w.board (goes []) → PulseFits w.pulse [] [] → Holds w no_history
+pub holds_nothing : (w : Seen) → Joined w.lists [] [] [] → w.waiting ≡ [] → HostFits w.host [] → BoardFits w.board (goes [] []) → PulseFits w.pulse [] [] → Holds w no_history
 holds_nothing w joined none host board pulse = record { joined = joined; passed = sym none; host = host; host_between = refl; board = board; board_between = refl; pulse = pulse }
 
 pub begins : (form : Form) (w : Seen) (now : Devices) → Holds w no_history → RecorderFits form w.recorder [] now.steps now.steps → Stands form now now w no_history

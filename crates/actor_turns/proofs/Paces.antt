@@ -1,17 +1,15 @@
 -- Paced turns, one after the other, and what is known where the motion goes on.
-use Rattle.std.proofs.Common.{◌≡◌, ◌≢◌, ◌↔◌, ℕ, ◌++◌, ◌∙◌, suc, Bool, true, false, cond, nat_lt, List, [], ◌∷◌, inl, inr, refl, sym, ap, subst}
-use Rattle.units.specs.declared.Per3.{Per3}
-use Rattle.modal_state.specs.Modes.{opening_parser}
-use Rattle.run_rules.specs.declared.State.{State}
+use Rattle.std.proofs.Common.{◌≡◌, ◌≢◌, ◌↔◌, ◌⊎◌, ◌++◌, ◌∙◌, suc, Bool, true, false, cond, nat_lt, List, [], ◌∷◌, inl, inr, refl, sym, ap, subst}
 use Rattle.outside.specs.declared.Actor.{Actor}
 use Rattle.outside.specs.declared.Actor.TheVariants as actors
 use Rattle.outside.specs.declared.Turn.{Turn}
 use Rattle.outside.specs.declared.Turn.TheVariants.{Did, Wait, Done}
 use Rattle.outside.specs.declared.On.TheVariants as on
-use Rattle.board_rules.specs.Breaking.{Doings as BoardJournal}
-use Rattle.board_rules.specs.Breaking.Doings.{goes, broke}
+use Rattle.board_rules.specs.Steps.{Step}
+use Rattle.board_epochs.specs.Epochs.{Epochs}
+use Rattle.board_epochs.specs.Epochs.Epochs.{goes, resets}
 use Rattle.controller.specs.declared.controller.Controller.{Controller}
-use Rattle.controller.specs.Boards.{BoardTurned}
+use Rattle.controller.specs.Boards.{BoardTurned, added, parted}
 use Rattle.pulse_engine.specs.Steps.{AwaitsPiece}
 use Rattle.actor_turns.specs.Worlds.{Seen, History, Devices, Holds, Adds, Turns, TurnsOn, HasRunOn}
 use Rattle.actor_turns.specs.declared.pacing.Pace.{Pace}
@@ -90,21 +88,21 @@ waits_on o e = cc
 is_done : Done ≢ Did
 is_done e = cc
 
--- what a turn of a board adds depends on no state
-any_state : State
-any_state =
-    let each : ℕ → Per3 = λ n. record { x = n; y = n; z = n } in
-    record {
-      parser = opening_parser;
-      settings = record { report = 1; deviation = 0; soft = false; limits = record { per_mm = each 0; rate = each 0; accel = each 0 }; travel = each 0 };
-    }
+-- a board's turn is the last that it took, also where a reset is to be worked behind it, or an epoch has begun
+said_added : (t : Turn) (steps : List Step) (e : Epochs) → BoardSaid t (added t steps e)
+said_added t steps (goes es h) = (steps ++ h, refl)
+said_added t steps (resets es h w) = (steps ++ w, refl)
 
--- a board's turn is the last that it took
-board_said : (t : Turn) (was is : Controller) (d next : BoardJournal) → BoardTurned t was is d next → BoardSaid t next
-board_said t was is (goes h) (goes next) turned = let by = turned any_state in (by.steps ++ h, by.are)
-board_said t was is (goes h) (broke since next) turned = let by = turned.1 any_state in inr (turned.0, (by.steps ++ h, by.are))
-board_said t was is (broke since h) (goes next) turned = absurd turned
-board_said t was is (broke since h) (broke next before) turned = inl (turned.1.steps ++ since, turned.1.are)
+said_parted : (t : Turn) (steps : List Step) (e : Epochs) → BoardSaid t (parted (added t steps e))
+said_parted t steps (goes es h) = (steps ++ h, refl)
+said_parted t steps (resets es h w) = (steps ++ w, refl)
+
+board_said : (t : Turn) (was is : Controller) (e next : Epochs) → BoardTurned t was is e next → BoardSaid t next
+board_said t was is e next turned = by_end turned.are
+  where
+    by_end : (next ≡ added t turned.steps e) ⊎ (next ≡ parted (added t turned.steps e)) → BoardSaid t next
+    by_end (inl are) = subst (BoardSaid t) (sym are) (said_added t turned.steps e)
+    by_end (inr are) = subst (BoardSaid t) (sym are) (said_parted t turned.steps e)
 
 -- what is known of host and board stays so where another takes its turn
 still_found : (hist done : History) → done.host ≡ hist.host → done.board ≡ hist.board → FoundNothing hist → FoundNothing done

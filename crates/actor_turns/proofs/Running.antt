@@ -1,64 +1,146 @@
 -- What the actors of a world have done is a run of the job.
-use Rattle.std.proofs.Common.{◌≡◌, ℕ, ◌≤◌, Bool, true, false, ◌↔◌, [], ◌∷◌, length, reverse, refl, sym, ◌∙◌, arith}
+use Rattle.std.proofs.Common.{◌≡◌, ◌⊎◌, inl, inr, ℕ, ◌+◌, ◌≤◌, Bool, true, false, ◌↔◌, List, [], ◌∷◌, ◌++◌, length, map, reverse, refl, sym, ap, ◌∙◌, subst, arith}
+use Rattle.std.proofs.lemmas.List.{reverse-append, reverse-reverse}
+use Rattle.step_line.specs.declared.Piece.{Piece}
+use Rattle.step_line.specs.Logs.{NewestFirst}
+use Rattle.step_line.specs.Finishing.{ticks_together, most_unfinished}
+use Rattle.step_line.proofs.Finished.{together_both}
+use Rattle.motion_ring.specs.declared.lists.Halt.{Halt}
+use Rattle.motion_ring.specs.declared.lists.Sent.{Sent}
+use Rattle.motion_ring.specs.Sides.{ticks_at, ticks_published, unfinished_in}
+use Rattle.motion_ring.specs.Sides as ring
+use Rattle.serial_ring.specs.Marks.{Mark}
+use Rattle.run_rules.specs.States.{IsOpening}
+use Rattle.run_rules.specs.declared.State.{State}
+use Rattle.run_texts.specs.Fronts.{BeginsWith}
+use Rattle.status_report.specs.Answering.{receive_room, reply_room}
 use Rattle.stream_host.specs.declared.Reading.{Reading}
 use Rattle.stream_host.specs.declared.Reading.TheVariants.{Ended, Failed, Large, Stopped}
-use Rattle.stream_host.specs.Steps.{is_shut, marks_in}
-use Rattle.stream_host.specs.Steps.{port_log as host_log, stored_of, raises_of, got_of}
+use Rattle.stream_host.specs.Steps.{port_log as host_log, marks_of, got_of}
 use Rattle.stream_host.specs.Ran.{is_failed}
-use Rattle.board_rules.specs.Breaking.{log_of as board_log, taken_of, has_closed, answered_of, published_of}
-use Rattle.pulse_engine.specs.Logs.{pieces_of, counted, records_put}
+use Rattle.board_rules.specs.Conduct.{IsFinished}
+use Rattle.board_rules.specs.Ports.{answered_in, known_in, sent_in}
+use Rattle.board_rules.specs.Steps.{Journal, port_log}
+use Rattle.board_rules.proofs.Unstopped.{journals_never_stop}
+use Rattle.board_epochs.specs.Epochs.{Closed, Epochs, AreEpochs, closed_log, log_of as board_log, opening_behind}
+use Rattle.board_epochs.specs.Epochs.Epochs.{goes, resets}
+use Rattle.board_epochs.proofs.Chaining.{begins_behind}
+use Rattle.board_epochs.proofs.Onto.{goes_there, sent_on}
+use Rattle.controller.specs.Boards.{HaveFinished}
+use Rattle.epoch_runs.specs.Epochs.{halts_seen, pieces_sent}
+use Rattle.epoch_links.proofs.Tying.{ports_linked, ports_answered}
+use Rattle.epoch_records.specs.Publishing.{AreSameHalts}
+use Rattle.epoch_law.specs.Joined.{AreConnected, ArePassedSome, ArePiecesPassed, HasHaltedUnseen}
+use Rattle.epoch_law.specs.Journals.{host_did, board_did, pulse_did}
+use Rattle.epoch_law.proofs.Connecting.{connected as ends_connected, words_raised}
+use Rattle.epoch_law.specs.Ran.{BoardRan}
+use Rattle.pulse_engine.specs.Logs.{pieces_of, got_since, counted, halts_of, records_put}
 use Rattle.step_record.specs.Taking.{records}
-use Rattle.serial_ring.specs.Logs.{marked_in}
-use Rattle.run_law.specs.Ran.{IsLinked}
-use Rattle.run_law.specs.Fronts.{BeginsWith}
-use Rattle.status_report.specs.Answering.{receive_room, reply_room}
 use Rattle.list_ports.specs.Passing.{record_room}
-use Rattle.list_ports.proofs.Steps.{all_counted, few_unfinished}
-use Rattle.list_ports.proofs.Steps.{pieces_front as fifo_of}
-use Rattle.controller.proofs.Kept.{kept_by}
-use Rattle.board_rules.proofs.Unstopped.{boards_never_stop}
-use Rattle.actor_turns.specs.Worlds.{Seen, History, Holds, LinkIsKept, FlagsAreKept, MotionIsKept}
-use Rattle.run_law.proofs.Resetting.{taken_were_raised}
-use Rattle.run_law.specs.Flags.{AreTaken}
-use Rattle.run_law.specs.Changes.{AreAskedIn, words_in}
-use Rattle.run_law.proofs.Changing.{words_were_raised}
-use Rattle.board_rules.specs.Cuts.{cancel_words_in}
-use Rattle.board_rules.specs.Ports.{link_steps, has_held_in, has_slowed_in, has_changed_in, has_reset_in, reports_in, known_in}
+use Rattle.list_ports.specs.Joining.{IsGoing, HasHalted, numbers_of}
+use Rattle.list_ports.proofs.Steps.{ports_agree}
+use Rattle.actor_turns.specs.Worlds.{Seen, History, Holds, LinkIsKept, FlagsAreKept, FollowHalts, MotionIsKept, last_mark, ticks_halted}
 
 -- ---- what one side got is a front of what the other gave
 
-pub bytes_front : (w : Seen) (hist : History) → Holds w hist → BeginsWith (stored_of hist.host) (taken_of hist.board)
-bytes_front w hist h = record { rest = w.lists.bytes; is = h.joined.bytes.fifo }
-
-pub replies_front : (w : Seen) (hist : History) → Holds w hist → BeginsWith (answered_of hist.board) (got_of hist.host)
+pub replies_front : (w : Seen) (hist : History) → Holds w hist → BeginsWith (answered_in (board_log hist.board)) (got_of hist.host)
 replies_front w hist h = record { rest = w.lists.replies; is = h.joined.replies.fifo }
-
-pub pieces_front : (w : Seen) (hist : History) → Holds w hist → BeginsWith (published_of hist.board) (reverse (pieces_of hist.pulse))
-pieces_front w hist h = record { rest = w.lists.pieces; is = fifo_of w.lists (host_log hist.host) (board_log hist.board) hist.pulse h.joined }
 
 pub records_front : (w : Seen) (hist : History) → Holds w hist → BeginsWith (records_put hist.puts) (records hist.takes)
 records_front w hist h = record { rest = w.waiting; is = h.passed }
 
-pub link : (w : Seen) (hist : History) → Holds w hist → IsLinked (stored_of hist.host) (is_shut hist.host) (taken_of hist.board) (has_closed hist.board) (marks_in (host_log hist.host)) (marked_in (link_steps (board_log hist.board)))
-link w hist h = record {
-  rest = w.lists.bytes;
-  front = h.joined.bytes.fifo;
-  closes = λ closed. sym h.joined.bytes.shut_is ∙ (h.joined.bytes.all closed).0;
-  all = λ closed. (h.joined.bytes.all closed).1;
-  loads = h.joined.marks.loads;
+-- the pieces got or dropped are the first of those published, and those that wait come behind them
+pub pieces_front : (w : Seen) (hist : History) → Holds w hist → pieces_sent (sent_in (board_log hist.board)) ≡ reverse (pieces_of hist.pulse) ++ w.lists.pieces
+pieces_front w hist h =
+    ap reverse h.joined.pieces.fifo ∙ reverse-append (reverse w.lists.pieces) (pieces_of hist.pulse) ∙ ap (λ (ps : List Piece). reverse (pieces_of hist.pulse) ++ ps) (reverse-reverse w.lists.pieces)
+
+-- ---- halts
+
+-- the board has found each halt of the pulse, or the pulse has halted since
+abbrev IsPhase : Seen → History → Type 0
+IsPhase w hist =
+    IsGoing w.lists.pieces w.lists.left w.lists.done w.lists.stop (sent_in (board_log hist.board)) (got_since hist.pulse) (halts_of hist.pulse)
+    ⊎ HasHalted w.lists.pieces w.lists.left w.lists.done w.lists.stop (sent_in (board_log hist.board)) (got_since hist.pulse) (halts_of hist.pulse)
+
+-- those that the board has found are those of the pulse, or the pulse has halted once more
+pub halts_follow : (w : Seen) (hist : History) → Holds w hist → FollowHalts (halts_seen (sent_in (board_log hist.board))) (halts_of hist.pulse)
+halts_follow w hist h = by_phase h.joined.pieces.phase
+  where
+    by_phase : IsPhase w hist → FollowHalts (halts_seen (sent_in (board_log hist.board))) (halts_of hist.pulse)
+    by_phase (inl going) = inl (sym going.halts_are)
+    by_phase (inr halted) = inr ((length (ring.published_in (sent_in (board_log hist.board))), w.lists.done), sym halted.halts_are)
+
+-- a board that has nothing left to do waits for no halt
+none_waits : (state : State) (e : Epochs) → AreEpochs state e → HaveFinished state e → (sent_in (board_log e)).waits ≡ false
+none_waits state (goes es h) are over =
+    ap (λ (s : Sent). s.waits) (sent_on (known_in (closed_log es)) (port_log h) (closed_log es) (journals_never_stop (opening_behind state es) h are.1.conducted)) ∙ goes_there (closed_log es) (begins_behind state es are.0)
+none_waits state (resets es h w) are over = absurd over
+
+-- so it has found them all
+all_found : (w : Seen) (hist : History) (state : State) → Holds w hist → AreEpochs state hist.board → HaveFinished state hist.board → halts_of hist.pulse ≡ halts_seen (sent_in (board_log hist.board))
+all_found w hist state h are over = by_phase h.joined.pieces.phase
+  where
+    by_phase : IsPhase w hist → halts_of hist.pulse ≡ halts_seen (sent_in (board_log hist.board))
+    by_phase (inl going) = sym going.halts_are
+    by_phase (inr halted) = absurd (let waits = halted.waits_is in let none = none_waits state hist.board are over in cc)
+
+-- the pieces of a world are passed as those of a ring
+pub passed_some : (w : Seen) (hist : History) (state : State) → Holds w hist → AreEpochs state hist.board → HaveFinished state hist.board → ArePassedSome (board_did hist.board) (pulse_did hist.pulse hist.puts)
+passed_some w hist state h are over = record {
+  pieces = record { rest = w.lists.pieces; is = pieces_front w hist h };
+  halts = inl (all_found w hist state h are over);
 }
 
--- what the board took of flags was raised
-pub flags_taken : (w : Seen) (hist : History) → Holds w hist → AreTaken (raises_of hist.host) (has_held_in (board_log hist.board)) (has_slowed_in (board_log hist.board)) (has_changed_in (board_log hist.board)) (has_reset_in (board_log hist.board)) (reports_in (board_log hist.board)) (cancel_words_in (board_log hist.board))
-flags_taken w hist h = taken_were_raised (w.lists.exec ∷ w.lists.override ∷ []) (host_log hist.host) (board_log hist.board) h.joined.flags.balance
+-- ---- a run so far
 
--- and so was each flag of a change
-pub words_asked : (w : Seen) (hist : History) → Holds w hist → AreAskedIn (raises_of hist.host) (words_in (board_log hist.board))
-words_asked w hist h = words_were_raised (w.lists.exec ∷ w.lists.override ∷ []) (host_log hist.host) (board_log hist.board) h.joined.flags.balance
+-- the ticks counted and those left of the last piece were published
+ticks_within : (w : Seen) (hist : History) → Holds w hist → w.lists.done + w.lists.left ≤ ticks_published (sent_in (board_log hist.board))
+ticks_within w hist h = by_phase h.joined.pieces.phase
+  where
+    by_phase : IsPhase w hist → w.lists.done + w.lists.left ≤ ticks_published (sent_in (board_log hist.board))
+    by_phase (inl going) =
+        let all = going.ticks in
+        let since = ap ticks_together going.since_is ∙ together_both (reverse w.lists.pieces) (got_since hist.pulse) in
+        omega (arith, all, since)
+    by_phase (inr halted) = let none = halted.none_left in let few = h.joined.pieces.within in omega (arith, none, few)
 
--- the board found no more ticks done than the pulse counted
-pub found_done : (w : Seen) (hist : History) → Holds w hist → known_in (board_log hist.board) ≤ counted hist.pulse
-found_done w hist h = let p = h.joined.pieces in let known = p.known_is in let done = p.done_is in omega (arith, known, done)
+-- the pieces of a world are passed as those of a ring that goes on
+pub pieces_passed : (w : Seen) (hist : History) → Holds w hist → ArePiecesPassed (sent_in (board_log hist.board)) (known_in (board_log hist.board)) hist.pulse
+pieces_passed w hist h =
+    let p = h.joined.pieces in
+    record {
+      rest = reverse w.lists.pieces;
+      fifo = p.fifo;
+      known_is = subst (λ (n : ℕ). known_in (board_log hist.board) ≤ n) p.done_is p.known_is;
+      within = (let done = p.done_is in let left = p.left_is in let few = ticks_within w hist h in omega (arith, done, left, few));
+      halts = by_phase p.phase;
+    }
+  where
+    by_phase : IsPhase w hist → AreSameHalts (halts_seen (sent_in (board_log hist.board))) (halts_of hist.pulse) ⊎ HasHaltedUnseen (sent_in (board_log hist.board)) hist.pulse
+    by_phase (inl going) = inl (inl (sym going.halts_are))
+    by_phase (inr halted) = inr (record {
+      waits = halted.waits_is;
+      all = h.joined.pieces.fifo ∙ ap (λ (ps : List Piece). reverse ps ++ pieces_of hist.pulse) halted.none_waits;
+      none_left = sym h.joined.pieces.left_is ∙ halted.none_left;
+      halts_are = inl (sym halted.halts_are
+          ∙ ap (λ (n : ℕ). let last : ℕ × ℕ = (length (ring.published_in (sent_in (board_log hist.board))), n) in last ∷ halts_seen (sent_in (board_log hist.board))) h.joined.pieces.done_is);
+    })
+
+-- ---- both
+
+-- host and board are connected, by the logs of the lists between them
+pub connected : (w : Seen) (hist : History) (state : State) → Holds w hist → AreEpochs state hist.board → AreConnected (host_did hist.host) (board_did hist.board)
+connected w hist state h are =
+    let agree = ports_agree w.lists (host_log hist.host) (board_log hist.board) hist.pulse h.joined in
+    ends_connected hist.host state hist.board h.host.conducted are (ports_linked hist.host hist.board agree) (ports_answered hist.host hist.board agree)
+    (words_raised (w.lists.exec ∷ w.lists.override ∷ []) (host_log hist.host) (board_log hist.board) h.joined.flags.balance)
+
+-- a board that has nothing left to do has run, by the law of boards
+pub board_ran : (state : State) (e : Epochs)
+    → ((es : NewestFirst Closed) (h : Journal) → IsOpening state → AreEpochs state (goes es h) → IsFinished (opening_behind state es) h → BoardRan (board_did (goes es h)))
+    → IsOpening state → AreEpochs state e → HaveFinished state e → BoardRan (board_did e)
+board_ran state (goes es h) law opening are over = law es h opening are over
+board_ran state (resets es h w) law opening are over = absurd over
 
 -- ---- how it ends
 
@@ -71,21 +153,44 @@ failed_is false Stopped both = refl
 
 -- ---- what is on its way
 
+mark_is : (m : Mark) (number bytes : ℕ) → m.0 ≡ number → m.1 ≡ bytes → m ≡ (number, bytes)
+mark_is m number bytes a b = ap (λ (n : ℕ). let x : Mark = (n, m.1) in x) a ∙ ap (λ (n : ℕ). let x : Mark = (number, n) in x) b
+
 pub link_is_kept : (w : Seen) (hist : History) → Holds w hist → length w.lists.bytes ≤ receive_room → length w.lists.replies ≤ reply_room → LinkIsKept w hist
-link_is_kept w hist h bytes replies = record { taken = h.joined.bytes.fifo; bytes = bytes; got = h.joined.replies.fifo; replies = replies; answers = h.joined.replies.fewer }
+link_is_kept w hist h bytes replies = record {
+  taken = h.joined.bytes.fifo;
+  bytes = bytes;
+  got = h.joined.replies.fifo;
+  replies = replies;
+  answers = h.joined.replies.fewer;
+  mark = mark_is w.lists.mark (last_mark (marks_of hist.host)).0 (last_mark (marks_of hist.host)).1 h.joined.marks.number_is h.joined.marks.bytes_is;
+  loaded = h.joined.marks.loads;
+}
 
 pub flags_are_kept : (w : Seen) (hist : History) → Holds w hist → FlagsAreKept w hist
 flags_are_kept w hist h = record { balance = h.joined.flags.balance }
 
+halted_at : (halts : NewestFirst Halt) → ticks_halted (map numbers_of halts) ≡ ticks_at halts
+halted_at [] = refl
+halted_at (halt ∷ halts) = refl
+
+-- no more ticks are done than those at the last halt and those of the pieces got since
+done_below : (w : Seen) (hist : History) → Holds w hist → w.lists.done ≤ ticks_halted (halts_of hist.pulse) + ticks_together (got_since hist.pulse)
+done_below w hist h = by_phase h.joined.pieces.phase
+  where
+    by_phase : IsPhase w hist → w.lists.done ≤ ticks_halted (halts_of hist.pulse) + ticks_together (got_since hist.pulse)
+    by_phase (inl going) =
+        let all = going.ticks in let at = halted_at (sent_in (board_log hist.board)).halts in let same = ap ticks_halted going.halts_are in omega (arith, all, at, same)
+    by_phase (inr halted) = let at = ap ticks_halted halted.halts_are in omega (arith, at)
+
 pub motion_is_kept : (w : Seen) (hist : History) → Holds w hist → length w.waiting ≤ record_room → MotionIsKept w hist
 motion_is_kept w hist h room =
-    let kept = kept_by w.board hist.board h.board in
-    let none = boards_never_stop kept.first hist.board kept.conducted in
-    let all = all_counted w.lists (host_log hist.host) (board_log hist.board) hist.pulse h.joined none in
+    let p = h.joined.pieces in
     record {
-      got = fifo_of w.lists (host_log hist.host) (board_log hist.board) hist.pulse h.joined;
-      done = omega arith;
-      few = few_unfinished w.lists (host_log hist.host) (board_log hist.board) hist.pulse h.joined none;
+      got = pieces_front w hist h;
+      done = subst (λ (n : ℕ). n ≤ ticks_halted (halts_of hist.pulse) + ticks_together (got_since hist.pulse)) p.done_is (done_below w hist h);
+      few = subst (λ (n : ℕ). unfinished_in (sent_in (board_log hist.board)) n ≤ most_unfinished) p.done_is p.few;
+      halts = halts_follow w hist h;
       taken = h.passed;
       room = room;
     }

@@ -9,8 +9,8 @@ use Rattle.stream_host.specs.Steps.{Journal as HostJournal}
 use Rattle.stream_host.specs.Steps.Step.{turned as host_turned}
 use Rattle.board_rules.specs.Steps.{Journal}
 use Rattle.board_rules.specs.Steps.Step.{turned as board_turned}
-use Rattle.board_rules.specs.Breaking.{Doings as BoardJournal}
-use Rattle.board_rules.specs.Breaking.Doings.{goes, broke}
+use Rattle.board_epochs.specs.Epochs.{Epochs}
+use Rattle.board_epochs.specs.Epochs.Epochs.{goes, resets}
 use Rattle.pulse_engine.specs.Steps.{AwaitsPiece}
 use Rattle.step_record.specs.declared.forms.Form.{Form}
 use Rattle.actor_turns.specs.Worlds.{Seen, History, Devices, Holds, Stands, Adds}
@@ -97,14 +97,22 @@ pub record RunsPaced (before after : Devices) (w w' : Seen) : Type 0 where
 abbrev pub HostSaid : Turn → HostJournal → Type 0
 HostSaid t h = (rest : HostJournal) × (h ≡ host_turned t ∷ rest)
 
--- the last turn of a board did, also where it has ended a run
-abbrev pub BoardSaid : Turn → BoardJournal → Type 0
-BoardSaid t (goes h) = (rest : Journal) × (h ≡ board_turned t ∷ rest)
-BoardSaid t (broke since h) = ((rest : Journal) × (since ≡ board_turned t ∷ rest)) ⊎ ((since ≡ []) × ((rest : Journal) × (h ≡ board_turned t ∷ rest)))
+-- what the last turn of a board was added to: the journal of an epoch, or of the work of a reset, also where this ended with it, so
+-- that a reset is to be worked now, or the next epoch has begun
+abbrev pub turned_last : Epochs → Journal
+turned_last (goes [] []) = []
+turned_last (goes (e ∷ es) []) = e.work
+turned_last (goes es (s ∷ h)) = s ∷ h
+turned_last (resets es h []) = h
+turned_last (resets es h (s ∷ w)) = s ∷ w
+
+-- the last turn of a board answered so
+abbrev pub BoardSaid : Turn → Epochs → Type 0
+BoardSaid t e = (rest : Journal) × (turned_last e ≡ board_turned t ∷ rest)
 
 -- a board waits, or is done
-abbrev pub BoardIdles : BoardJournal → Type 0
-BoardIdles d = (t : Turn) × (t ≢ Did) × BoardSaid t d
+abbrev pub BoardIdles : Epochs → Type 0
+BoardIdles e = (t : Turn) × (t ≢ Did) × BoardSaid t e
 
 abbrev pub HostIdles : HostJournal → Type 0
 HostIdles h = (t : Turn) × (t ≢ Did) × HostSaid t h

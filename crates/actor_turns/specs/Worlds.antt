@@ -1,22 +1,30 @@
 -- What a world stands for: its actors, the lists between them, and what was done.
-use Rattle.std.specs.Prelude.{◌≡◌, ℕ, ◌≤◌, Bool, true, false, List, [], ◌∷◌, ◌++◌, length, reverse}
+use Rattle.std.specs.Prelude.{◌≡◌, ◌⊎◌, ℕ, ◌+◌, ◌≤◌, Bool, true, false, List, [], ◌∷◌, ◌++◌, length, reverse}
 use Rattle.outside.specs.declared.Actor.{Actor}
 use Rattle.outside.specs.declared.Actor.TheVariants as actors
 use Rattle.outside.specs.declared.Turn.{Turn}
 use Rattle.step_line.specs.declared.Record.{Record as AnyRecord}
 use Rattle.stream_host.specs.declared.host.Host.{Host}
-use Rattle.stream_host.specs.Steps.{Journal as HostJournal, port_log as host_log, stored_of, got_of}
+use Rattle.stream_host.specs.Steps.{Journal as HostJournal, port_log as host_log, stored_of, marks_of, got_of}
+use Rattle.stream_host.specs.Raises.{raises_in}
 use Rattle.stream_host.specs.Hosts.{HostFits, HostTurned, HostRests, TellsJob, TellsText}
 use Rattle.stream_host.specs.Hosts.{IsBetween as IsBetweenOfHost}
 use Rattle.stream_host.specs.Ran.{end_of}
-use Rattle.board_rules.specs.Breaking.{Doings as BoardJournal, log_of as board_log, taken_of, answered_of, published_of}
-use Rattle.board_rules.specs.Breaking.Doings.{goes}
+use Rattle.board_rules.specs.Ports.{link_steps, taken_in, answered_in, sent_in}
+use Rattle.board_rules.specs.Takes.{takes_in}
+use Rattle.board_epochs.specs.Epochs.{Epochs, log_of as board_log}
+use Rattle.board_epochs.specs.Epochs.Epochs.{goes}
+use Rattle.epoch_runs.specs.Epochs.{halts_seen, pieces_sent}
 use Rattle.controller.specs.declared.controller.Controller.{Controller}
 use Rattle.controller.specs.Boards.{BoardFits, BoardTurned, BoardRests}
 use Rattle.controller.specs.Boards.{IsBetween as IsBetweenOfBoard}
 use Rattle.status_report.specs.Answering.{receive_room, reply_room, answers_in, lfs_in}
-use Rattle.step_line.specs.Finishing.{ticks_together, unfinished, most_unfinished}
-use Rattle.pulse_engine.specs.Logs.{PieceLog, RecordLog, pieces_of, counted, records_put}
+use Rattle.step_line.specs.Finishing.{ticks_together, most_unfinished}
+use Rattle.step_line.specs.Logs.{NewestFirst}
+use Rattle.motion_ring.specs.Sides.{unfinished_in}
+use Rattle.serial_ring.specs.Logs.{marked_in}
+use Rattle.serial_ring.specs.Marks.{Mark, AreMarks, latest}
+use Rattle.pulse_engine.specs.Logs.{PieceLog, RecordLog, pieces_of, got_since, counted, halts_of, records_put}
 use Rattle.pulse_engine.specs.Steps.{Pulsing, AwaitsPiece}
 use Rattle.pulse_engine.specs.Turns.{PulseFits, PulseTurned}
 use Rattle.step_record.specs.Taking.{Log, records}
@@ -24,10 +32,9 @@ use Rattle.step_record.specs.declared.forms.Form.{Form}
 use Rattle.step_record.specs.Recording.{Recording, RecorderFits, RecorderTurned, Rests, Takes}
 use Rattle.run_law.specs.declared.RunEnd.{RunEnd}
 use Rattle.run_law.specs.Runs.{run_end}
-pub use Rattle.run_law.specs.Devices.{Devices, devices, sinks, RunsSoFar, HasRun}
+pub use Rattle.epoch_law.specs.Devices.{Devices, devices, sinks, RunsSoFar, HasRun}
 use Rattle.list_ports.specs.Passing.{HandsOn, record_room}
 use Rattle.realtime_flags.specs.Bits.{IsBalanced}
-use Rattle.run_law.specs.Taking.{raises_in, takes_in}
 use Rattle.list_ports.specs.Joining.{Listed, Joined}
 use Rattle.list_ports.specs.PerLine.{ReportsPerLine}
 use Rattle.run_rules.specs.Lines.{lines_of}
@@ -48,17 +55,17 @@ pub record Seen : Type 0 where
   pub lists : Listed
   pub waiting : List AnyRecord
 
--- what was done: the journals of host and board, the pieces that the pulse got, the records put, and those taken
+-- what was done: the journal of the host, the epochs of the board, what the pulse did with pieces, the records put, and those taken
 pub record History : Type 0 where
   pub host : HostJournal
-  pub board : BoardJournal
+  pub board : Epochs
   pub pulse : PieceLog
   pub puts : RecordLog
   pub takes : Log
 
 -- nothing was done
 abbrev pub no_history : History
-no_history = record { host = []; board = goes []; pulse = []; puts = []; takes = [] }
+no_history = record { host = []; board = goes [] []; pulse = []; puts = []; takes = [] }
 
 -- what a world says of what was done, with no word of a device
 pub record Holds (w : Seen) (hist : History) : Type 0 where
@@ -83,26 +90,45 @@ pub record Stands (form : Form) (was now : Devices) (w : Seen) (hist : History) 
 
 -- ---- what is on its way
 
+-- the last of some marks, by its number and how many bytes were stored before it, or the start
+abbrev pub last_mark : List ℕ → Mark
+last_mark marks = (length marks, latest marks)
+
 -- Between host and board: the bytes taken are a front of those stored, and at most 128 behind; the replies got are a front of
--- those answered, and at most 16 behind. No more lines are answered than were taken to their LF.
+-- those answered, and at most 16 behind. No more lines are answered than were taken to their LF. The mark on its way is the last
+-- one stored, and each mark that was loaded was stored, or is the start.
 pub record LinkIsKept (w : Seen) (hist : History) : Type 0 where
-  pub taken : stored_of hist.host ≡ taken_of hist.board ++ w.lists.bytes
+  pub taken : stored_of hist.host ≡ taken_in (board_log hist.board) ++ w.lists.bytes
   pub bytes : length w.lists.bytes ≤ receive_room
-  pub got : answered_of hist.board ≡ got_of hist.host ++ w.lists.replies
+  pub got : answered_in (board_log hist.board) ≡ got_of hist.host ++ w.lists.replies
   pub replies : length w.lists.replies ≤ reply_room
-  pub answers : answers_in (answered_of hist.board) ≤ lfs_in (taken_of hist.board)
+  pub answers : answers_in (answered_in (board_log hist.board)) ≤ lfs_in (taken_in (board_log hist.board))
+  pub mark : w.lists.mark ≡ last_mark (marks_of hist.host)
+  pub loaded : AreMarks (marks_of hist.host) (marked_in (link_steps (board_log hist.board)))
 
 -- Between host and board: each flag was found down by as many raises as there are takes that had it, and by one more where it
 -- is up. So none is lost, and none is taken twice.
 pub record FlagsAreKept (w : Seen) (hist : History) : Type 0 where
   pub balance : IsBalanced (w.lists.exec ∷ w.lists.override ∷ []) (raises_in (host_log hist.host)) (takes_in (board_log hist.board))
 
--- Between board and pulse: the pieces got are a front of those published, and no more ticks are done than these have; at most
--- five pieces are unfinished. Between pulse and recorder: the records taken are a front of those put, at most 1,024 behind.
+-- the halts of a pulse are those found, or one more
+abbrev pub FollowHalts : (found halts : NewestFirst (ℕ × ℕ)) → Type 0
+FollowHalts found halts = (halts ≡ found) ⊎ ((last : ℕ × ℕ) × (halts ≡ last ∷ found))
+
+-- how many ticks were done at the last of some halts
+abbrev pub ticks_halted : NewestFirst (ℕ × ℕ) → ℕ
+ticks_halted [] = 0
+ticks_halted (halt ∷ halts) = halt.1
+
+-- Between board and pulse: the pieces got or dropped are a front of those published. No more ticks are done than those at the last
+-- halt and those of the pieces got since; at most five pieces are unfinished. The halts that the board has found are those of the
+-- pulse, which has halted once more at most. Between pulse and recorder: the records taken are a front of those put, at most 1,024
+-- behind.
 pub record MotionIsKept (w : Seen) (hist : History) : Type 0 where
-  pub got : published_of hist.board ≡ reverse (pieces_of hist.pulse) ++ w.lists.pieces
-  pub done : counted hist.pulse ≤ ticks_together (pieces_of hist.pulse)
-  pub few : unfinished (published_of hist.board) (counted hist.pulse) ≤ most_unfinished
+  pub got : pieces_sent (sent_in (board_log hist.board)) ≡ reverse (pieces_of hist.pulse) ++ w.lists.pieces
+  pub done : counted hist.pulse ≤ ticks_halted (halts_of hist.pulse) + ticks_together (got_since hist.pulse)
+  pub few : unfinished_in (sent_in (board_log hist.board)) (counted hist.pulse) ≤ most_unfinished
+  pub halts : FollowHalts (halts_seen (sent_in (board_log hist.board))) (halts_of hist.pulse)
   pub taken : records_put hist.puts ≡ records hist.takes ++ w.waiting
   pub room : length w.waiting ≤ record_room
 

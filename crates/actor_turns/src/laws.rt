@@ -6,10 +6,12 @@ ghost use Rattle.list_ports.specs.PerLine.{ReportsPerLine};
 ghost use Rattle.step_record.specs.declared.forms.Form.{Form};
 ghost use Rattle.actor_turns.specs.Worlds.{Devices, History, Seen, Holds, Stands, AreDone, end_after, RunsSoFar, HasRun, HasRunAlone, CountsReports};
 
-use run_law::{
-    actors_make_a_run_so_far, actors_that_end_make_a_run, boards_have_run, pulses_have_run,
-    recorders_have_run,
+use controller::controllers_keep_to_epochs;
+use epoch_law::{
+    actors_make_a_run_so_far, actors_that_end_make_a_run, boards_have_run, boards_run,
+    hosts_are_sending, hosts_have_sent, pulses_have_run, pulses_run, rings_pass_pieces_so_far,
 };
+use run_law::recorders_have_run;
 use stream_host::{hosts_have_run, hosts_send_their_lines};
 
 /// What a world has done since it was new is a run of the job so far. Where all four actors are done, it is a whole run, each of
@@ -20,9 +22,15 @@ pub fn worlds_run()
     ensures alone { (form : Form) (was now : Devices) (w : Seen) (hist : History) → Stands form was now w hist → AreDone w → HasRunAlone form was now (end_after w hist) }
 {
     hosts_have_run();
+    hosts_have_sent();
+    hosts_are_sending();
+    controllers_keep_to_epochs();
     boards_have_run();
+    boards_run();
     pulses_have_run();
+    pulses_run();
     recorders_have_run();
+    rings_pass_pieces_so_far();
     actors_make_a_run_so_far();
     actors_that_end_make_a_run();
 }
@@ -35,5 +43,4 @@ pub fn worlds_count_reports()
     ensures told { (form : Form) (was now : Devices) (w : Seen) (hist : History) → Stands form was now w hist → CountsReports was now }
 {
     hosts_send_their_lines();
-    boards_have_run();
 }

@@ -1,5 +1,5 @@
 use Rattle.std.proofs.Common.{sym}
-use Rattle.board_rules.specs.Breaking.{log_of}
+use Rattle.board_epochs.specs.Epochs.{log_of}
 use Rattle.actor_turns.proofs.Arms.{holds_on, turns_on, host_moves}
 use Rattle.actor_turns.proofs.world.World.turn_host.Goals as goal
 

@@ -1,6 +1,6 @@
 use Rattle.std.proofs.Common.{None, sym}
 use Rattle.stream_host.specs.Steps.{port_log as host_log}
-use Rattle.board_rules.specs.Breaking.{log_of as board_log}
+use Rattle.board_epochs.specs.Epochs.{log_of as board_log}
 use Rattle.actor_turns.specs.Worlds.{devices}
 use Rattle.actor_turns.proofs.Arms.{holds_on, turns_on, pulse_moves}
 use Rattle.actor_turns.proofs.world.World.turn_pulse.Goals as goal
