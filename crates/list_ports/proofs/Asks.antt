@@ -1,54 +1,69 @@
 -- What calls make of the reports that are asked for.
-use Rattle.std.proofs.Common.{◌≡◌, ℕ, ◌+◌, ◌^◌, ◌≤◌, ◌<◌, ◌⊎◌, inl, inr, Bool, true, false, not, cond, ◌&&◌, bit_or, nat_eq, List, [], ◌∷◌, ◌++◌, refl, sym, ap, ◌∙◌, arith, Some}
+use Rattle.std.proofs.Common.{◌≡◌, ℕ, ◌+◌, ◌^◌, ◌≤◌, ◌<◌, ◌⊎◌, inl, inr, Bool, true, false, not, cond, ◌&&◌, bit_or, bit_and, nat_eq, List, [], ◌∷◌, refl, sym, ap, ◌∙◌, arith, Some}
+use Rattle.std.specs.Int.{bit_at}
+use Rattle.std.proofs.lemmas.Bool.Decides.{nat_tests}
+use Rattle.std.proofs.lemmas.Nat.Bits.{bit_at_and, bit_at-lt}
 use Rattle.code_table.specs.Tables.{query}
+use Rattle.code_table.specs.declared.flags.Exec.{Exec}
 use Rattle.status_report.specs.declared.Reply.{Reply}
-use Rattle.status_report.specs.Answering.{is_answer, answers_in, lfs_in}
-use Rattle.status_report.proofs.Answered.{answers_on, lfs_on}
+use Rattle.status_report.specs.Answering.{is_answer, is_banner}
+use Rattle.serial_ring.specs.Lists.{has_banner, answers_behind_mark}
 use Rattle.realtime_flags.specs.declared.words.Flag.{Flag}
 use Rattle.realtime_flags.specs.declared.words.Flag.TheVariants as flags
 use Rattle.realtime_flags.specs.Bits.{is_flag, is_up, report_flag}
 use Rattle.realtime_flags.specs.Bytes.{flag_of_byte}
 use Rattle.realtime_flags.proofs.Bits.{raised_up, same_flag}
+use Rattle.stream_host.specs.Links.{banners_in}
+use Rattle.stream_host.proofs.Epochs.{no_answer, some_banner, none_banner}
 use Rattle.stream_host.proofs.Queries.{asks, only_query}
-use Rattle.list_ports.specs.Asked.{AsksPass, report_is_up}
-use Rattle.list_ports.specs.Joining.{BytesPass, RepliesPass}
+use Rattle.stream_host.proofs.Raised.{banners_first}
+use Rattle.board_rules.specs.Ports.{asks_report}
+use Rattle.list_ports.specs.Asked.{AsksPass, epoch_behind, is_at, report_is_up}
+
+-- ---- moments
+
+same_at : (e k : ℕ) (xs ys : List Reply) → epoch_behind xs ≡ epoch_behind ys → answers_behind_mark xs ≡ answers_behind_mark ys → is_at e k xs ≡ is_at e k ys
+same_at e k xs ys b a = ap (λ n. nat_eq n e && nat_eq (answers_behind_mark xs) k) b ∙ ap (λ n. nat_eq (epoch_behind ys) e && nat_eq n k) a
 
 -- ---- a realtime byte is raised
 
--- a `?` is raised only where all lines on the link are answered, and all answers got
-abbrev pub AllAnswered : (got answers lfs : ℕ) → Type 0
-AllAnswered got answers lfs = (got ≡ answers) × (answers ≡ lfs)
+-- A `?` is raised only where both sides are in one epoch, all lines on the link are answered, all answers got, and no reset waits for its
+-- Banner.
+pub record AllAnswered (got told : List Reply) (answers lfs resets : ℕ) : Type 0 where
+  pub same : epoch_behind got ≡ epoch_behind told
+  pub got_all : answers_behind_mark got ≡ answers_behind_mark told
+  pub all : answers ≡ lfs
+  pub calm : resets ≤ epoch_behind told
 
-raised_here : (up up' down t : Bool) (words raises got answers k : ℕ) → (up' ≡ true → (up ≡ true) ⊎ ((t ≡ true) × (down ≡ true))) → (t ≡ true → got ≡ answers)
-    → words + cond (up && nat_eq answers k) 1 0 ≤ raises → words + cond (up' && nat_eq answers k) 1 0 ≤ cond (down && (t && nat_eq got k)) 1 0 + raises
-raised_here up false down t words raises got answers k how same le = omega arith
-raised_here true true down t words raises got answers k how same le = omega arith
-raised_here false true down t words raises got answers k how same le = by_how (how refl)
+raised_here : (up up' down t x y : Bool) (words raises : ℕ) → (up' ≡ true → (up ≡ true) ⊎ ((t ≡ true) × (down ≡ true))) → (t ≡ true → x ≡ y)
+    → words + cond (up && y) 1 0 ≤ raises → words + cond (up' && y) 1 0 ≤ cond (down && (t && x)) 1 0 + raises
+raised_here up false down t x y words raises how same le = omega arith
+raised_here true true down t x y words raises how same le = omega arith
+raised_here false true down t x y words raises how same le = by_how (how refl)
   where
-    by_how : (false ≡ true) ⊎ ((t ≡ true) × (down ≡ true)) → words + cond (nat_eq answers k) 1 0 ≤ cond (down && (t && nat_eq got k)) 1 0 + raises
+    by_how : (false ≡ true) ⊎ ((t ≡ true) × (down ≡ true)) → words + cond y 1 0 ≤ cond (down && (t && x)) 1 0 + raises
     by_how (inl e) = absurd cc
     by_how (inr e) =
-        let g = ap (λ n. cond {A = ℕ} (nat_eq n k) 1 0) (same e.0) in
-        let d = ap (λ b. cond {A = ℕ} (b && (t && nat_eq got k)) 1 0) e.1 in
-        let u = ap (λ b. cond {A = ℕ} (b && nat_eq got k) 1 0) e.0 in omega arith
+        let g = ap (λ b. cond {A = ℕ} b 1 0) (same e.0) in
+        let d = ap (λ b. cond {A = ℕ} (b && (t && x)) 1 0) e.1 in
+        let u = ap (λ b. cond {A = ℕ} (b && x) 1 0) e.0 in omega arith
 
-pub asks_raised : (up up' down t : Bool) (raises words : ℕ → ℕ) (got answers lfs : ℕ) (looked : Bool) → (up' ≡ true → (up ≡ true) ⊎ ((t ≡ true) × (down ≡ true))) → (t ≡ true → AllAnswered got answers lfs)
-    → AsksPass up raises words answers lfs looked → AsksPass up' (λ k. cond (down && (t && nat_eq got k)) 1 0 + raises k) words answers lfs looked
-asks_raised up up' down t raises words got answers lfs looked how quiet p = record {
-  each = λ k. raised_here up up' down t (words k) (raises k) got answers k how (λ e. (quiet e).0) (p.each k);
+pub asks_raised : (up up' down t : Bool) (raises words : ℕ → ℕ → ℕ) (got told : List Reply) (answers lfs resets : ℕ) (looked : Bool) → (up' ≡ true → (up ≡ true) ⊎ ((t ≡ true) × (down ≡ true)))
+    → (t ≡ true → AllAnswered got told answers lfs resets) → AsksPass up raises words told answers lfs resets looked
+    → AsksPass up' (λ e k. cond (down && (t && is_at e k got)) 1 0 + raises e k) words told answers lfs resets looked
+asks_raised up up' down t raises words got told answers lfs resets looked how quiet p = record {
+  each = λ e k. raised_here up up' down t (is_at e k got) (is_at e k told) (words e k) (raises e k) how (λ is. same_at e k got told (quiet is).same (quiet is).got_all) (p.each e k);
   before = λ e. by_how (how e);
+  calm = λ e. calm_how (how e);
 }
   where
     by_how : (up ≡ true) ⊎ ((t ≡ true) × (down ≡ true)) → (answers ≡ lfs) ⊎ (looked ≡ false)
     by_how (inl e) = p.before e
-    by_how (inr e) = inl (quiet e.0).1
+    by_how (inr e) = inl (quiet e.0).all
 
--- the lists are empty then
-pub quiet_lists : (ws stored taken : List ℕ) (closed shut over : Bool) (waiting answered got : List Reply) → BytesPass ws closed stored shut taken over → RepliesPass waiting answered got taken
-    → answers_in got ≡ lfs_in stored → AllAnswered (answers_in got) (answers_in answered) (lfs_in taken)
-quiet_lists ws stored taken closed shut over waiting answered got p q e =
-    let a = ap answers_in q.fifo in let b = answers_on got waiting in
-    let c = ap lfs_in p.fifo in let d = lfs_on taken ws in let f = q.fewer in (omega arith, omega arith)
+    calm_how : (up ≡ true) ⊎ ((t ≡ true) × (down ≡ true)) → resets ≤ epoch_behind told
+    calm_how (inl e) = p.calm e
+    calm_how (inr e) = (quiet e.0).calm
 
 -- the flag of reports is up if it was, or if it is raised now, by a `?` that finds it down
 pub up_by : (b exec override place : ℕ) → flag_of_byte b ≡ Some (flags.Exec place) → report_is_up (bit_or exec (2 ^ place)) ≡ true
@@ -67,27 +82,105 @@ up_by b exec override place is up = by_flag (is_flag report_flag (flags.Exec pla
     by_flag true e = by_up (report_is_up exec) refl (ap (λ (f : Flag). is_up f (exec ∷ override ∷ [])) (sym (same_flag report_flag (flags.Exec place) e))) (only_query b (ap asks is ∙ e))
     by_flag false e = inl (sym (ap (λ t. cond t true (report_is_up exec)) e) ∙ now)
 
+-- ---- a byte is taken
+
+pub asks_byte : (b : ℕ) (up : Bool) (raises words : ℕ → ℕ → ℕ) (told : List Reply) (answers lfs resets : ℕ) (looked : Bool) → AsksPass up raises words told answers lfs resets looked
+    → AsksPass up raises words told answers (cond (nat_eq b 10) 1 0 + lfs) resets (not (nat_eq b 10) && looked)
+asks_byte b up raises words told answers lfs resets looked p = record { each = p.each; before = λ e. by_end (nat_eq b 10) (p.before e); calm = p.calm }
+  where
+    by_end : (t : Bool) → (answers ≡ lfs) ⊎ (looked ≡ false) → (answers ≡ cond t 1 0 + lfs) ⊎ ((not t && looked) ≡ false)
+    by_end true was = inr refl
+    by_end false (inl e) = inl (omega arith)
+    by_end false (inr e) = inr e
+
+-- ---- the word of requests is taken
+
+bit_asked : (n : ℕ) → nat_eq (bit_and n 1) 1 ≡ true → nat_eq (bit_at n 0) 1 ≡ true
+bit_asked n e =
+    let b = bit_at_and n 1 0 in let one : bit_and n 1 ≡ 1 = grind (arith, nat_tests, e) in
+    let both : bit_at (bit_and n 1) 0 ≡ 1 = ap (λ k. bit_at k 0) one in let lt = bit_at-lt n 0 in
+    let is : bit_at n 0 ≡ 1 = omega arith in rw is refl
+
+-- a word that asks for a report has its flag up
+up_in_word : (word : Exec) → asks_report word ≡ true → report_is_up word.0 ≡ true
+up_in_word word e = bit_asked word.0 e
+
+word_here : (asked up at : Bool) (words raises : ℕ) → (asked ≡ true → up ≡ true) → words + cond (up && at) 1 0 ≤ raises → (cond (asked && at) 1 0 + words) + cond (false && at) 1 0 ≤ raises
+word_here true true at words raises up le = omega arith
+word_here true false at words raises up le = absurd (let e = up refl in cc)
+word_here false up at words raises is le = omega arith
+
+pub asks_word : (word : Exec) (raises words : ℕ → ℕ → ℕ) (told : List Reply) (answers lfs resets more : ℕ) (looked : Bool) → AsksPass (report_is_up word.0) raises words told answers lfs resets looked
+    → AsksPass false raises (λ e k. cond (asks_report word && is_at e k told) 1 0 + words e k) told answers lfs more true
+asks_word word raises words told answers lfs resets more looked p = record {
+  each = λ e k. word_here (asks_report word) (report_is_up word.0) (is_at e k told) (words e k) (raises e k) (up_in_word word) (p.each e k);
+  before = λ e. absurd cc;
+  calm = λ e. absurd cc;
+}
+
 -- ---- a reply is answered
 
-pub asks_answered : (up : Bool) (raises words : ℕ → ℕ) (answered : List Reply) (r : Reply) (lfs : ℕ) (looked : Bool) → (is_answer r ≡ true → (answers_in answered < lfs) × (looked ≡ true))
-    → AsksPass up raises words (answers_in answered) lfs looked → AsksPass up raises words (answers_in (answered ++ r ∷ [])) lfs looked
-asks_answered up raises words answered r lfs looked due p = by_answer (is_answer r) due (answers_on answered (r ∷ []))
-  where
-    none_up : (u : Bool) → (u ≡ true → (answers_in answered ≡ lfs) ⊎ (looked ≡ false)) → answers_in answered < lfs → looked ≡ true → u ≡ false
-    none_up true before few is = by_before (before refl)
-      where
-        by_before : (answers_in answered ≡ lfs) ⊎ (looked ≡ false) → true ≡ false
-        by_before (inl e) = absurd (omega arith)
-        by_before (inr e) = absurd (let f = sym is ∙ e in cc)
-    none_up false before few is = refl
+-- the flag is down
+none_up : (up : Bool) (raises words : ℕ → ℕ → ℕ) (told later : List Reply) (answers lfs resets n m : ℕ) (looked : Bool) → up ≡ false → AsksPass up raises words told answers lfs resets looked
+    → AsksPass up raises words later n m resets looked
+none_up up raises words told later answers lfs resets n m looked down p = record {
+  each = λ e k. let w = p.each e k in let d = ap (λ u. cond {A = ℕ} (u && is_at e k later) 1 0) down in omega arith;
+  before = λ e. absurd (let f = sym down ∙ e in cc);
+  calm = λ e. absurd (let f = sym down ∙ e in cc);
+}
 
-    by_answer : (t : Bool) → (t ≡ true → (answers_in answered < lfs) × (looked ≡ true)) → answers_in (answered ++ r ∷ []) ≡ answers_in answered + (0 + cond t 1 0) → AsksPass up raises words (answers_in (answered ++ r ∷ [])) lfs looked
-    by_answer true due more =
-        let down = none_up up p.before (due refl).0 (due refl).1 in
-        record {
-          each = λ k. let e = p.each k in let d = ap (λ u. cond {A = ℕ} (u && nat_eq (answers_in (answered ++ r ∷ [])) k) 1 0) down in omega arith;
-          before = λ e. absurd (let f = sym down ∙ e in cc);
-        }
-    by_answer false due more =
-        let same : answers_in (answered ++ r ∷ []) ≡ answers_in answered = omega arith in
-        rw same p
+-- the moment stays
+none_told : (up : Bool) (raises words : ℕ → ℕ → ℕ) (told later : List Reply) (answers lfs resets n m : ℕ) (looked : Bool) → epoch_behind later ≡ epoch_behind told
+    → answers_behind_mark later ≡ answers_behind_mark told → (up ≡ true → (n ≡ m) ⊎ (looked ≡ false)) → AsksPass up raises words told answers lfs resets looked → AsksPass up raises words later n m resets looked
+none_told up raises words told later answers lfs resets n m looked epoch now before p = record {
+  each = λ e k. let w = p.each e k in let d = ap (λ t. cond {A = ℕ} (up && t) 1 0) (same_at e k later told epoch now) in omega arith;
+  before = before;
+  calm = λ e. let c = p.calm e in omega arith;
+}
+
+down_by : (up : Bool) → (up ≡ true → ⊥) → up ≡ false
+down_by true never = absurd (never refl)
+down_by false never = refl
+
+module _ (up : Bool) (raises words : ℕ → ℕ → ℕ) (told : List Reply) (r : Reply) (answers lfs resets : ℕ) (looked : Bool) (p : AsksPass up raises words told answers lfs resets looked) where
+  abbrev Then : (banner line : Bool) → Type 0
+  Then banner line = AsksPass up raises words (r ∷ told) (cond banner 0 (cond line 1 0 + answers)) (cond banner 0 lfs) resets looked
+
+  banner_told : is_banner r ≡ true → banners_in told ≤ resets → (t : Bool) → has_banner told ≡ t → (line : Bool) → Then true line
+  banner_told is due true h line =
+      none_up up raises words told (r ∷ told) answers lfs resets 0 0 looked
+      (down_by up (λ e. (let c = p.calm e in let s = some_banner told h in absurd (omega arith)))) p
+  banner_told is due false h line =
+      none_told up raises words told (r ∷ told) answers lfs resets 0 0 looked
+      (let n = none_banner told h in let f = banners_first r told in let g = ap (λ x. cond {A = ℕ} x 1 0) is in omega arith)
+      (ap (λ x. cond (is_banner r && x) 0 (cond (is_answer r) 1 0 + answers_behind_mark told)) h ∙ first)
+      (λ e. inl refl) p
+    where
+      first : cond (is_banner r && false) 0 (cond (is_answer r) 1 0 + answers_behind_mark told) ≡ answers_behind_mark told
+      first = let a = ap (λ x. cond {A = ℕ} (x && false) 0 (cond (is_answer r) 1 0 + answers_behind_mark told)) is in let n = ap (λ x. cond {A = ℕ} x 1 0) (no_answer r is) in omega arith
+
+  line_told : (answers < lfs) × (looked ≡ true) → Then false true
+  line_told due = none_up up raises words told (r ∷ told) answers lfs resets (cond false 0 (cond true 1 0 + answers)) (cond false 0 lfs) looked (down_by up (λ e. never (p.before e))) p
+    where
+      never : (answers ≡ lfs) ⊎ (looked ≡ false) → ⊥
+      never (inl e) = let d = due.0 in absurd (omega arith)
+      never (inr e) = absurd (let f = sym due.1 ∙ e in cc)
+
+  other_told : is_banner r ≡ false → is_answer r ≡ false → Then false false
+  other_told banner line =
+      none_told up raises words told (r ∷ told) answers lfs resets (cond false 0 (cond false 1 0 + answers)) (cond false 0 lfs) looked
+      (let f = banners_first r told in let g = ap (λ x. cond {A = ℕ} x 1 0) banner in omega arith)
+      (let a = ap (λ x. cond {A = ℕ} (x && has_banner told) 0 (cond (is_answer r) 1 0 + answers_behind_mark told)) banner in let n = ap (λ x. cond {A = ℕ} x 1 0) line in omega arith)
+      (λ e. still (p.before e)) p
+    where
+      still : (answers ≡ lfs) ⊎ (looked ≡ false) → (0 + answers ≡ lfs) ⊎ (looked ≡ false)
+      still (inl e) = inl (omega arith)
+      still (inr e) = inr e
+
+  by_tests : (banner line : Bool) → is_banner r ≡ banner → is_answer r ≡ line → (line ≡ true → (answers < lfs) × (looked ≡ true)) → (banner ≡ true → banners_in told ≤ resets) → Then banner line
+  by_tests true line b l due greets = banner_told b (greets refl) (has_banner told) refl line
+  by_tests false true b l due greets = line_told (due refl)
+  by_tests false false b l due greets = other_told b l
+
+  pub asks_answered : (is_answer r ≡ true → (answers < lfs) × (looked ≡ true)) → (is_banner r ≡ true → banners_in told ≤ resets) → Then (is_banner r) (is_answer r)
+  asks_answered due greets = by_tests (is_banner r) (is_answer r) refl refl due greets

@@ -1,24 +1,26 @@
--- On one thread each line has at most as many reports as it has `?`.
-use Rattle.std.proofs.Common.{◌≤◌, ap, arith}
+-- On one thread, in each epoch, each line has at most as many reports as it has `?`.
+use Rattle.std.proofs.Common.{reverse, ap, arith}
 use Rattle.run_rules.specs.declared.State.{State}
 use Rattle.run_rules.specs.Lines.{lines_of}
-use Rattle.stream_host.specs.Steps.{Journal, port_log, got_of, scanned_of}
-use Rattle.stream_host.specs.Links.{banners_in}
+use Rattle.stream_host.specs.Steps.{Journal, port_log, latest_got, got_of, scanned_of}
 use Rattle.stream_host.specs.Conduct.{Conducted}
-use Rattle.board_rules.specs.Breaking.{Doings, IsConducted, log_of}
+use Rattle.board_epochs.specs.Epochs.{Epochs, AreEpochs, log_of}
 use Rattle.pulse_engine.specs.Logs.{PieceLog}
 use Rattle.list_ports.specs.Joining.{Listed, Joined}
-use Rattle.list_ports.specs.PerLine.{ReportsPerLine}
-use Rattle.list_ports.proofs.BoardAsks.{reports_in, boards_look_first, boards_tell_few, front_fewer}
+use Rattle.list_ports.specs.PerLine.{ReportsPerLine, reports_at}
+use Rattle.list_ports.proofs.Marking.{answered_is, latest_back}
+use Rattle.list_ports.proofs.BoardAsks.{boards_keep, front_fewer}
 use Rattle.list_ports.proofs.HostAsks.{asks_between, raised_in_lines}
 
-pub reports_per_line : (lists : Listed) (host : Journal) (first : State) (board : Doings) (pulse : PieceLog) → Joined lists (port_log host) (log_of board) pulse → Conducted host → banners_in (got_of host) ≤ 1 → IsConducted first board
+pub reports_per_line : (lists : Listed) (host : Journal) (first : State) (board : Epochs) (pulse : PieceLog) → Joined lists (port_log host) (log_of board) pulse → Conducted host → AreEpochs first board
     → ReportsPerLine (lines_of (scanned_of host)) (got_of host)
-reports_per_line lists host first board pulse joined host_kept one board_kept k =
-    let pass = joined.asks (asks_between host host_kept one) (boards_look_first first board board_kept) in
-    let front = front_fewer k (got_of host) lists.replies in
-    let same = ap (reports_in k) joined.replies.fifo in
-    let told = boards_tell_few first board board_kept k in
-    let taken = pass.each k in
-    let raised = raised_in_lines host host_kept one k in
+reports_per_line lists host first board pulse joined host_kept board_kept e k =
+    let keeps = boards_keep first board board_kept in
+    let pass = joined.asks (asks_between host host_kept) keeps.looks in
+    let taken = pass.each e k in
+    let told = keeps.few e k in
+    let same = ap (reports_at e k) (answered_is lists.replies (port_log host) (log_of board) joined.replies) in
+    let front = front_fewer e k (reverse lists.replies) (latest_got (port_log host)) in
+    let got = ap (reports_at e k) (latest_back (port_log host)) in
+    let raised = raised_in_lines host host_kept e k in
     omega arith

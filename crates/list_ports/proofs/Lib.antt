@@ -6,6 +6,7 @@ pub mod Pieces
 pub mod Raising
 pub mod Steps
 pub mod Asks
+pub mod Quiet
 pub mod HostAsks
 pub mod BoardAsks
 pub mod Counting

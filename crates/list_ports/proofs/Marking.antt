@@ -55,13 +55,13 @@ cut (Answered x ∷ l) (y ∷ rest) replies e = behind_one (Answered x) l replie
 one_greeting : (r : Reply) (m : Mark) (greeted : List Mark) → length (cond (is_banner r) (m ∷ greeted) greeted) ≡ cond (is_banner r) 1 0 + length greeted
 one_greeting r m greeted = by_bool (is_banner r) (λ b. rw b (omega arith)) (λ b. rw b (omega arith))
 
-greeted_count : (l : List LinkStep) → length (greeted_in l) ≡ banners_in (link.answered_in l)
+pub greeted_count : (l : List LinkStep) → length (greeted_in l) ≡ banners_in (link.answered_in l)
 greeted_count [] = refl
 greeted_count (Took b ∷ l) = greeted_count l
 greeted_count (Marked n bytes ∷ l) = greeted_count l
 greeted_count (Answered r ∷ l) = let i = greeted_count l in let f = banners_first r (link.answered_in l) in let o = one_greeting r (next_mark l) (greeted_in l) in omega arith
 
-same_banners : (rs : List Reply) → banners_in (reverse rs) ≡ banners_in rs
+pub same_banners : (rs : List Reply) → banners_in (reverse rs) ≡ banners_in rs
 same_banners rs = sum_by-IsPermutation (λ (r : Reply). cond (is_banner r) 1 0) rs (reverse rs) (IsPermutation-reverse rs)
 
 -- the next of some marks, of which the others come later
@@ -72,7 +72,7 @@ next_greeted (suc k) marks at_banners (m ∷ greeted) few stored are = next_gree
 
 -- ---- bytes behind a mark, in the order in which they were stored
 
-drop_on : (n : ℕ) (bytes more : List ℕ) → n ≤ length bytes → drop n (bytes ++ more) ≡ drop n bytes ++ more
+pub drop_on : (n : ℕ) (bytes more : List ℕ) → n ≤ length bytes → drop n (bytes ++ more) ≡ drop n bytes ++ more
 drop_on zero bytes more le = refl
 drop_on (suc n) [] more le = absurd (let z : suc n ≤ 0 = le in omega arith)
 drop_on (suc n) (y ∷ bytes) more le = drop_on n bytes more (omega arith)
@@ -88,16 +88,16 @@ since_by false n b bytes e same =
     let l = length-append (reverse bytes) (b ∷ []) in
     sym (drop_all n (reverse bytes ++ b ∷ []) (omega arith))
 
-since_drops : (n : ℕ) (bytes : List ℕ) → reverse (since n bytes) ≡ drop n (reverse bytes)
+pub since_drops : (n : ℕ) (bytes : List ℕ) → reverse (since n bytes) ≡ drop n (reverse bytes)
 since_drops n [] = sym (drop_all n [] (omega arith))
 since_drops n (b ∷ bytes) = since_by (nat_le n (length bytes)) n b bytes refl (λ le. since_drops n bytes) ∙ ap (drop n) (sym (reverse_on b bytes))
 
-same_lines : (bytes : List ℕ) → lfs_in (reverse bytes) ≡ lfs_in bytes
+pub same_lines : (bytes : List ℕ) → lfs_in (reverse bytes) ≡ lfs_in bytes
 same_lines bytes = sum_by-IsPermutation (λ (b : ℕ). cond (nat_eq b 10) 1 0) bytes (reverse bytes) (IsPermutation-reverse bytes)
 
 -- ---- what the host knows
 
-latest_back : (h : HostLog) → latest_got h ≡ reverse (got_in h)
+pub latest_back : (h : HostLog) → latest_got h ≡ reverse (got_in h)
 latest_back [] = refl
 latest_back (got r ∷ h) = ap (λ (z : List Reply). r ∷ z) (latest_back h) ∙ sym (reverse-append (got_in h) (r ∷ []))
 latest_back (_ ∷ h) = latest_back h

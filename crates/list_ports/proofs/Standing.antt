@@ -1,5 +1,5 @@
 -- What calls of a board and of a pulse leave of lists that are said in few words.
-use Rattle.std.proofs.Common.{◌≡◌, ℕ, ◌+◌, ◌^◌, ◌<◌, ◌≤◌, false, List, [], ◌∷◌, length, Some, None, IfSome, IfNone, OnSome, inr, refl, arith}
+use Rattle.std.proofs.Common.{ℕ, ◌+◌, ◌^◌, ◌<◌, [], ◌∷◌, Some, None, IfSome, IfNone, OnSome, inr, refl, arith}
 use Rattle.std.specs.declared.option.Option.{Option}
 use Rattle.step_line.specs.declared.Piece.{Piece}
 use Rattle.step_line.specs.declared.Piece.TheVariants as pieces

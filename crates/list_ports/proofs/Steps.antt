@@ -21,17 +21,17 @@ use Rattle.pulse_engine.specs.Logs.PieceEvent.{asked as stop_asked, ticked, halt
 use Rattle.pulse_engine.specs.Logs.PieceEvent.{got as piece_came}
 use Rattle.status_report.specs.declared.Reply.{Reply}
 use Rattle.status_report.specs.declared.Reply.TheVariants as replies
-use Rattle.status_report.specs.Answering.{receive_room, answers_in, lfs_in}
+use Rattle.status_report.specs.Answering.{receive_room}
 use Rattle.stream_host.specs.Ports.{TakesByte, TakesRaise, SeemsFull, AnswersLines, PortsAgree}
 use Rattle.code_table.specs.Tables.{query}
 use Rattle.stream_host.specs.Links.{banners_in}
-use Rattle.stream_host.specs.Steps.{stored_in, stored_at_banners, got_in, marks_in, marks_at_banners, is_shut_in}
+use Rattle.stream_host.specs.Steps.{stored_in, stored_at_banners, got_in, latest_got, marks_in, marks_at_banners, is_shut_in}
 use Rattle.serial_ring.specs.Logs as link
-use Rattle.serial_ring.specs.Logs.{greeted_in, taken_at_banners}
+use Rattle.serial_ring.specs.Logs.{greeted_in, taken_at_banners, answers_since, lfs_since}
 use Rattle.board_rules.proofs.LinkSteps.{taken_back, same_taken}
 use Rattle.stream_host.specs.Steps.{HostLog}
 use Rattle.stream_host.specs.Steps.PortStep.{stored, dropped, marked, raised, got}
-use Rattle.list_ports.specs.Asked.{AsksBetween, LooksFirst, AsksPass, report_is_up, raised_behind, words_behind, has_looked}
+use Rattle.list_ports.specs.Asked.{AsksBetween, LooksFirst, AsksPass, report_is_up, raised_behind, words_behind, told_by, resets_taken, has_looked}
 use Rattle.pulse_engine.proofs.Whole.{all_since}
 use Rattle.list_ports.specs.Joining.{Listed, FlagsPass, MarksPass, RepliesPass, IsGoing, Joined, with_flag, numbers_of, one_if_some}
 use Rattle.stream_host.specs.Raises.{raised_to, raises_in}
@@ -41,6 +41,7 @@ use Rattle.list_ports.proofs.Links as links
 use Rattle.list_ports.proofs.Marking as marks
 use Rattle.list_ports.proofs.Moments as moments
 use Rattle.list_ports.proofs.Pieces as pieces
+use Rattle.list_ports.proofs.Quiet as quiet
 use Rattle.list_ports.proofs.Raising as words
 
 module _ (l : Listed) (host : HostLog) (board : BoardLog) (pulse : PieceLog) (j : Joined l host board pulse) where
@@ -114,12 +115,12 @@ module _ (l : Listed) (host : HostLog) (board : BoardLog) (pulse : PieceLog) (j 
   raises_of_byte b o found_down exec override is p = let Q : Option Flag → Type 0 = λ f. FlagsPass exec override (raised_to f found_down (raises_in host)) (takes_in board) in subst Q (sym is) p
 
   raised_asks : (b : ℕ) (found_down up : Bool) → (up ≡ true → (report_is_up l.exec ≡ true) ⊎ ((nat_eq b query ≡ true) × (found_down ≡ true))) → AsksBetween (raised b found_down ∷ host) → LooksFirst board
-      → AsksPass up (λ k. raised_behind k (raised b found_down ∷ host)) (λ k. words_behind k board) (answers_in (answered_in board)) (lfs_in (taken_in board)) (has_looked board)
+      → AsksPass up (λ e k. raised_behind e k (raised b found_down ∷ host)) (λ e k. words_behind e k board) (told_by board) (answers_since (link_steps board)) (lfs_since (link_steps board)) (resets_taken board) (has_looked board)
   raised_asks b found_down up how between looks =
-      reports.asks_raised (report_is_up l.exec) up found_down (nat_eq b query) (λ k. raised_behind k host) (λ k. words_behind k board)
-      (answers_in (got_in host)) (answers_in (answered_in board)) (lfs_in (taken_in board)) (has_looked board) how
-      (λ t. reports.quiet_lists l.bytes (stored_in host) (taken_in board) l.closed (is_shut_in host) (has_closed_in board) l.replies (answered_in board) (got_in host) j.bytes j.replies
-      (between.0 (grind (arith, nat_tests, t)))) (j.asks between.1 looks)
+      reports.asks_raised (report_is_up l.exec) up found_down (nat_eq b query) (λ e k. raised_behind e k host) (λ e k. words_behind e k board)
+      (latest_got host) (told_by board) (answers_since (link_steps board)) (lfs_since (link_steps board)) (resets_taken board) (has_looked board) how
+      (λ t. quiet.all_answered l.bytes l.replies l.stored l.mark host board j.bytes.fifo j.replies j.marks (between.0 (grind (arith, nat_tests, t)))
+      (quiet.resets_few (l.exec ∷ l.override ∷ []) host board j.flags.balance)) (j.asks between.1 looks)
 
   pub flag_raised : (b : ℕ) (f : Flag) → flag_of_byte b ≡ Some f → IsNamed f → TakesRaise b host → (found_down : Bool) × Joined (with_flag f l) (raised b found_down ∷ host) board pulse
   flag_raised b (flags.Exec place) is named may = (
@@ -170,7 +171,7 @@ module _ (l : Listed) (host : HostLog) (board : BoardLog) (pulse : PieceLog) (j 
     flags = j.flags;
     pieces = j.pieces;
     stops = j.stops;
-    asks = λ between looks. reports.asks_answered _ _ _ (answered_in board) (replies.Report r) _ _ (λ e. absurd cc) (j.asks between looks);
+    asks = λ between looks. reports.asks_answered _ _ _ (told_by board) (replies.Report r) _ _ _ _ (j.asks between looks) (λ e. absurd cc) (λ e. absurd cc);
   }
   reply_answered r may = record {
     bytes = j.bytes;
@@ -180,7 +181,7 @@ module _ (l : Listed) (host : HostLog) (board : BoardLog) (pulse : PieceLog) (j 
     flags = j.flags;
     pieces = j.pieces;
     stops = j.stops;
-    asks = λ between looks. reports.asks_answered _ _ _ (answered_in board) r _ _ (λ e. (marks.may_line board r j.marks.well may e, looks.0 e)) (j.asks between looks.1);
+    asks = λ between looks. reports.asks_answered _ _ _ (told_by board) r _ _ _ _ (j.asks between looks.1) (λ e. (may.line e, looks.0.line e)) looks.0.banner;
   }
 
   pub piece_published : (p : Piece) → MayPublish board p → length l.pieces + one_if_some l.left < most_unfinished → Joined (record l { pieces = l.pieces ++ p ∷ [] }) host (published p ∷ board) pulse

@@ -27,11 +27,11 @@ use Rattle.pulse_engine.specs.Logs.{PieceLog, pieces_of, got_since, counted, unc
 use Rattle.serial_ring.specs.declared.view.LinkStep.{LinkStep}
 use Rattle.serial_ring.specs.Marks.{Mark, AreMarks, AreRising, latest}
 use Rattle.serial_ring.specs.Lists.{AreAtMost}
-use Rattle.serial_ring.specs.Logs.{marked_in, greeted_in, taken_at_banners, AnswersWell}
+use Rattle.serial_ring.specs.Logs.{marked_in, greeted_in, taken_at_banners, answers_since, lfs_since, AnswersWell}
 use Rattle.stream_host.specs.Links.{banners_in, AreGreetings}
 use Rattle.stream_host.specs.Steps.{stored_in, stored_at_banners, got_in, marks_in, marks_at_banners, is_shut_in}
 use Rattle.stream_host.specs.Steps.{HostLog}
-use Rattle.list_ports.specs.Asked.{AsksBetween, LooksFirst, AsksPass, report_is_up, raised_behind, words_behind, has_looked}
+use Rattle.list_ports.specs.Asked.{AsksBetween, LooksFirst, AsksPass, report_is_up, raised_behind, words_behind, told_by, resets_taken, has_looked}
 
 -- what the lists hold: bytes and replies on their way, whether the link is closed, how many bytes were stored, and the last mark;
 -- the two words of flags; pieces on their way, how many ticks of the piece that was got last are left, and how many ticks are
@@ -142,8 +142,8 @@ pub record PiecesPass (waiting : List Piece) (left done : ℕ) (stop : Bool) (se
   pub phase : IsGoing waiting left done stop sent since_halt halts ⊎ HasHalted waiting left done stop sent since_halt halts
 
 -- The lists between the three: each passes on what its two sides have done. A stop that the pulse has seen waits. Where the host asks
--- for reports only between lines, and the board takes its requests behind each line before it answers, each report that is asked for
--- is asked for in its line.
+-- for reports only between lines, and the board takes its requests behind each line before it answers, and a reset before its Banner, each
+-- report that is asked for is asked for in its epoch, and in its line.
 pub record Joined (l : Listed) (host : HostLog) (board : BoardLog) (pulse : PieceLog) : Type 0 where
   pub bytes : BytesPass l.bytes l.closed (stored_in host) (is_shut_in host) (taken_in board) (has_closed_in board)
   pub replies : RepliesPass l.replies (answered_in board) (got_in host) (taken_in board)
@@ -152,4 +152,5 @@ pub record Joined (l : Listed) (host : HostLog) (board : BoardLog) (pulse : Piec
   pub flags : FlagsPass l.exec l.override (raises_in host) (takes_in board)
   pub pieces : PiecesPass l.pieces l.left l.done l.stop (sent_in board) (known_in board) (pieces_of pulse) (got_since pulse) (counted pulse) (uncounted pulse) (halts_of pulse)
   pub stops : saw_stop pulse ≡ true → l.stop ≡ true
-  pub asks : AsksBetween host → LooksFirst board → AsksPass (report_is_up l.exec) (λ k. raised_behind k host) (λ k. words_behind k board) (answers_in (answered_in board)) (lfs_in (taken_in board)) (has_looked board)
+  pub asks : AsksBetween host → LooksFirst board → AsksPass (report_is_up l.exec) (λ e k. raised_behind e k host) (λ e k. words_behind e k board) (told_by board)
+      (answers_since (link_steps board)) (lfs_since (link_steps board)) (resets_taken board) (has_looked board)
