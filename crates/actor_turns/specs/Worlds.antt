@@ -44,7 +44,7 @@ use Rattle.outside.specs.Writing.{Wrote}
 use Rattle.status_report.specs.declared.Reply.{Reply}
 use Rattle.stream_host.specs.declared.Reading.{Reading}
 use Rattle.stream_host.specs.declared.Stop.{Stop}
-use Rattle.run_law.specs.Sending.{IsSentSoFar}
+use Rattle.stream_host.specs.Jobs.{IsSentSoFar}
 
 -- what callers see of a world
 pub record Seen : Type 0 where

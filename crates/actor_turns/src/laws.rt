@@ -35,9 +35,9 @@ pub fn worlds_run()
     actors_that_end_make_a_run();
 }
 
-/// On one thread each line of a job has at most as many reports as it has `?` outside comments, so that a line without has
-/// none: by the bytes that the host has scanned so far and the replies that it has got, which are those of the job and of the
-/// console.
+/// On one thread, in each epoch, each line of a job has at most as many reports as it has `?` there outside comments, so that a
+/// line without has none, and none is kept over a Banner: by the bytes that the host has scanned so far and the replies that it
+/// has got, which are those of the job and of the console.
 pub fn worlds_count_reports()
     ensures each { (w : Seen) (hist : History) → Holds w hist → ReportsPerLine (lines_of (scanned_of hist.host)) (got_of hist.host) }
     ensures told { (form : Form) (was now : Devices) (w : Seen) (hist : History) → Stands form was now w hist → CountsReports was now }
