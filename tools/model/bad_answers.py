@@ -2,8 +2,8 @@
 it must refuse, and steps that it must refuse since the machine stood between two moves."""
 from typing import NamedTuple
 
-from model.bad_resets import pieces_of
-from model.machine import run_of
+from model.bad_resets import pieces_of, script_of
+from model.epochs import run_of
 from model.motion import Wrong, heads_of
 
 
@@ -66,9 +66,9 @@ def is_allowed(job, errors):
 
 def has_steps_of(job, other):
     """Whether the steps of another job may be those of a job."""
-    pieces = pieces_of(run_of(other, 10**6, "")[1].script)
+    pieces = pieces_of(script_of(other))
     try:
-        heads_of(run_of(job, 10**6, "")[1].script, "\n".join([*sum(pieces, []), "E", ""]))
+        heads_of(script_of(job), "\n".join([*sum(pieces, []), "E", ""]))
     except Wrong:
         return False
     return True

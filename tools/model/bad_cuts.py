@@ -2,7 +2,8 @@
 from typing import NamedTuple
 
 from model.bad_reports import told
-from model.machine import Run, run_of
+from model.epochs import run_of
+from model.machine import Run
 from model.reports import part
 from model.trying import what_is_wrong
 

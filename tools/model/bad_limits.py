@@ -4,13 +4,14 @@ from typing import NamedTuple
 
 from model.bad_reports import told
 from model.bad_resets import instead, less, more, segment_of
-from model.machine import ALARM, Run, run_of
+from model.epochs import run_of
+from model.machine import ALARM, Run
 from model.motion import END, Stretch, event_lines
 from model.reports import part
 from model.trying import what_is_wrong
 
 STOPPED = "stopped: soft limit at line {}\n"
-RESET_SAID, TOO_LONG = "stopped: reset\n", "fault: line 5 is longer than 127 bytes\n"
+TOO_LONG = "fault: line 5 is longer than 127 bytes\n"
 
 
 def slow_segment_of(stretch):
@@ -52,8 +53,8 @@ class Left(NamedTuple):
         """What is said of that run of a job."""
         lines = ["ok" if it == 0 else it if isinstance(it, str) else f"error:{it}" for it in self.told]
         console, reports = part("\r\n".join(["", "Grbl 1.1h ['$' for help]", *lines, ""]))
-        _, machine = run_of(job, 10**6, console)
-        steps = self.steps_are(steps_of(machine.script, self.planned, self.is_slow))
+        _, epochs = run_of(job, 10**6, console)
+        steps = self.steps_are(steps_of(epochs[0].machine.script, self.planned, self.is_slow))
         answers = [line for line in console.split("\r\n") if line == "ok" or line.startswith("error:")]
         said = self.said or (STOPPED.format(len(answers) + 1) if self.status == 8 else "")
         wrong, _ = what_is_wrong(Run(self.status, console, steps, said, reports), *run_of(job, 10**6, console, steps, self.status))
@@ -84,7 +85,7 @@ MARKED = b"$20=1\nF500\nG1X-0.1\nG4P0\nX-0.2\nX0.004\nX-1\n"
 # Three moves with corners.
 CORNERS = b"$20=1\nF500\nG1X-0.02\nY-0.02\nX-0.04Y-0.04\nM3S5X0.0001"
 MOVING = b"$20=1\nF500\nG1X-0.4\n?? X1\n?\n"
-RESET, LONG = b"$20=1\nF500\nG1X-0.1\nX1\n", b"N" + b"0" * 127
+BEYOND, LONG = b"$20=1\nF500\nG1X-0.1\nX1\n", b"N" + b"0" * 127
 FAR = b"\n" * 125  # as many lines as have room on the link beside the one that is limited
 # The segments behind the first five of the second move, where the machine slows down from there on.
 SLOW = [f"s 5 1 {w} {cycles}\nX-\n" for w, cycles in (
@@ -172,23 +173,25 @@ CASES = (
         ("and 0 reports", Left([0, 0, 0] + LIMIT, 5)),
         ("and 3 reports", Left([0, 0, 0, *[told("M 0 0 0")] * 3] + LIMIT, 5)),
     ]),
-    # A reset, or a line that is too long, behind it may be scanned before the alarm, where there is room on the link, and
-    # nothing waits for an answer.
-    Case(RESET + b"\x18", [Left([0, 0, 0] + LIMIT, 5), Left([0, 0, 0] + LIMIT, 5, status=7, said=RESET_SAID),
-                          Left([0, 0, 0], 5, False, status=7, said=RESET_SAID),
-                          Left([0, 0, 0] + LIMIT[:1], 5, status=7, said=RESET_SAID)], [
+    # A reset behind it is dropped, if it is scanned before the alarm. A line that is too long may be found there, where there is room
+    # on the link, and nothing waits for an answer.
+    Case(BEYOND + b"\x18\nX0", [Left([0, 0, 0] + LIMIT, 5)], [
         ("from 320000 to 0", Left([0, 0, 0] + LIMIT, 5, False)),
-        ("no front", Left([0, 0, 0, 0], 5, status=7, said=RESET_SAID)),
         ("console", Left([0, 0, 0] + LIMIT[:1], 5)),
+        ("console", Left([0, 0, 0] + LIMIT + [0], 5)),
+        ("it ended with 0", Left([0, 0, 0] + LIMIT, 5, status=0)),
+        ("1 resets, and by the model 0", Left([0, 0, 0] + LIMIT, 5, steps_are=before_end("Z 4\n"))),
     ]),
-    Case(RESET + b"\x85\x18", [Left([0, 0, 0] + LIMIT, 5)], [
-        ("standard error", Left([0, 0, 0] + LIMIT, 5, status=7, said=RESET_SAID))]),
-    Case(RESET + b"?\n\x18", [Left([0, 0, 0] + LIMIT, 5)], [
-        ("standard error", Left([0, 0, 0] + LIMIT, 5, status=7, said=RESET_SAID))]),
-    Case(RESET + FAR + b"\x18", [Left([0, 0, 0] + LIMIT, 5, status=7, said=RESET_SAID)], []),
-    Case(RESET + FAR + b"\n\x18", [Left([0, 0, 0] + LIMIT, 5)], [
-        ("standard error", Left([0, 0, 0] + LIMIT, 5, status=7, said=RESET_SAID))]),
-    Case(RESET + LONG, [Left([0, 0, 0] + LIMIT, 5), Left([0, 0, 0] + LIMIT, 5, status=6, said=TOO_LONG)], [
+    Case(BEYOND + b"\x18" + LONG, [Left([0, 0, 0] + LIMIT, 5)], [
+        ("standard error", Left([0, 0, 0] + LIMIT, 5, status=6, said=TOO_LONG))]),
+    Case(BEYOND + b"\x85" + LONG, [Left([0, 0, 0] + LIMIT, 5)], [
+        ("standard error", Left([0, 0, 0] + LIMIT, 5, status=6, said=TOO_LONG))]),
+    Case(BEYOND + b"?\n" + LONG, [Left([0, 0, 0] + LIMIT, 5)], [
+        ("standard error", Left([0, 0, 0] + LIMIT, 5, status=6, said=TOO_LONG.replace("5", "6")))]),
+    Case(BEYOND + FAR + LONG, [Left([0, 0, 0] + LIMIT, 5, status=6, said=TOO_LONG.replace("5", "130"))], []),
+    Case(BEYOND + FAR + b"\n" + LONG, [Left([0, 0, 0] + LIMIT, 5)], [
+        ("standard error", Left([0, 0, 0] + LIMIT, 5, status=6, said=TOO_LONG.replace("5", "131")))]),
+    Case(BEYOND + LONG, [Left([0, 0, 0] + LIMIT, 5), Left([0, 0, 0] + LIMIT, 5, status=6, said=TOO_LONG)], [
         ("console", Left([0, 0, 0], 5, status=6, said=TOO_LONG)),
         ("from 320000 to 0", Left([0, 0, 0] + LIMIT, 5, False, status=6, said=TOO_LONG)),
     ]),

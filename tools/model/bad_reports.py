@@ -1,7 +1,7 @@
 """Tries the auditor of reports itself: on reports that it must refuse, each for its cause, and some that it must allow."""
 from typing import NamedTuple
 
-from model.machine import run_of
+from model.epochs import run_of
 from model.motion import event_lines
 from model.reports import Way, fault_in, part
 
@@ -143,11 +143,11 @@ def console_with(console, reports):
 
 def fault_of(job, reports):
     """What the auditor says of a job with these reports."""
-    run, machine = run_of(job, 10**6, "")
+    run, [epoch] = run_of(job, 10**6, "")
     rest, parted = part(console_with(run.console, reports))
-    if rest != run.console or parted != reports:
+    if rest != run.console or parted != [(1, *report) for report in reports]:
         return "the reports are not parted from the rest"
-    return fault_in(parted, machine.course, Way(steps_of(machine.script)))
+    return fault_in(reports, epoch.machine.course, Way(steps_of(epoch.machine.script)))
 
 
 def wrong_audit():

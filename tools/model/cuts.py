@@ -30,11 +30,11 @@ class Cut(NamedTuple):
         return f"X {self.number}"
 
 
-def cuts_of(steps):
-    """The cuts of a step text, in order."""
+def cuts_of(steps, place=(0, 0, 0)):
+    """The cuts of a step text that begins at a place, in order."""
     if "X " not in steps:
         return []
-    here, ticks, cuts = [0] * 3, 0, []
+    here, ticks, cuts = list(place), 0, []
     for line in steps.split("\n"):
         cut = CUT.fullmatch(line)
         if cut:

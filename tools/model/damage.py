@@ -1,9 +1,9 @@
 """Damaged jobs: random jobs with any bytes in any place, and floods."""
 from model.jobs import some_job
-from model.machine import LARGEST_JOB
+from model.epochs import LARGEST_JOB
 
 FLOODS = b"?!~\x18\x85X\x00\r (;)$0\xff\x7fG\n"  # each a job of 16 MB, or less; and then any other byte
-FEWER = {b"\n": 500_000, b"?": 1_000_000}  # since each is a line, or may have a report
+FEWER = {b"\n": 500_000, b"?": 1_000_000, b"\x18": 20_000}  # since each is a line, may have a report, or begins an epoch
 REALTIME = b"?!~\x85\x90\x91\x92\x93\x94\x95\x96\x97\x98\x99\x9a\x9b\x9c\x9d\x9e"
 PIECES = (b"?", b"!", b"~", b"\x18", b"\x85", b"\0", b"\r", b" ", b"\t", b"(", b";", b")", b"$", b"/", b"\n", b"0", b"X",
           b"\r\n", b"G0X0.01\n", b"\n\r", b"\xc3\xa9", b"\xe2\x88\x92", b"\xef\xbb\xbf", b"\xf0\x9f\x94\xa9", b"\xff", b"\x7f",

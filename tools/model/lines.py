@@ -6,7 +6,7 @@ WHOLE = 1_000_000  # a value is kept in millionths
 AXES = "XYZ"
 LONGEST = 79  # so many kept characters at most
 LONGEST_SENT = 127  # so many kept characters of a line at most are sent
-RESET, TOO_LONG = "\x18", "too long"  # what ends the sending in a line
+RESET = "\x18"
 
 GROUPS = {
     "not modal": "G4 G10 G28 G28.1 G30 G30.1 G53 G92 G92.1",
@@ -84,18 +84,21 @@ def at_once(line):
 
 
 def scan(line):
-    """What is scanned of a line, and what ends the sending in it: that it is too long to be sent, a reset, or None."""
+    """The parts of a line that its resets part, the last one with what is behind them; and whether that is too long to be sent: then
+    it is what is scanned of it."""
     if len(line) <= LONGEST_SENT and RESET not in line:
-        return line, None
-    kept, at = 0, 0
+        return [line], False
+    parts, kept, begins, at = [], 0, 0, 0
     for gap in DROPPED.finditer(line):
         kept += gap.start() - at
         if kept > LONGEST_SENT:
-            return line[: gap.start()], TOO_LONG
+            return [*parts, line[begins : gap.start()]], True
         at = gap.end()
-        if gap[0][0] not in "(;" and RESET in gap[0]:
-            return line[: gap.start() + gap[0].index(RESET) + 1], RESET
-    return line, TOO_LONG if kept + len(line) - at > LONGEST_SENT else None
+        resets = [] if gap[0][0] in "(;" else [gap.start() + place for place, byte in enumerate(gap[0]) if byte == RESET]
+        for reset in resets:
+            parts.append(line[begins:reset])
+            begins, kept = reset + 1, 0
+    return [*parts, line[begins:]], kept + len(line) - at > LONGEST_SENT
 
 
 def read_number(text, at):

@@ -1,15 +1,12 @@
 """What the lines of a job do: answers and what is told, modes, offsets and settings, marks and moves."""
 from dataclasses import dataclass
+from typing import NamedTuple
 
-from model.cuts import cuts_of
-from model.lines import (AXES, LONGEST, LONGEST_SENT, RESET, SYSTEMS, TOO_LONG, WHOLE, Line, Refused, cut, has_cancel, has_hand,
-                         kept_of, read_number, scan)
+from model.lines import AXES, LONGEST, SYSTEMS, WHOLE, Line, Refused, cut, has_cancel, has_hand, kept_of, read_number
 from model.motion import Limits, Script, nearest, to_nm, to_steps
 from model.reports import NOTHING, Course, Left, Work
 
 FARTHEST = 10_000 * 10**6  # in nm
-LARGEST_JOB = 16_777_216  # bytes
-LARGEST_READ = 4_096  # bytes
 OFFSETS = (*SYSTEMS, "G28", "G30", "G92")
 
 # Default, least and greatest value of each setting, in thousandths; 10 and 20 are whole numbers.
@@ -25,6 +22,9 @@ SETTINGS = {
 WHOLE_SETTINGS = (10, 20)
 SWITCH = 20  # a whole setting that is off or on
 ALARM = ("ALARM:2", "[MSG:Reset to continue]")
+BANNER = ("", "Grbl 1.1h ['$' for help]")
+LOST = "ALARM:3"  # a reset has stopped a machine that may have moved
+LOCKED = "[MSG:'$H'|'$X' to unlock]"
 
 
 class Limited(Exception):
@@ -54,40 +54,20 @@ class Run:
     reports: list
 
 
-def ends_of(job, number, ending):
-    """What ends the sending of a job, in order: what stands in the line of a number, and how large it is; each with its status."""
-    ends = [(6, f"fault: line {number} is longer than {LONGEST_SENT} bytes\n")] if ending == TOO_LONG else []
-    ends += [(7, "stopped: reset\n")] if ending == RESET else []
-    return ends + ([(9, f"fault: the job is larger than {LARGEST_JOB} bytes\n")] if len(job) > LARGEST_JOB else [])
+class Kept(NamedTuple):
+    """What a reset keeps: the settings, the offsets but for that of G92, how many lines were refused, and for how many events there is
+    room; and whether it locks the machine."""
 
-
-def run_of(job, most_events, told, steps="", status=None):
-    """The run of a job, and its machine. Where a line may be refused since the machine still moves, it is so if the console
-    that was told says so; jogs are cut where the steps that were told say so; and what stands behind a line that a soft limit
-    stops ends the sending, where it may be scanned, if the status that was told says so. A job that moves more events than
-    these is left: `TooLong`. The steps are the machine's script, and what reports may tell follows from its course. Behind a
-    reset a run may be broken off: its console is a front of this one then, and its steps are one of the script."""
-    machine = Machine(most_events, told.split("\r\n"), cuts_of(steps))
-    lines = job[:LARGEST_JOB].decode("latin-1").split("\n")
-    rest = lines.pop() if len(job) > LARGEST_JOB or not lines[-1] else None
-    over = next((at for at, line in enumerate(lines) if scan(line)[1]), len(lines))
-    machine.answer_all(lines[:over])
-    unsent, ending = scan([*lines, rest or ""][over])
-    ends, scanned = ends_of(job, over + 1, ending), [*lines[:over], unsent]
-    if machine.script.is_halted:
-        scanned = [*lines[: machine.number], *machine.course.scan_on(scanned[machine.number :])]
-        is_whole = len(scanned) == over + 1 and scanned[-1] == unsent
-        is_near = sum(map(len, scanned)) + len(scanned) > LARGEST_JOB - LARGEST_READ
-        ends = [end for end in ends if end[0] == status and (is_near if status == 9 else is_whole)]
-    else:
-        machine.course.add_unsent(unsent)
-    machine.end(scanned, bool(ends) and ends[0][0] == 7)
-    status, errors = [*ends, machine.own_end()][0]
-    return Run(status, "\r\n".join(machine.console), "", errors, []), machine
+    settings: dict
+    offsets: dict
+    refused: int
+    room: int
+    is_locked: bool
 
 
 class Machine:
-    """Lines are answered in order; `console` has the lines of what is told, and the script what is asked of the motion."""
+    """Lines are answered in order, from a banner on; `console` has the lines of what is told, and the script what is asked of the
+    motion."""
 
     def __init__(self, most_events, told, cuts=()):
         self.modes = {"motion": "G0", "plane": "G17", "units": "G21", "distance": "G90", "system": "G54"}
@@ -96,12 +76,26 @@ class Machine:
         self.position, self.position_steps = [0] * 3, [0] * 3
         self.settings = {n: default for n, (default, _, _) in SETTINGS.items()}
         self.script, self.number, self.refused = Script(most_events), 0, 0
-        self.console, self.told = ["", "Grbl 1.1h ['$' for help]"], told
+        self.console, self.told, self.is_locked = [*BANNER], told, False
         self.cuts, self.has_jogged = list(cuts), False  # the cuts that are to come
         self.was_cut = False  # the next line is begun behind a cut, or where jogs are done
         self.under_way = ""  # the machine may be found in this state: "Run" or "Jog", or in none, since all is done
+        self.has_moved = False  # a line has moved the machine, and none that settles is answered since
         self.left, self.work = self.leave(), NOTHING
         self.course = Course(self.left)
+
+    def keep(self):
+        """What a reset keeps, behind the last answered line."""
+        return Kept(dict(self.settings), {**self.offsets, "G92": [0] * 3}, self.refused, self.script.room, self.is_locked)
+
+    def open(self, kept, place, lines):
+        """The machine opens behind a reset, where it stands at a place, in steps. So many lines were sent before."""
+        self.settings, self.offsets, self.refused, self.is_locked = dict(kept.settings), kept.offsets, kept.refused, kept.is_locked
+        self.position_steps, self.number = list(place), lines
+        self.position = [to_nm(steps, self.settings[100 + axis]) for axis, steps in enumerate(place)]
+        self.console += [LOCKED] if self.is_locked else []
+        self.left = self.leave()
+        self.course = Course(self.left, lines)
 
     def answer_all(self, lines):
         """Answers lines, up to one that a soft limit stops."""
@@ -136,15 +130,32 @@ class Machine:
         else:
             self.console.append("ok")
         self.work = self.work._replace(stood=self.work.stood or self.was_cut)
+        self.has_moved = not self.work.settles and (self.has_moved or self.work.moves > 0)
         self.course.add(line, len(kept) + 1, self.left, self.script.ticks, self.work)
         self.was_cut = bool(self.cuts) and self.cuts[0].number == self.number and self.under_way == "Jog"
         if self.was_cut:
             self.cut_jogs(self.cuts.pop(0))
 
+    def begin(self, line):
+        """Begins a line that has no answer. Answers whether that may be."""
+        told, refused, has_moved = len(self.console), self.refused, self.has_moved
+        self.answer(line)
+        self.has_moved |= has_moved
+        self.refused = refused
+        del self.console[told:]
+        return not self.script.is_halted
+
+    def drop(self, line):
+        """A line that was sent is not begun."""
+        self.number += 1
+        self.course.add(line, len(kept_of(line)) + 1, self.left, self.script.ticks, NOTHING)
+
     def judge(self, kept):
         try:
             if len(kept) > LONGEST:
                 raise Refused(11)
+            if self.is_locked and (kept.startswith("$J") or not kept.startswith("$")):
+                raise Refused(8 if kept.startswith("$") else 9)
             if kept.startswith("$"):
                 self.do_system(kept)
             else:
@@ -162,7 +173,7 @@ class Machine:
         offset = zip(self.offsets[self.modes["system"]], self.offsets["G92"])
         return Left(self.settings[10] // 1000, tuple(self.settings[100 + axis] for axis in range(3)),
                     tuple(nearest(sum(both), 1000) for both in offset), 0 if self.spindle == "M5" else self.speed,
-                    self.under_way)
+                    self.under_way, self.is_locked)
 
     # ---- a machine that is found in motion
 
@@ -200,7 +211,10 @@ class Machine:
             self.jog(Line.read(kept[3:]))
         elif is_setting:
             self.set(kept)
-        elif kept != "$X":
+        elif kept == "$X":
+            self.console += ["[MSG:Caution: Unlocked]"] if self.is_locked else []
+            self.is_locked = False
+        else:
             raise Refused(3)
 
     def set(self, kept):

@@ -6,6 +6,7 @@ from model.cuts import is_cut
 from model.lines import AXES
 
 MOST_BLOCKS = 15  # moves in the plan
+MOST_DROPPED = 6  # segments behind the last one that is recorded: on their way, and one that has no room
 SLOWEST = 16  # µm/s
 END = "E"  # the last line of the steps
 
@@ -171,6 +172,11 @@ class Reading:
             raise Wrong(f"line {self.at} of the steps is no head")
         return [int(word) for word in words[1:]]
 
+    @property
+    def left(self):
+        """How many lines stand before the end."""
+        return len(self.lines) - self.at - 2
+
     def is_at(self, right, lines=0):
         """Whether a line stands so many lines ahead."""
         at = self.at + lines
@@ -197,6 +203,7 @@ class Stretch:
         self.caps = [soft_cap(a, b) for a, b in zip(moves, moves[1:])]
         self.tail, self.known, self.speed = 0, 0, 0
         self.broken = None  # where it is broken off: how many moves may have been known, and the speed that follows
+        self.is_moving = False  # it is broken off where the machine moves, as far as is known
 
     def exits(self):
         """The squared speed at which the tail may end, for each number of moves that may be known: the greatest that the
@@ -252,15 +259,22 @@ class Stretch:
         if (line, count, told) != (move.line, right, w):
             raise Wrong(f"line {at} of the steps is the head of line {line} with {count} events at {told}, and by the model of "
                         f"line {move.line} with {right} at {w}")
-        if self.is_reset and text.is_at_end(count) and not self.is_last(count):
+        events = event_lines(move.ways, move.prepared, count)
+        if self.is_broken_at(text, count):
             behind = self.break_off(at, count, cycles)
+            self.is_moving = text.left < count or all(end > 0 for _, end in self.broken)
+            events = events[: text.left]
         else:
             behind = self.find_end(at, count, 0 if self.is_last(count) else text.speed_ahead(count))
             if cycles != self.cycles(count, behind):
                 raise Wrong(f"the head at line {at} of the steps has {cycles} cycles for each event")
-        for event in event_lines(move.ways, move.prepared, count):
+        for event in events:
             text.expect(event)
         self.advance(count, behind)
+
+    def is_broken_at(self, text, count):
+        """Whether a reset breaks a segment of so many events off, or what is behind it."""
+        return self.is_reset and (text.left < count or (text.left == count and not self.is_last(count)))
 
     def find_end(self, at, count, behind):
         """Finds how many moves were known at a segment that ends at a squared speed, and answers that speed."""
@@ -282,12 +296,27 @@ class Stretch:
         return ((self.is_reset or self.is_halted) and text.is_at_end()) or text.is_at(self.cut)
 
     def speeds_behind(self):
-        """Where it is broken off: the squared speeds at which its last segment may end, and one that was given behind it and
+        """Where it is broken off: the squared speeds at which its last segment may end, and those that were given behind it and
         dropped, each as the least and the greatest."""
-        for known, end in self.broken:
-            self.known, self.speed = max(known, self.tail), end
-            yield end, end
-            yield from ((behind, behind) for _, behind in self.ends(self.count()))
+        ways = {(self.tail, self.moves[self.tail].prepared if self.tail < len(self.moves) else 0, max(known, self.tail), end)
+                for known, end in self.broken}
+        for _ in range(MOST_DROPPED + 1):
+            yield from ((end, end) for *_, end in ways)
+            ways = {way for one in ways for way in self.ways_from(one)}
+
+    def ways_from(self, way):
+        """Where it may be behind the next segment: in which move, how much of that is prepared, how many moves may be known, and the
+        squared speed."""
+        self.tail, prepared, self.known, self.speed = way
+        if self.tail == len(self.moves):
+            return []
+        move = self.moves[self.tail]
+        move.prepared = prepared
+        count = self.count()
+        is_over = move.left == count
+        ends = [(0, 0)] if self.is_last(count) else self.ends(count)
+        tail = self.tail + is_over
+        return [(tail, 0 if is_over else prepared + count, max(known, tail), end) for known, end in list(ends)]
 
 
 class HaltedStretch(Stretch):
@@ -337,16 +366,19 @@ class HandStretch(Stretch):
         if (line, told) != (move.line, w) or count not in (go, hold) or not count:
             raise Wrong(f"line {at} of the steps is the head of line {line} with {count} events at {told}, and by the model of "
                         f"line {move.line} with {go} or {hold} at {w}")
-        if self.is_reset and text.is_at_end(count) and not self.is_last(count):
+        events = event_lines(move.ways, move.prepared, count)
+        if self.is_broken_at(text, count):
             behind = w + move.change * count
             self.broken = [(max(0, w - move.change * count), behind)]
+            self.is_moving = text.left < count
+            events = events[: text.left]
         else:
             is_end = self.is_last(count) or text.is_at(self.cut, count) or (self.is_halted and text.is_at_end(count))
             behind = 0 if is_end else text.speed_ahead(count)
             self.test_end(at, count, behind)
         if cycles < -(-16_000 * move.length // (move.events * max(1, isqrt((w + behind + move.change * count) // 2)))):
             raise Wrong(f"the head at line {at} of the steps has {cycles} cycles for each event")
-        for event in event_lines(move.ways, move.prepared, count):
+        for event in events:
             text.expect(event)
         self.advance(count, behind)
 
@@ -362,10 +394,15 @@ class HandStretch(Stretch):
 
     def speeds_behind(self):
         [(least, most)] = self.broken
-        self.speed = most
-        change = self.moves[self.tail].change * self.count()
         yield least, most
-        yield max(0, least - change), most + change
+        for _ in range(MOST_DROPPED):
+            if self.tail == len(self.moves):
+                return
+            self.speed, count = most, self.count()
+            change = self.moves[self.tail].change * count
+            least, most = max(0, least - change), most + change
+            yield least, most
+            self.advance(count, most)
 
 
 def stretch_of(script, moves, mark):
@@ -380,8 +417,8 @@ def heads_of(script, steps):
     """Reads a step text by a script, and answers how many heads it has: each segment as the planner gives it for the moves
     that may have been known, each event and mark in its order, and nothing more. Else it is `Wrong`. A cut may stand behind any
     segment of its stretch over which the machine can stop, and the next stretch begins where that was. So may the end, in the
-    last stretch, where a soft limit stops it. Where the script may be broken off, the end may stand behind any piece. At which
-    speeds it may stand there is answered too, where it is in a stretch of moves."""
+    last stretch, where a soft limit stops it. Where the script may be broken off, the end may stand behind any record. At which
+    speeds it may stand there is answered too, where it is in a stretch of moves, and whether the machine moves there for certain."""
     text, heads, stretch = Reading(steps), 0, None
     for moves, mark in script.stretches:
         stretch = stretch_of(script, moves, mark)
@@ -396,4 +433,4 @@ def heads_of(script, steps):
     text.expect("")
     if text.at != len(text.lines):
         raise Wrong(f"line {text.at} of the steps stands behind their end")
-    return heads, sorted(set(stretch.speeds_behind())) if stretch.broken else []
+    return heads, sorted(set(stretch.speeds_behind())) if stretch.broken else [], stretch.is_moving

@@ -29,15 +29,21 @@ class Bad(Exception):
     """A report is none that the rules allow."""
 
 
+def is_answer(line):
+    """Whether a line of a console answers one of the job."""
+    return line == "ok" or line.startswith("error:")
+
+
 def part(console):
-    """The text of a console without its reports, and each report with the number of answers before it."""
-    rest, reports, answers = [], [], 0
+    """The text of a console without its reports, and each report with the number of banners before it, and of answers since the
+    last of these."""
+    rest, reports, banners, answers = [], [], 0, 0
     for line in console.split("\r\n"):
         if line.startswith("<"):
-            reports.append((answers, line))
-        else:
-            rest.append(line)
-            answers += line == "ok" or line.startswith("error:")
+            reports.append((banners, answers, line))
+            continue
+        rest.append(line)
+        banners, answers = (banners + 1, 0) if line.startswith("Grbl ") else (banners, answers + is_answer(line))
     return "\r\n".join(rest), reports
 
 
@@ -77,14 +83,15 @@ class Report(NamedTuple):
 
 class Left(NamedTuple):
     """What a line leaves: the mask of `$10`, thousandths of a step per mm, the offset of the work in thousandths of a mm,
-    and the speed of the spindle, 0 where it is off; and the state in which the machine may be found then, `Run` or `Jog`, or
-    nothing where it stands."""
+    and the speed of the spindle, 0 where it is off; the state in which the machine may be found then, `Run` or `Jog`, or
+    nothing where it stands; and whether it is locked."""
 
     mask: int
     per_mm: tuple
     wco: tuple
     speed: int
     under_way: str
+    is_locked: bool = False
 
 
 class Work(NamedTuple):
@@ -126,11 +133,12 @@ class Row(NamedTuple):
 
 
 class Course:
-    """The lines of a job, in rows: none of them, the first, the first two, and so on. Behind those that are answered comes
-    one that is scanned alone, if only of no bytes."""
+    """The lines of an epoch, in rows: none of them, the first, the first two, and so on. Behind those that are answered comes
+    one that is scanned alone, if only of no bytes. So many lines of the job stand before the epoch."""
 
-    def __init__(self, left):
-        self.rows, self.cuts = [Row(left)], []
+    def __init__(self, left, before=0):
+        self.rows, self.cuts, self.before = [Row(left)], [], before
+        self.has_asked = False  # the first line has asked for a report before the epoch began, so that it waits for none
 
     def add(self, line, sent, left, ticks, work):
         """Adds a line that is sent as so many bytes. So many ticks are asked for then."""
@@ -160,8 +168,9 @@ class Course:
         """What is wrong with the causes of cuts, in words, or None. A 0x85 is raised only once each line before is answered,
         and a `!` as it is scanned; and no line that has it, or one behind it, is begun before it is obeyed."""
         for many, cut in enumerate(self.cuts, 1):
-            here, last = self.rows[cut.number], self.rows[self.reach(cut.number)]
-            behind = self.rows[min(cut.number + 1, len(self.rows) - 1)]
+            number = cut.number - self.before
+            here, last = self.rows[number], self.rows[self.reach(number)]
+            behind = self.rows[min(number + 1, len(self.rows) - 1)]
             if last.holds == here.holds and behind.cancels == here.cancels:
                 return f"the record {cut.text!r} is in the steps, and nothing cancels behind that line"
             if many > last.holds + behind.cancels:
@@ -195,12 +204,12 @@ def feed_of(w):
 
 
 class Way:
-    """Where the machine is, in steps, after each number of ticks of a step text; after which of them it stands; and for each
-    feed the numbers of ticks after which a segment begins with it. Where the steps are broken off, the squared speeds that may
-    follow are given, from the least on."""
+    """Where the machine is, in steps, after each number of ticks of a step text that begins at a place; after which of them it
+    stands; and for each feed the numbers of ticks after which a segment begins with it. Where the steps are broken off, the squared
+    speeds that may follow are given, from the least on."""
 
-    def __init__(self, steps, speeds_behind=()):
-        here, self.axes, self.feeds, self.stops = [0] * 3, [array("q", [0]) for _ in AXES], {}, set()
+    def __init__(self, steps, speeds_behind=(), place=(0, 0, 0)):
+        here, self.axes, self.feeds, self.stops = list(place), [array("q", [at]) for at in place], {}, set()
         self.feeds_behind = [(feed_of(least), feed_of(most)) for least, most in speeds_behind]
         for line in steps.split("\n"):
             if line.startswith("s "):
@@ -291,8 +300,11 @@ class Auditor:
         held = self.rows[self.reach(answers, is_first)].holds or self.rows[answers + 1].pauses
         if report.state.startswith("Hold") and not held and not (halts and report.moves):
             raise Bad(f"has the state {report.state}, and nothing holds")
-        if report.state == "Alarm" and not halts:
+        locks = [row.left.is_locked for row in self.rows[answers : answers + 2]]
+        if report.state == "Alarm" and not halts and not any(locks):
             raise Bad("has the state Alarm, and no soft limit stops")
+        if report.state != "Alarm" and all(locks):
+            raise Bad(f"has the state {report.state}, and the machine is locked")
 
     def test_room(self, report, answers, is_first):
         """No move that is in the plan is done, and before the first report of a line nothing is on the link."""
@@ -376,30 +388,26 @@ def fault_in(reports, course, way):
             continue  # what might be told once might be told again
         answers, text = report
         try:
-            auditor.audit(text, answers, answers != last[0])
+            auditor.audit(text, answers, answers != last[0] and not (course.has_asked and answers == 0))
         except Bad as bad:
             return f"the report {text!r} behind {answers} answers {bad}"
         last = report
     return None
 
 
-# ---- where a reset ended the run
+# ---- where a reset ends an epoch
 
 
-def fault_in_front(console, right, course, way):
-    """What is wrong with a run that a reset has ended, in words, or None. The right console has all that is told of the lines
-    that were sent. What was told is a front of it, by whole lines; at most one line more was begun; and what was sent and has
-    no answer had room on the link. A `?` of the last line was raised only once each line before was answered. What was recorded
+def fault_at_reset(course, way, answers, is_begun):
+    """What is wrong with an epoch that a reset has ended behind so many answers, in words, or None. What was sent and has no answer had
+    room on the link. A `?` of the last line was raised only once each line before was answered. What was recorded
     is all that the lines ask for up to the last answered one that settles, and nothing behind the one that was begun."""
-    if not console.endswith("\r\n") or not right.startswith(console):
-        return "the console is no front of the model's"
-    rows, answers = course.rows, sum(line == "ok" or line.startswith("error:") for line in console.split("\r\n"))
-    sent = len(rows) - 2
+    rows, sent = course.rows, len(course.rows) - 2
     if rows[sent].sent - rows[answers].sent > RECEIVE_ROOM:
         return f"{rows[sent].sent - rows[answers].sent} bytes of lines have no answer"
     if rows[-1].queries and answers < sent:
         return f"line {answers + 1} has no answer, and a `?` is scanned behind it"
-    least, most = rows[rows[answers].settled].ticks, rows[answers + 1].ticks
+    least, most = rows[rows[answers].settled].ticks, rows[answers + is_begun].ticks
     if not least <= way.ticks <= most:
         return f"behind {answers} answers there are {way.ticks} ticks in place of {least} to {most}"
     return None

@@ -15,9 +15,10 @@ from dataclasses import dataclass
 from pathlib import Path
 
 from model.alike import alike_of, events_of
-from model.machine import LARGEST_JOB, Run, run_of
+from model.epochs import LARGEST_JOB, parts_of, run_of
+from model.machine import Run
 from model.motion import TooLong, Wrong, heads_of
-from model.reports import Way, fault_in, fault_in_front, part
+from model.reports import Way, fault_at_reset, fault_in, part
 from texts.steps import BadText, in_form_one, in_form_two
 
 PROGRAM = Path(__file__).resolve().parent.parent.parent / "crates/grbl/out/grbl"
@@ -32,7 +33,7 @@ PIECES = (1, 1, 2, 7, 60, 500, 4_096)  # so many bytes of a job are written to a
 SEEDS_EVERY, SEEDS_AT = 10, 3  # each job of such a number by this is tried by more seeds; none of these is a flood
 SEEDS = 4  # so many
 MANY_JOBS = 400  # in the runs of so many jobs, one jog at least is cut
-MANY_RESETS = 40  # of so many runs that a reset ends, one at least is broken off before all is carried out
+MANY_RESETS = 40  # of so many resets one at least comes before all is carried out
 MANY_ALARMS = 40  # of so many runs that a soft limit ends, in one at least the machine stops before its moves are over
 
 
@@ -120,24 +121,38 @@ def shown(line):
     return repr(line) if len(line) < 120 else f"{line[:100]!r} with {len(line) - 100} characters behind it"
 
 
-def what_is_wrong(told, right, machine):
-    """What a run tells that the model does not allow, or None, and what was tried. Reports are audited where the rest is right,
-    since they are judged by it."""
-    tally = Tally(lines=machine.number, reports=len(told.reports), resets=int(machine.script.is_reset),
-                  cuts=len(machine.course.cuts), alarms=int(right.status == 8))
-    wrong = first_difference("standard error", told.errors, right.errors)
-    if not tally.resets:
-        wrong = first_difference("console", told.console, right.console, "\r\n") or wrong
-    wrong = wrong or machine.fault_in_cuts()
+def fault_in_epoch(epoch, reports, tally):
+    """What is wrong with the steps and the reports of an epoch, in words, or None. Reports are audited where the rest is right, since
+    they are judged by it."""
+    machine, part = epoch.machine, epoch.part
+    wrong = epoch.fault or machine.fault_in_cuts()
     try:
-        tally.heads, speeds_behind = heads_of(machine.script, told.steps)
-        way = Way(told.steps, speeds_behind)
-        is_front = told.console != right.console or way.ticks != machine.script.ticks
-        tally.broken_off, tally.stopped = int(is_front and tally.resets), int(is_front and tally.alarms)
-        wrong = wrong or (fault_in_front(told.console, right.console, machine.course, way) if tally.resets else None)
-        wrong = wrong or fault_in(told.reports, machine.course, way)
+        heads, speeds_behind, is_moving = heads_of(machine.script, part.text)
     except Wrong as fault:
-        wrong = wrong or str(fault)
+        return wrong or str(fault)
+    way = Way(part.text, speeds_behind, part.place)
+    is_front = way.ticks != machine.script.ticks
+    tally.heads += heads
+    tally.stopped += machine.script.is_halted and is_front
+    if epoch.is_reset:
+        wrong = wrong or ("a reset stops the machine in motion, and no alarm is told" if is_moving and not epoch.is_lost else None)
+        tally.broken_off += is_front or epoch.answers < len(machine.course.rows) - 2
+        wrong = wrong or fault_at_reset(machine.course, way, epoch.answers, epoch.is_begun)
+    return wrong or fault_in(reports, machine.course, way)
+
+
+def what_is_wrong(told, right, epochs):
+    """What a run tells that the model does not allow, or None, and what was tried."""
+    tally = Tally(lines=epochs[-1].machine.number, reports=len(told.reports), resets=len(epochs) - 1,
+                  cuts=sum(len(epoch.machine.course.cuts) for epoch in epochs), alarms=int(right.status == 8))
+    wrong = (first_difference("console", told.console, right.console, "\r\n")
+             or first_difference("standard error", told.errors, right.errors))
+    resets = len(parts_of(told.steps)) - 1
+    if not wrong and resets != tally.resets:
+        wrong = f"the steps have {resets} resets, and by the model {tally.resets}"
+    for number, epoch in enumerate(epochs, 1):
+        reports = [(answers, text) for banners, answers, text in told.reports if banners == number]
+        wrong = wrong or fault_in_epoch(epoch, reports, tally)
     status = f"; it ended with {told.status}, and by the model with {right.status}" if told.status != right.status else ""
     return (wrong + status if wrong else status.removeprefix("; ") or None), tally
 
@@ -157,8 +172,8 @@ def what_is_unlike(told, first):
 
 @dataclass
 class Tally:
-    """What was tried: jobs, and the lines, heads, reports and cuts of their runs; how many runs a reset ended, and how many of these
-    were broken off before all was carried out; how many a soft limit ended, and in how many of these moves were dropped; how
+    """What was tried: jobs, and the lines, heads, reports, cuts and resets of their runs; how many of the resets came before all was
+    carried out; how many runs a soft limit ended, and in how many of these moves were dropped; how
     many jobs were tried by more seeds, and how many were run with compact steps; and the jobs that are left out, since the model would take too long."""
 
     jobs: int = 0
@@ -182,7 +197,7 @@ class Tally:
         rest = f"; {self.left_out} are left out, since they have too many steps" if self.left_out else ""
         return (f"{self.jobs} jobs, each as a stream and in lockstep, one in {PACED_EVERY} paced too, {self.compact} of them with compact steps, {self.alike} by {SEEDS} more seeds, in all "
                 f"{self.lines} lines with {self.heads} heads and {self.reports} reports, {self.cuts} cuts of jogs, {self.resets} "
-                f"runs that a reset ended, {self.broken_off} of them early, and {self.alarms} that a soft limit ended, {self.stopped} of them before all was done{rest}")
+                f"resets, {self.broken_off} of them before all was done, and {self.alarms} runs that a soft limit ended, {self.stopped} of them before all was done{rest}")
 
 
 @dataclass
@@ -225,11 +240,11 @@ class Trial:
             if isinstance(told, str):
                 return Failure(number, job, f"{' '.join(words)}: {told}")
             try:
-                right, machine = run_of(job, self.most_events, told.console, told.steps, told.status)
+                right, epochs = run_of(job, self.most_events, told.console, told.steps, told.status)
             except TooLong:
                 tally.left_out += 1
                 return None
-            wrong, tried = what_is_wrong(told, right, machine)
+            wrong, tried = what_is_wrong(told, right, epochs)
             tally.add(tried)
             if wrong:
                 return Failure(number, job, f"{' '.join(words)}: {wrong}")
@@ -281,7 +296,7 @@ class Trial:
             print(f"{name}: in the runs of {total.jobs} jobs no jog was cut")
             return 1
         if total.resets >= MANY_RESETS and not total.broken_off:
-            print(f"{name}: of {total.resets} runs with a reset none was broken off")
+            print(f"{name}: of {total.resets} resets none came before all was carried out")
             return 1
         if total.alarms >= MANY_ALARMS and not total.stopped:
             print(f"{name}: of {total.alarms} runs with a soft limit none was stopped in motion")
