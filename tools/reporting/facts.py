@@ -69,6 +69,8 @@ class Facts:
     run: object
     lines: int
     answered: int
+    dropped: int
+    reached: int
     refused: list
     alarm: Refusal
     extents: list
@@ -142,6 +144,6 @@ def facts_of(name, run):
     alarm = refusal(job, console.alarm[0], "ALARM", console.alarm[1]) if console.alarm else None
     happenings = list(happenings_of(run))
     extents, has_limits = extents_of(run)
-    return Facts(name, run, len(job.lines), console.answered, refused, alarm, extents, has_limits, sections_of(run, happenings),
+    return Facts(name, run, len(job.lines), console.answered, len(console.dropped), console.reached, refused, alarm, extents, has_limits, sections_of(run, happenings),
                  [it for it in happenings if it.seconds], [it for it in happenings if not it.text.startswith("wait")],
                  slow_places(run), run.share_at_feed())

@@ -58,9 +58,11 @@ def heading(facts):
     if whole.cut:
         told.append(f"cutting {seconds_text(whole.cut)}, {100 * facts.at_feed:.0f} % of it at 95 % of its feed or more; "
                     f"rapids {seconds_text(whole.rapid)}" + (f"; jogs {seconds_text(whole.jog)}" if whole.jog else ""))
-    silent = facts.lines - facts.answered
+    if facts.dropped:
+        told.append(f"{counted(facts.dropped, 'line')} dropped by resets: no answer")
+    silent = facts.lines - facts.reached
     if silent > 0:
-        told.append(f"{counted(silent, 'line')} from line {facts.answered + 1} on: no answer")
+        told.append(f"{counted(silent, 'line')} from line {facts.reached + 1} on: no answer")
     return told
 
 
@@ -116,7 +118,7 @@ def marks_table(name, happenings, note):
 def tables(facts):
     """The report's tables, those that have rows."""
     waits = marks_table("Waits", facts.waits, f"{counted(len(facts.waits), 'wait')}, {seconds_text(facts.run.waits)}.")
-    changes = marks_table("Spindle, coolant and cuts of jogs", facts.changes, "")
+    changes = marks_table("Spindle, coolant, cuts of jogs and resets", facts.changes, "")
     told = (refused_table(facts), extents_table(facts), sections_table(facts), slow_table(facts), waits, changes)
     return [table for table in told if table.rows]
 

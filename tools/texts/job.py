@@ -12,6 +12,7 @@ WORD = re.compile(r"([A-Z])([+-]?(?:[0-9]+\.?[0-9]*|\.[0-9]+))")
 SETTING = re.compile(r"\$\+?([0-9]+)=\+?([0-9]+\.?[0-9]*|\.[0-9]+)")
 COMMENT = re.compile(rb"\(([^)]*)\)?|;(.*)", re.DOTALL)
 DROPPED = bytes([*range(0x21), *b"/?!~", *range(0x80, 0x100)])
+RESET = b"\x18"
 MM_PER_INCH = 25.4
 RAPID, CUT, JOG = range(3)
 SYSTEMS = ("G54", "G55", "G56", "G57", "G58", "G59")
@@ -25,7 +26,12 @@ def kept_text(line):
     """What is kept of a line of the job."""
     if b"(" in line or b";" in line:
         line = COMMENT.sub(b"", line)
-    return line.translate(None, DROPPED).decode("ascii").upper()
+    return line.rpartition(RESET)[2].translate(None, DROPPED).decode("ascii").upper()
+
+
+def resets_in(line):
+    """How many resets a line of the job has."""
+    return COMMENT.sub(b"", line).count(RESET) if RESET in line else 0
 
 
 @lru_cache(maxsize=1000)
@@ -91,11 +97,20 @@ class Job:
         self.settings, self.sections, self.zero_changes = [], [], []
         self.marks = []
         self.modes = Modes()
+        self.begins = [1] + [number for number, line in enumerate(self.lines, 1) for _ in range(resets_in(line))]
+        console.align(self.begins)
         for number, line in enumerate(self.lines, 1):
+            if RESET in line and resets_in(line):
+                self.reset(number)
             kept = kept_text(line) if console.is_done(number) else ""
             self.take_line(number, line, kept)
         if not self.sections:
             self.sections = self.modes.tools
+
+    def reset(self, number):
+        """A reset comes before a line: the modes are those of the start, and G92 shifts the zero no more."""
+        self.modes = Modes(tools=self.modes.tools)
+        self.zero_changes.append(ZeroChange(number, frozenset(("G54", "G92.1")), "G54", 0, False, {}))
 
     def take_line(self, number, line, kept):
         """Takes a line, of which so much is kept and accepted."""

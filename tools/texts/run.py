@@ -2,6 +2,7 @@
 import math
 from array import array
 from bisect import bisect_left
+from collections import deque
 from dataclasses import dataclass
 from itertools import chain
 
@@ -100,12 +101,16 @@ class Run:
 
     def mark_lines(self):
         """The line of each mark, or None where the texts do not tell: the job's marks come in the order of its lines."""
-        asked, told = iter(self.job.marks if self.job else ()), []
+        asked, told = deque(self.job.marks if self.job else ()), []
+        begins = iter(self.job.begins[1:] if self.job else ())
         for mark in self.track.marks:
-            if mark.name == "X":
+            if mark.name in ("X", "Z"):
                 told.append(mark.value)
+                begin = next(begins, 0) if mark.name == "Z" else 0
+                while asked and asked[0][0] < begin:
+                    asked.popleft()  # a reset has dropped it, and it is not recorded
                 continue
-            line, name = next(asked, (None, mark.name))
+            line, name = asked.popleft() if asked else (None, mark.name)
             told.append(line)
             if name != mark.name:
                 return [None] * len(self.track.marks)

@@ -35,8 +35,8 @@ def event_table():
 EVENTS = event_table()
 NUMBER = rb"(0|[1-9][0-9]{0,19})"
 HEAD = re.compile(rb"s " + b" ".join([NUMBER] * 4) + rb"\n")
-MARK = re.compile(rb"(D|M3|M4|M5|M8|M9|X) " + NUMBER + rb"\n")
-MARK_ENDS = {"D": 2**64, "M3": 2**32, "M4": 2**32, "M5": 1, "M8": 1, "M9": 1, "X": 2**32}
+MARK = re.compile(rb"(D|M3|M4|M5|M8|M9|X|Z) " + NUMBER + rb"\n")
+MARK_ENDS = {"D": 2**64, "M3": 2**32, "M4": 2**32, "M5": 1, "M8": 1, "M9": 1, "X": 2**32, "Z": 2**32}
 SPINDLE = ("M3", "M4", "M5")
 VERSION = b"V 2\n"  # the first line of form 2
 RUN = re.compile(rb"R ([1-9][0-9]{0,9}) ([XYZ+-]+\n)")
@@ -64,6 +64,8 @@ class Mark:
             return f"wait {self.value / 1000:g} s"
         if self.name == "X":
             return "jogs cut"
+        if self.name == "Z":
+            return "reset"
         return f"{self.name} S{self.value}" if self.name in SPINDLE and self.value else self.name
 
 
@@ -108,7 +110,7 @@ class Reader:
 
     def read(self):
         """Reads all of it."""
-        for line in self.lines:
+        while (line := next(self.lines, None)) is not None:
             self.number += 1
             head = HEAD.fullmatch(line)
             if head:
@@ -138,10 +140,13 @@ class Reader:
         """A head, and its events."""
         if not (1 <= line < 2**32 and 1 <= count < 2**32 and square < 2**64 and cycles < 2**64):
             raise BadText(self.number, "a number of a head is out of its range")
-        way = self.take_events(count)
+        way, left = self.take_runs(count) if self.is_compact else self.take_events(count)
+        count -= left
         self.here = tuple(at + step for at, step in zip(self.here, way))
         track = self.track
         track.heads += 1
+        if not count:
+            return
         track.events += count
         track.stops += square == 0
         begins = self.is_fresh or line != track.lines[-1] or self.turns(way, count)
@@ -178,13 +183,15 @@ class Reader:
         return any(abs(step * events - before * count) >= events + count for step, before in zip(way, self.way))
 
     def take_events(self, count):
-        """Takes so many events, and answers the steps that they make."""
-        if self.is_compact:
-            return self.take_runs(count)
+        """Takes so many events, and answers the steps that they make, and how many are missing before the record of a reset."""
         x = y = z = 0
         while count:
             most = min(count, MOST_LINES)
             block = list(islice(self.lines, most))
+            reset = next((at for at, line in enumerate(block) if line.startswith(b"Z ")), None)
+            if reset is not None:
+                self.lines = chain(block[reset:], self.lines)
+                block = block[:reset]
             for line, times in Counter(block).items():
                 way = EVENTS.get(line)
                 if way is None:
@@ -193,16 +200,21 @@ class Reader:
                 y += way[1] * times
                 z += way[2] * times
             self.number += len(block)
+            count -= len(block)
+            if reset is not None:
+                break
             if len(block) < most:
                 raise BadText(self.number + 1, "the text ends without E")
-            count -= most
-        return x, y, z
+        return (x, y, z), count
 
     def take_runs(self, count):
-        """Takes so many events in form 2, and answers the steps that they make."""
+        """Takes so many events in form 2, and answers the same."""
         here = (0, 0, 0)
         while count:
             line = next(self.lines, None)
+            if line and line.startswith(b"Z "):
+                self.lines = chain([line], self.lines)
+                break
             self.number += 1
             if line is None:
                 raise BadText(self.number, "the text ends without E")
@@ -213,7 +225,7 @@ class Reader:
                 raise BadText(self.number, "a run has more events than its head")
             here = tuple(at + step * times for at, step in zip(here, EVENTS[event]))
             count -= times
-        return here
+        return here, count
 
     def refuse_in(self, block):
         """Refuses the first line of a block that is no event."""
