@@ -1,0 +1,58 @@
+(An operator stops a job: the wrong clamp is in the way of its last quarter)
+(0x18 is a byte of its own; most editors do not show it)
+G21 G90 G94 G54
+M3 S12000
+G4 P1
+G0 X30 Y15
+G1 Z-1 F200
+F400
+G1 X29.872 Y16.958
+G1 X29.489 Y18.882
+G1 X28.858 Y20.740
+G1 X27.990 Y22.500
+G1 X26.900 Y24.131
+G1 X25.607 Y25.607
+G1 X24.131 Y26.900
+G1 X22.500 Y27.990
+G1 X20.740 Y28.858
+G1 X18.882 Y29.489
+G1 X16.958 Y29.872
+G1 X15.000 Y30.000
+G1 X13.042 Y29.872
+G1 X11.118 Y29.489
+G1 X9.260 Y28.858
+G1 X7.500 Y27.990
+G1 X5.869 Y26.900
+G1 X4.393 Y25.607
+G1 X3.100 Y24.131
+G1 X2.010 Y22.500
+G1 X1.142 Y20.740
+G1 X0.511 Y18.882
+G1 X0.128 Y16.958
+G1 X0.000 Y15.000
+G1 X0.128 Y13.042
+G1 X0.511 Y11.118
+G1 X1.142 Y9.260
+G1 X2.010 Y7.500
+G1 X3.100 Y5.869
+G1 X4.393 Y4.393
+G1 X5.869 Y3.100
+G1 X7.500 Y2.010
+G1 X9.260 Y1.142
+G1 X11.118 Y0.511
+G1 X13.042 Y0.128
+G1 X15.000 Y0.000
+?                    ; the host waits until all lines before are answered
+G1 X16.958 Y0.128
+G1 X18.882 Y0.511
+G1 X20.740 Y1.142
+G1 X22.500 Y2.010
+G1 X24.131 Y3.100
+G1 X25.607 Y4.393
+                    ; the machine stops at once, and is locked
+$X                   ; it is unlocked
+?                    ; where it stands
+G0 Z5                ; up, and away
+X45 Y45
+G0 Z0
+M30
