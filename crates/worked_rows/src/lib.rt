@@ -30,6 +30,8 @@ mod realtime;
 #[cfg(test)]
 mod reports;
 #[cfg(test)]
+mod resets;
+#[cfg(test)]
 mod rows;
 #[cfg(test)]
 mod runs;

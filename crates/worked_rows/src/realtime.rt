@@ -1,6 +1,6 @@
 //! Realtime bytes: holds, resumes, pauses and overrides. None of them changes an answer, an event or a mark.
 
-use crate::runs::{BANNER, Run, append_times, expect, run_over, text_of, without_heads};
+use crate::runs::{BANNER, Run, append_times, expect, run_over, text_of};
 use grbl_app::Status;
 use outside::{MemSink, MemSource};
 use std::alloc::Global;
@@ -165,35 +165,6 @@ fn a_hold_stops_the_machine_in_a_move(rt: HostRuntime) {
             let made = starts_of(&rt, alloc, words, job.as_slice());
             // In threads the move may be over before the hold comes.
             assert!(rt; made == times || words.len() == 1 && made == 1);
-        }
-    }
-}
-
-#[test]
-fn a_reset_ends_the_sending(rt: HostRuntime) {
-    let alloc = rt.alloc();
-    // Nothing behind the reset is sent, nor is its own line; what is recorded is a front of the events of the lines
-    // before it. In a comment it is no reset.
-    const ROWS: &[(&[u8], &[u8], usize, Status)] = &[
-        (b"G0X100\n\x18", b"ok\r\n", 25_000, Status::Reset),
-        (b"G0X1\nX0\x18.5\nX7", b"ok\r\n", 250, Status::Reset),
-        (b"\x18G0X1", b"", 0, Status::Reset),
-        (b"G0X1(\x18)\n;\x18", b"ok\r\nok\r\n", 250, Status::Done),
-    ];
-    for &(job, answers, most, status) in ROWS {
-        let mut console = Vec::from_slice(alloc, BANNER).expect(&rt, "memory");
-        append_times(&rt, &mut console, answers, 1);
-        for words in WORDS {
-            let mut source = MemSource::new(job, 3, &[]);
-            let mut out = MemSink::new(alloc, 10_000, &[]).expect(&rt, "memory");
-            let mut steps = MemSink::new(alloc, 1_000_000, &[]).expect(&rt, "memory");
-            let got = run_over(&rt, alloc, words, &mut source, &mut out, &mut steps);
-            assert_eq!(rt; got, status);
-            assert!(rt; console.as_slice().starts_with(out.held()));
-            let text = without_heads(&rt, alloc, steps.held());
-            let whole = text_of(&rt, alloc, &[(b"X+\n", most)]);
-            let events = text.as_slice().strip_suffix(b"E\n").expect(&rt, "an end");
-            assert!(rt; whole.as_slice().starts_with(events));
         }
     }
 }
