@@ -1,5 +1,5 @@
 -- A board that keeps to its rules over epochs, and is done, has run.
-use Rattle.std.proofs.Common.{◌≡◌, ◌⊎◌, inl, inr, ℕ, ◌≤◌, true, false, List, [], ◌∷◌, ◌++◌, length, map, take, refl, sym, ap, ◌∙◌, subst, append-nil, arith}
+use Rattle.std.proofs.Common.{◌≡◌, ◌⊎◌, inl, inr, ℕ, ◌≤◌, true, false, List, [], ◌∷◌, ◌++◌, length, map, refl, sym, ap, ◌∙◌, subst, append-nil, arith}
 use Rattle.std.specs.List.{AllByRecursion, flat_map}
 use Rattle.std.proofs.lemmas.Grind.{flat_map-append}
 use Rattle.run_rules.specs.declared.State.{State}
@@ -18,7 +18,6 @@ use Rattle.step_line.specs.Logs.{NewestFirst}
 use Rattle.step_line.specs.Pieces.{ticks_of}
 use Rattle.step_line.specs.declared.Piece.{Piece}
 use Rattle.step_line.specs.declared.Piece.TheVariants as pieces
-use Rattle.step_line.specs.declared.Record.{Record}
 use Rattle.board_rules.specs.Conduct.{Conducted, IsFinished}
 use Rattle.board_rules.specs.Openings.{Opening}
 use Rattle.board_rules.specs.Ports.{BoardLog, has_closed_in}
@@ -88,15 +87,15 @@ published_ticks first h c over =
     let all : published_of h ≡ planned_of h ++ pieces.End ∷ [] = sym (append-nil (published_of h)) ∙ ap (λ (ps : List Piece). published_of h ++ ps) (sym s.hand) ∙ sym (hand_is first h c) ∙ s.given in
     ap (flat_map ticks_of) all ∙ flat_map-append ticks_of (planned_of h) (pieces.End ∷ []) ∙ append-nil (flat_map ticks_of (planned_of h))
 
-pub made_on : (es : List EpochEffects) (ds : List Epoch) (e : EpochEffects) (d : Epoch) → AreMade es ds → take e.made (flat_map ticks_of e.pieces) ≡ take d.done (flat_map ticks_of d.pieces) → AreMade (es ++ e ∷ []) (ds ++ d ∷ [])
-made_on [] [] e d are same = (same, tt)
-made_on [] (x ∷ ds) e d are same = absurd are
-made_on (y ∷ es) [] e d are same = absurd are
-made_on (y ∷ es) (x ∷ ds) e d are same = (are.0, made_on es ds e d are.1 same)
+pub made_on : (es : List EpochEffects) (ds : List Epoch) (e : EpochEffects) (d : Epoch) → AreMade es ds → e.made ≡ d.done → flat_map ticks_of e.pieces ≡ flat_map ticks_of d.pieces → AreMade (es ++ e ∷ []) (ds ++ d ∷ [])
+made_on [] [] e d are many same = (many, same, tt)
+made_on [] (x ∷ ds) e d are many same = absurd are
+made_on (y ∷ es) [] e d are many same = absurd are
+made_on (y ∷ es) (x ∷ ds) e d are many same = (are.0, are.1, made_on es ds e d are.2 many same)
 
 pub closed_made : (state : State) (es : NewestFirst Closed) → AreMade (closed_effects state es) (closed_epochs state es)
 closed_made state [] = tt
-closed_made state (e ∷ es) = made_on (closed_effects state es) (closed_epochs state es) _ _ (closed_made state es) refl
+closed_made state (e ∷ es) = made_on (closed_effects state es) (closed_epochs state es) _ _ (closed_made state es) refl refl
 
 -- ---- all of it
 
@@ -171,6 +170,6 @@ module _ (state : State) (es : NewestFirst Closed) (h : Journal) (c : AreEpochs 
     asking = epochs_ask state made (goes es h) c known;
     answered_are = all_answered state made (goes es h) c;
     pieces = epochs_publish state made (goes es h) c known;
-    made = made_on (closed_effects state es) (closed_epochs state es) _ _ (closed_made state es) (ap (λ (rs : List Record). take made rs) (published_ticks first h c.1.conducted over));
+    made = made_on (closed_effects state es) (closed_epochs state es) _ _ (closed_made state es) refl (published_ticks first h c.1.conducted over);
     taken_are = taken_once state made (goes es h);
   }

@@ -1,5 +1,5 @@
 -- A board that keeps to its rules over epochs runs.
-use Rattle.std.proofs.Common.{◌≡◌, ◌⊎◌, inl, inr, ℕ, ◌+◌, ◌≤◌, false, List, [], ◌∷◌, ◌++◌, length, map, take, refl, sym, ap, ◌∙◌, subst, append-nil, append_assoc}
+use Rattle.std.proofs.Common.{◌≡◌, ◌⊎◌, inl, inr, ℕ, ◌+◌, ◌≤◌, false, List, [], ◌∷◌, ◌++◌, length, map, refl, sym, ap, ◌∙◌, subst, append-nil, append_assoc}
 use Rattle.std.specs.List.{AllByRecursion, flat_map}
 use Rattle.flight.specs.Places.{origin}
 use Rattle.motion_ring.specs.Sides.{ticks_published}
@@ -90,8 +90,8 @@ out_ticks (pieces.Mark m ∷ ps) = ap (λ (rs : List Record). ticks_of (pieces.M
 out_ticks (pieces.End ∷ ps) = out_ticks ps
 
 all_made : (state : State) (made : ℕ) (es : Epochs) → AreMade (effects_of state made es) (closed_of state es ++ open_epoch made (open_journal es) ∷ [])
-all_made state made (goes es h) = made_on (closed_effects state es) (closed_epochs state es) _ _ (closed_made state es) (ap (λ (rs : List Record). take made rs) (out_ticks (published_of h)))
-all_made state made (resets es h w) = made_on (closed_effects state es) (closed_epochs state es) _ _ (closed_made state es) (ap (λ (rs : List Record). take made rs) (out_ticks (published_of h)))
+all_made state made (goes es h) = made_on (closed_effects state es) (closed_epochs state es) _ _ (closed_made state es) refl (out_ticks (published_of h))
+all_made state made (resets es h w) = made_on (closed_effects state es) (closed_epochs state es) _ _ (closed_made state es) refl (out_ticks (published_of h))
 
 -- it drops nothing before its reset
 open_drops : (state : State) (made : ℕ) (es : Epochs) (room : ℕ) → AreEpochs state es → known_of (open_journal es) ≤ made → AllByRecursion (λ ls. length (ended ls) ≤ room) (map dropped_by (ended_of es))

@@ -1,5 +1,5 @@
 -- What the host, the board and the pulse have done in a whole run over epochs, as plain lists.
-use Rattle.std.specs.Prelude.{◌≡◌, ◌⊎◌, ℕ, ◌+◌, ◌≤◌, Bool, true, false, List, [], ◌∷◌, ◌++◌, length, map, reverse, take}
+use Rattle.std.specs.Prelude.{◌≡◌, ◌⊎◌, ℕ, ◌+◌, ◌≤◌, Bool, true, false, List, [], ◌∷◌, ◌++◌, length, map, reverse}
 use Rattle.std.specs.List.{AllByRecursion, flat_map}
 use Rattle.flight.specs.Halts.{Stretch}
 use Rattle.flight.specs.Places.{origin}
@@ -104,10 +104,10 @@ lost_in (a_cut k at ∷ ps) = lost_in ps
 lost_in (a_broken o ∷ ps) = lost_in ps + 1
 lost_in (a_reset r ∷ ps) = lost_in ps + r.dropped
 
--- the ticks that reports are judged by were recorded: they are those that were made in the epoch
+-- The ticks that reports are judged by were recorded: they are those of the pieces of the epoch, and as many are made of them.
 abbrev pub AreMade : List EpochEffects → List Epoch → Type 0
 AreMade [] [] = Unit {0}
-AreMade (e ∷ es) (d ∷ ds) = (take e.made (flat_map ticks_of e.pieces) ≡ take d.done (flat_map ticks_of d.pieces)) × AreMade es ds
+AreMade (e ∷ es) (d ∷ ds) = (e.made ≡ d.done) × (flat_map ticks_of e.pieces ≡ flat_map ticks_of d.pieces) × AreMade es ds
 AreMade [] (d ∷ ds) = ⊥
 AreMade (e ∷ es) [] = ⊥
 
