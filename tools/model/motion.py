@@ -291,6 +291,10 @@ class Stretch:
             raise Wrong(f"the head at line {at} of the steps has {cycles} cycles for each event, whatever moves were known")
         return self.broken[0][1]
 
+    def broken_here(self):
+        """Where it is broken off before its next segment."""
+        return [(self.known, self.speed)]
+
     def is_cut_off(self, text):
         """Whether a reset, a soft limit or a cut ends it here."""
         return ((self.is_reset or self.is_halted) and text.is_at_end()) or text.is_at(self.cut)
@@ -382,6 +386,9 @@ class HandStretch(Stretch):
             text.expect(event)
         self.advance(count, behind)
 
+    def broken_here(self):
+        return [(self.speed, self.speed)]
+
     def test_end(self, at, count, behind):
         """Tries the squared speed at which a segment ends."""
         move, w, change = self.moves[self.tail], self.speed, self.moves[self.tail].change * count
@@ -425,10 +432,12 @@ def heads_of(script, steps):
         while stretch.tail < len(moves) and not stretch.is_cut_off(text):
             stretch.segment(text)
             heads += 1
-        if script.is_reset and text.is_at_end():
+        if script.is_reset and text.is_at_end() and (mark is not None or stretch.tail < len(moves)):
             break
         if mark not in (None, END):
             text.expect(mark)
+    if script.is_reset and stretch.tail < len(stretch.moves) and not stretch.broken:
+        stretch.broken = stretch.broken_here()
     text.expect(END)
     text.expect("")
     if text.at != len(text.lines):
