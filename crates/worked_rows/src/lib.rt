@@ -10,6 +10,8 @@ mod demos;
 #[cfg(test)]
 mod dialect;
 #[cfg(test)]
+mod epochs;
+#[cfg(test)]
 mod faults;
 #[cfg(test)]
 mod gates;

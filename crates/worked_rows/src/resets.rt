@@ -27,6 +27,7 @@ struct Row<'a> {
 }
 
 /// What a run leaves: what is told behind the first banner, the steps without heads, and the status.
+#[derive(Drop)]
 struct Left {
     told: Vec<u8>,
     steps: Vec<u8>,
@@ -203,27 +204,6 @@ fn a_job_goes_on_behind_a_reset(rt: HostRuntime) {
     for row in rows {
         for words in WORDS {
             expect_row(&rt, alloc, words, &row);
-        }
-    }
-}
-
-#[test]
-fn each_reset_has_a_banner_and_a_record(rt: HostRuntime) {
-    let alloc = rt.alloc();
-    // In a comment it is no reset.
-    let rows: [(&[u8], &[(&[u8], usize)], &[u8]); 4] = [
-        (b"\x18\x18", &[(BANNER, 2), (OK, 1)], b"Z 0\nZ 0\nE\n"),
-        (b"\x18", &[(BANNER, 1), (OK, 1)], b"Z 0\nE\n"),
-        (b"\x18\n\x18M5\n", &[(BANNER, 2), (OK, 1)], b"Z 0\nZ 0\nE\n"),
-        (b"(\x18)\n;\x18\n", &[(OK, 2)], b"E\n"),
-    ];
-    for (job, told, steps) in rows {
-        let told = text_of(&rt, alloc, told);
-        for words in WORDS {
-            let left = left_by(&rt, alloc, words, job);
-            assert_eq!(rt; left.status, Status::Done);
-            assert!(rt; left.told.as_slice() == told.as_slice());
-            assert!(rt; left.steps.as_slice() == steps);
         }
     }
 }
