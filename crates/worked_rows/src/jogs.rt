@@ -36,7 +36,7 @@ pub(crate) fn left_by<R: Threads + Wait + Sync + Abort>(
 ) -> Left {
     let mut source = MemSource::new(job, piece.max(1), &[]);
     let mut console = MemSink::new(alloc, 10_000, &[]).expect(rt, "memory");
-    let mut steps = MemSink::new(alloc, 400_000, &[]).expect(rt, "memory");
+    let mut steps = MemSink::new(alloc, 1_000_000, &[]).expect(rt, "memory");
     let status = run_over(rt, alloc, words, &mut source, &mut console, &mut steps);
     let answers = console.held().strip_prefix(BANNER).expect(rt, "a banner");
     Left {
