@@ -1,5 +1,6 @@
 //! Runs in memory, and what is compared.
 
+use crate::realtime::WORDS;
 use grbl_app::{Status, run_grbl};
 use outside::{MemSink, MemSource, OpenGate};
 use std::alloc::Global;
@@ -72,19 +73,16 @@ pub(crate) fn expect<R: Threads + Wait + Sync + Abort>(
     assert!(rt; without_heads(rt, alloc, recorder.held()).as_slice() == steps);
 }
 
-/// Runs a row's job in pieces of seven bytes.
+/// Runs a row's job in pieces of seven bytes, in threads, in lockstep and paced.
 pub(crate) fn expect_row<R: Threads + Wait + Sync + Abort>(rt: &R, alloc: Global, row: &Row) {
-    let run = Run {
-        words: &["stream"],
-        job: row.job,
-        piece: 7,
-        source_fails: &[],
-        console_fails: &[],
-        steps_fails: &[],
-    };
-    let mut console = Vec::from_slice(alloc, BANNER).expect(rt, "memory");
-    console.extend_from_slice(row.answers).expect(rt, "memory");
-    expect(rt, alloc, &run, console.as_slice(), row.steps, row.status);
+    let console = text_of(rt, alloc, &[(BANNER, 1), (row.answers, 1)]);
+    for words in WORDS {
+        let run = Run {
+            words,
+            ..plain_run(row.job)
+        };
+        expect(rt, alloc, &run, console.as_slice(), row.steps, row.status);
+    }
 }
 
 /// A run in pieces of seven bytes in which nothing fails.
