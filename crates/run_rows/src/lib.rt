@@ -4,6 +4,8 @@
 #[cfg(test)]
 mod lists;
 #[cfg(test)]
+mod resets;
+#[cfg(test)]
 mod rigs;
 #[cfg(test)]
 mod runs;
