@@ -6,3 +6,5 @@ pub mod Reporting
 pub mod Skipping
 pub mod Going
 pub mod Taking
+pub mod Scanning
+pub mod Reading

@@ -1,4 +1,5 @@
 pub mod JobLines
+pub mod Jobs
 pub mod Windows
 pub mod Steps
 pub mod Reports

@@ -49,6 +49,12 @@ pub record FillsUp (old now : Window) (before after : SourceState) : Type 0 wher
   pub enough : (look_ahead ≤ length now.waiting) ⊎ (now.ended ≡ true)
   pub same : after.faults ≡ before.faults
 
+-- bytes were read, perhaps, and some wait, or the end was read
+pub record FillsSome (old now : Window) (before after : SourceState) : Type 0 where
+  pub stays : Stays old now before after
+  pub some : now.waiting ≡ [] → now.ended ≡ true
+  pub same : after.faults ≡ before.faults
+
 -- some bytes were read, perhaps, and then a read failed
 pub record FailsToFill (old now : Window) (before after : SourceState) : Type 0 where
   pub stays : Stays old now before after

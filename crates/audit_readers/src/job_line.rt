@@ -35,7 +35,11 @@ impl JobLine {
 
     /// Nothing has come.
     pub fn new() -> JobLine
-        ensures { HasCome [] result }
+        ensures come { HasCome [] result }
+        ensures kept { result.kept ≡ [] }
+        ensures resets { result.resets ≡ 0 }
+        ensures cuts { result.cuts ≡ 0 }
+        ensures holds { result.holds ≡ 0 }
     {
         JobLine {
             stripper: Stripper::new(),
@@ -53,7 +57,10 @@ impl JobLine {
         requires few { (self.old.resets + 1 < 2 ^ 32) }
         requires few_cuts { self.old.cuts + 1 < 2 ^ 32 }
         requires few_holds { self.old.holds + 1 < 2 ^ 32 }
-        ensures { (line : List ℕ) → HasCome line self.old → HasCome (line ++ byte ∷ []) self.new }
+        ensures come { (line : List ℕ) → HasCome line self.old → HasCome (line ++ byte ∷ []) self.new }
+        ensures resets { self.new.resets ≤ self.old.resets + 1 }
+        ensures cuts { self.new.cuts ≤ self.old.cuts + 1 }
+        ensures holds { self.new.holds ≤ self.old.holds + 1 }
     {
         match self.stripper.feed(byte) {
             Stripped::Keep(kept) => self.kept.push(kept),
@@ -73,6 +80,9 @@ impl JobLine {
         ensures resets { self.new.resets ≡ self.old.resets + count_by is_reset (byte ∷ []) }
         ensures cuts { self.new.cuts ≡ self.old.cuts + count_by may_cut (byte ∷ []) }
         ensures holds { self.new.holds ≡ self.old.holds + count_by is_hold (byte ∷ []) }
+        ensures few_resets { self.new.resets ≤ self.old.resets + 1 }
+        ensures few_taken { self.new.cuts ≤ self.old.cuts + 1 }
+        ensures few_held { self.new.holds ≤ self.old.holds + 1 }
     {
         match byte {
             0x18 => {

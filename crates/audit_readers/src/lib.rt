@@ -4,6 +4,7 @@
 mod console;
 mod findings;
 mod job_line;
+mod jobs;
 mod laws;
 mod reports;
 mod steps;
@@ -13,6 +14,7 @@ mod window;
 pub use console::ConsoleReader;
 pub use findings::{exit_of, put_audit};
 pub use job_line::JobLine;
+pub use jobs::JobReader;
 pub use laws::taken_replies_come_next;
 pub use reports::report_in;
 pub use steps::StepReader;

@@ -1,7 +1,7 @@
 //! A window on a source: what was read of it and is not taken yet.
 
 ghost use Rattle.std.specs.Prelude.{◌≡◌, ◌≤◌, length, drop, []};
-ghost use Rattle.audit_readers.specs.Windows.{Fills, FillsNot, FillsUp, FailsToFill, TakesRest, FailsToTake, too_long, KnowsEnd};
+ghost use Rattle.audit_readers.specs.Windows.{Fills, FillsNot, FillsUp, FillsSome, FailsToFill, TakesRest, FailsToTake, too_long, KnowsEnd};
 
 use arrayvec::ArrayVec;
 use outside::{Failed, Source};
@@ -29,7 +29,7 @@ impl Model for Window {
 
 impl Window {
     ghost use Rattle.std.specs.Prelude.{◌≡◌, ◌<◌, ◌≤◌, length, drop, [], OnOk, OnErr, MatchResult, false};
-    ghost use Rattle.audit_readers.specs.Windows.{Fills, FillsNot, FillsUp, FailsToFill, TakesRest, FailsToTake, too_long, KnowsEnd};
+    ghost use Rattle.audit_readers.specs.Windows.{Fills, FillsNot, FillsUp, FillsSome, FailsToFill, TakesRest, FailsToTake, too_long, KnowsEnd};
 
     /// Nothing is read.
     pub fn new() -> Window
@@ -93,6 +93,19 @@ impl Window {
             self.fill(source)?;
         }
         Ok(())
+    }
+
+    /// Reads where nothing waits, so that something does then, or the source's end was read. After a failed read it may be
+    /// called again.
+    pub fn fill_if_none<S: Source>(&mut self, source: &mut S) -> Result<(), Failed>
+        requires known { KnowsEnd self.old (S.state source.old) }
+        ensures filled { OnOk result (FillsSome self.old self.new (S.state source.old) (S.state source.new)) }
+        ensures failed { OnErr result (FailsToFill self.old self.new (S.state source.old) (S.state source.new)) }
+    {
+        if !self.waiting().is_empty() {
+            return Ok(());
+        }
+        self.fill_up(source)
     }
 
     /// Takes all bytes that follow, or as many as are too many, and answers how many were taken in all, so many before.
