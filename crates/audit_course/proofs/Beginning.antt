@@ -1,0 +1,364 @@
+-- A line is begun.
+use Rattle.std.proofs.Common.{◌≡◌, ℕ, ◌+◌, Bool, true, false, cond, not, ◌&&◌, ◌||◌, List, [], ◌∷◌, ◌++◌, append-nil, append_assoc, refl, sym, ap, ◌∙◌, subst}
+use Rattle.std.specs.List.{list_any}
+use Rattle.flight.specs.Places.{origin}
+use Rattle.status_report.specs.declared.Reply.{Reply}
+use Rattle.step_line.specs.Asking.{ticks_of_all, moves_of}
+use Rattle.step_line.specs.declared.Record.{Record}
+use Rattle.step_line.specs.declared.planned_move.PlannedMove.{PlannedMove}
+use Rattle.system_lines.specs.Commands.{kind_of, refused_in_run}
+use Rattle.run_rules.specs.declared.State.{State}
+use Rattle.run_rules.specs.Cuts.{ticks_for}
+use Rattle.run_rules.specs.Locking.{is_unlock}
+use Rattle.run_rules.specs.declared.machine.Machine.{Machine}
+use Rattle.run_rules.specs.declared.machine.Machine.TheVariants.{Stands, Runs, Jogs, Locked}
+use Rattle.run_rules.specs.Finding.{Found}
+use Rattle.run_rules.specs.Outcomes.{Before, Becomes, jogged_behind, either, has_cause, begins_with_dollar}
+use Rattle.run_rules.proofs.Finding.{becomes_still, becomes_locked}
+use Rattle.run_rules.specs.Reports.{raises_alarm}
+use Rattle.run_rules.specs.Work.{Task, Outcome, tells, asks, has_moves, is_limit, accepted_code, accepted_jog}
+use Rattle.line_interpreter.specs.Desks.{kind_told}
+use Rattle.line_interpreter.specs.Interpreting.{Interpreting, stands_before}
+use Rattle.line_interpreter.specs.Since.{Since, before_line}
+use Rattle.run_rules.proofs.Each.{by_either}
+use Rattle.line_interpreter.specs.declared.desk.Accepted.{Accepted}
+use Rattle.line_interpreter.specs.declared.desk.Accepted.TheVariants.{Code}
+use Rattle.part_making.specs.Judging.{Known, making, rest_of, all_ticks, all_moves}
+use Rattle.run_texts.specs.Making.{Making, IsMade, with_line}
+use Rattle.run_texts.specs.Points.{Point, BecomesAt, behind_line, behind_broken, opening}
+use Rattle.run_texts.specs.Sent.{Sent}
+use Rattle.run_texts.specs.Sent.Sent.{a_text}
+use Rattle.run_texts.proofs.Making.{line_made}
+use Rattle.audit_course.specs.declared.LastTask.{LastTask}
+use Rattle.audit_course.specs.declared.LastTask.TheVariants.{Nothing}
+use Rattle.audit_course.specs.declared.Progress.{Progress}
+use Rattle.audit_course.specs.declared.judge.CourseJudge.{CourseJudge}
+use Rattle.audit_course.specs.Progressing.{last_behind, has_ticks, has_halt, IsNew}
+use Rattle.audit_course.specs.SoFar.{GoesTo, IsSoFar, OfLine, MayBegin, Knows, FindsRight, FindsStill, left_to_tell}
+use Rattle.audit_course.proofs.Going.{by_line, by_broken}
+use Rattle.audit_course.proofs.Finding.{still_may, stands_becomes, busy_becomes, locked_becomes}
+use Rattle.audit_course.proofs.Outcomes.{SaysOf, becomes_says, locked_says}
+
+-- what a line is judged to become, from a point
+pub record IsJudged (j : CourseJudge) (p : Point) (runs : Bool) (kept : List ℕ) (o : Outcome) (w : Interpreting) (l : Progress) : Type 0 where
+  pub becomes : BecomesAt runs p kept o
+  pub says : SaysOf o
+  pub work : w ≡ record { state = o.next; number = j.work.number + 1; left = o.work }
+  pub is_new : IsNew l
+
+no_alarm : (j : CourseJudge) (p : Point) (hand : List Outcome) → OfLine j p hand → MayBegin j → p.before.alarmed ≡ false
+no_alarm j p hand o b =
+    let none : (j.line.halts || has_halt j.work.left) ≡ false = ap (λ (t : Bool). t || has_halt j.work.left) b.calm ∙ ap has_halt b.done in
+    o.alarmed ∙ ap (λ (u : Bool). not u && o.limit) b.answered ∙ (sym o.halts ∙ none)
+
+none_to_tell : (j : CourseJudge) → MayBegin j → left_to_tell j ≡ []
+none_to_tell j b = ap (λ (ts : List Task). cond j.unanswered [] (tells ts)) b.done ∙ by j.unanswered where
+  by : (u : Bool) → cond u [] (tells []) ≡ []
+  by true = refl
+  by false = refl
+
+-- what is asked for behind what was
+making_more : (k : Known) (ticks more : List Record) (moves others : List PlannedMove) → (o : Outcome) → more ≡ ticks_for o → others ≡ moves_of (asks o.work)
+    → with_line o (making k ticks moves) ≡ making k (ticks ++ more) (moves ++ others)
+making_more k ticks more moves others o e f =
+    let one : (rest_of k.latest ++ (all_ticks k.next ++ ticks)) ++ ticks_for o ≡ rest_of k.latest ++ (all_ticks k.next ++ (ticks ++ more)) =
+    ap (λ (rs : List Record). (rest_of k.latest ++ (all_ticks k.next ++ ticks)) ++ rs) (sym e) ∙ append_assoc (rest_of k.latest) (all_ticks k.next ++ ticks) more
+    ∙ ap (λ (rs : List Record). rest_of k.latest ++ rs) (append_assoc (all_ticks k.next) ticks more) in
+    let two : (all_moves k.next ++ moves) ++ moves_of (asks o.work) ≡ all_moves k.next ++ (moves ++ others) =
+    ap (λ (ms : List PlannedMove). (all_moves k.next ++ moves) ++ ms) (sym f) ∙ append_assoc (all_moves k.next) moves others in
+    ap (λ (rs : List Record). record (making k ticks moves) { owed = rs; left = (all_moves k.next ++ moves) ++ moves_of (asks o.work) }) one
+    ∙ ap (λ (ms : List PlannedMove). record (making k ticks moves) { owed = rest_of k.latest ++ (all_ticks k.next ++ (ticks ++ more)); left = ms }) two
+
+asked_more : (j : CourseJudge) (first : State) (sent : List Sent) (replies : List Reply) (records : List Record) (s : IsSoFar j first sent replies records) → j.work.left ≡ [] → j.lost ≡ false → (s.ticks ≡ []) × (s.moves ≡ [])
+asked_more j first sent replies records s done kept = let a = s.asked kept in (a.0 ∙ ap (λ (ts : List Task). ticks_of_all (asks ts)) done, a.1 ∙ ap (λ (ts : List Task). moves_of (asks ts)) done)
+
+pub or_true : (a b : Bool) → b ≡ true → (a || b) ≡ true
+or_true true b e = refl
+or_true false b e = e
+
+and_true : (a b c : Bool) → a ≡ true → b ≡ true → (a && b || c) ≡ true
+and_true true true c e f = refl
+and_true true false c e f = absurd cc
+and_true false b c e f = absurd cc
+
+kept_from : (t : Bool) (b : Bool) → t ≡ false → b ≡ true → cond t false b ≡ true
+kept_from true b e f = absurd cc
+kept_from false b e f = f
+
+-- ---- a line that is answered
+
+line_of : (j k : CourseJudge) (p : Point) (hand : List Outcome) (kept : List ℕ) (o : Outcome) (w : Interpreting) → OfLine j p hand → MayBegin j → IsJudged j p true kept o w k.line → k.work ≡ w → kind_told k.line.accepted ≡ o.kind
+    → k.moved ≡ j.moved → k.jog_moved ≡ j.jog_moved → k.unanswered ≡ false → k.in_hand ≡ true → k.jogged ≡ jogged_behind o.kind j.jogged → OfLine k (behind_line p kept o) (o ∷ [])
+line_of j k p hand kept o w was b judged work kind moved jog_moved answered in_hand jogged = record {
+  work = o.work;
+  settles = o.settles;
+  limit = is_limit o.answer;
+  last = ap (λ (l : LastTask). last_behind l k.work.left) judged.is_new.last ∙ ap (last_behind Nothing) left;
+  moves = ap (λ (t : Bool). t || has_moves k.work.left) judged.is_new.moves ∙ ap has_moves left;
+  ticks = ap (λ (t : Bool). t || has_ticks k.work.left) judged.is_new.asks ∙ ap has_ticks left;
+  halts = ap (λ (t : Bool). t || has_halt k.work.left) judged.is_new.halts ∙ ap has_halt left ∙ judged.says.halts;
+  other = λ e. judged.says.other (sym (ap accepted_code kind) ∙ e);
+  stays = judged.says.stays;
+  moved = λ e s. kept_from o.settles (accepted_code o.kind && has_moves o.work || p.before.moved) s (or_true (accepted_code o.kind && has_moves o.work) p.before.moved (was.moved (sym moved ∙ e) calm));
+  jog_moved = λ e s. kept_from o.settles (accepted_jog o.kind && has_moves o.work || p.before.jog_moved) s (or_true (accepted_jog o.kind && has_moves o.work) p.before.jog_moved (was.jog_moved (sym jog_moved ∙ e) calm));
+  moves_now = λ s e m. kept_from o.settles (accepted_code o.kind && has_moves o.work || p.before.moved) s (and_true (accepted_code o.kind) (has_moves o.work) p.before.moved (sym (ap accepted_code kind) ∙ e) m);
+  jogs_now = λ s e m. kept_from o.settles (accepted_jog o.kind && has_moves o.work || p.before.jog_moved) s (and_true (accepted_jog o.kind) (has_moves o.work) p.before.jog_moved (sym (ap accepted_jog kind) ∙ e) m);
+  jogged = ap (jogged_behind o.kind) was.jogged ∙ sym jogged;
+  alarmed = ap (λ (u : Bool). not u && is_limit o.answer) (sym answered);
+  unheld = λ e. absurd (let f : false ≡ true = sym answered ∙ e in cc);
+  none = λ e. absurd (let f : true ≡ false = sym in_hand ∙ e in cc);
+  are = ((refl, refl, sym kind), tt);
+} where
+  left : k.work.left ≡ o.work
+  left = ap (λ (i : Interpreting). i.left) (work ∙ judged.work)
+
+  calm : was.settles ≡ false
+  calm = (was.none b.closed).1
+
+any_last : (os : List Outcome) (o : Outcome) → raises_alarm o ≡ true → list_any raises_alarm (os ++ o ∷ []) ≡ true
+any_last [] o e = or_true' (raises_alarm o) e where
+  or_true' : (t : Bool) → t ≡ true → (t || false) ≡ true
+  or_true' true f = refl
+  or_true' false f = f
+any_last (x ∷ os) o e = or_true (raises_alarm x) (list_any raises_alarm (os ++ o ∷ [])) (any_last os o e)
+
+pub line_begun : (j k : CourseJudge) (kept : List ℕ) (o : Outcome) (w : Interpreting) (first : State) (sent : List Sent) (replies : List Reply) (records : List Record) (s : IsSoFar j first sent replies records)
+    → MayBegin j → IsJudged j s.point true kept o w k.line → kind_told k.line.accepted ≡ o.kind
+    → k.jogged ≡ jogged_behind o.kind j.jogged → k.locked ≡ (j.locked && not (is_unlock (kind_of kept)))
+    → k ≡ record j { work = w; state = o.next; locked = k.locked; has_line = true; in_hand = true; jogged = k.jogged; line = k.line }
+    → IsSoFar k first (sent ++ a_text kept ∷ []) replies records
+line_begun j k kept o w first sent replies records s b judged kind jogged locked is = record {
+  point = behind_line s.point kept o;
+  number = ap (λ (n : ℕ). n + 1) s.number ∙ sym (ap (λ (i : Interpreting). i.number) work);
+  state = sym (ap (λ (x : CourseJudge). x.state) is);
+  same_state = λ e. ap (λ (x : CourseJudge). x.state) is ∙ sym (ap (λ (i : Interpreting). i.state) work);
+  locked = ap (λ (t : Bool). t && not (is_unlock (kind_of kept))) s.locked ∙ sym locked;
+  has_line = sym (ap (λ (x : CourseJudge). x.has_line) is);
+  unanswered = sym answered;
+  hand = o ∷ [];
+  line = line_of j k s.point s.hand kept o w s.line b judged (ap (λ (x : CourseJudge). x.work) is) kind (ap (λ (x : CourseJudge). x.moved) is) (ap (λ (x : CourseJudge). x.jog_moved) is) answered (ap (λ (x : CourseJudge). x.in_hand) is) jogged;
+  since = s.since ++ o ∷ [];
+  begun = s.begun;
+  none_begun = λ e. s.none_begun b.answered;
+  from = s.from;
+  made = s.made;
+  stands = ap (λ (x : CourseJudge). x.place) is ∙ s.stands;
+  ticks = s.ticks ++ ticks_for o;
+  moves = s.moves ++ moves_of (asks o.work);
+  asked = λ e.
+      let a = asked_more j first sent replies records s b.done (sym (ap (λ (x : CourseJudge). x.lost) is) ∙ e) in
+      (ap (λ (rs : List Record). rs ++ ticks_for o) a.0 ∙ ap (λ (ts : List Task). ticks_of_all (asks ts)) (sym left), ap (λ (ms : List PlannedMove). ms ++ moves_of (asks o.work)) a.1 ∙ ap (λ (ts : List Task). moves_of (asks ts)) (sym left));
+  is_made = is_made;
+  loses = record {
+    closed = s.loses.closed;
+    others = s.loses.others;
+    split = ap (λ (os : List Outcome). os ++ o ∷ []) (s.loses.split ∙ ap (λ (os : List Outcome). (s.loses.closed ++ s.loses.others) ++ os) (s.line.none b.closed).0 ∙ append-nil (s.loses.closed ++ s.loses.others));
+    over = s.loses.over;
+    jogs = λ e. s.loses.jogs (sym (ap (λ (x : CourseJudge). x.jogs) is) ∙ e);
+    unsettled = λ e. s.loses.unsettled (sym (ap (λ (x : CourseJudge). x.unsettled) is) ∙ e);
+  };
+  alarm = λ e. any_last s.since o e;
+  events = ap (λ (x : CourseJudge). x.events) is ∙ s.events;
+  back = λ n more told rest last g.
+      let cuts : k.cuts ≡ j.cuts = ap (λ (x : CourseJudge). x.cuts) is in
+      let tell : left_to_tell k ≡ tells o.work = ap (λ (u : Bool). cond u [] (tells k.work.left)) answered ∙ ap tells left in
+      let before = s.back n (a_text kept ∷ more) (tells o.work ++ told) rest last (by_line s.point last s.since s.begun s.from n kept o more told (s.made ++ rest) (record { free = no_alarm j s.point s.hand s.line b; answered = s.unanswered ∙ b.answered; becomes = judged.becomes }) g) in
+      subst (λ (c : ℕ). GoesTo (opening first) [] [] origin (n + c) ((sent ++ a_text kept ∷ []) ++ more) (replies ++ (left_to_tell k ++ told)) (records ++ rest) last) (sym cuts)
+      (subst (λ (ss : List Sent). GoesTo (opening first) [] [] origin (n + j.cuts) ss (replies ++ (left_to_tell k ++ told)) (records ++ rest) last) (sym (append_assoc sent (a_text kept ∷ []) more))
+      (subst (λ (rs : List Reply). GoesTo (opening first) [] [] origin (n + j.cuts) (sent ++ a_text kept ∷ more) (replies ++ rs) (records ++ rest) last)
+      (ap (λ (rs : List Reply). rs ++ (tells o.work ++ told)) (none_to_tell j b) ∙ ap (λ (rs : List Reply). rs ++ told) (sym tell)) before));
+} where
+  work : k.work ≡ record { state = o.next; number = j.work.number + 1; left = o.work }
+  work = ap (λ (x : CourseJudge). x.work) is ∙ judged.work
+
+  left : k.work.left ≡ o.work
+  left = ap (λ (i : Interpreting). i.left) work
+
+  answered : k.unanswered ≡ false
+  answered = ap (λ (x : CourseJudge). x.unanswered) is ∙ b.answered
+
+  is_made : IsMade ((s.since ++ o ∷ []) ++ s.begun) s.made (making k.part (s.ticks ++ ticks_for o) (s.moves ++ moves_of (asks o.work)))
+  is_made =
+      let none : s.begun ≡ [] = s.none_begun b.answered in
+      let bare : IsMade s.since s.made (making j.part s.ticks s.moves) = subst (λ (os : List Outcome). IsMade os s.made (making j.part s.ticks s.moves)) (ap (λ (os : List Outcome). s.since ++ os) none ∙ append-nil s.since) s.is_made in
+      let more : IsMade (s.since ++ o ∷ []) s.made (with_line o (making j.part s.ticks s.moves)) = line_made s.since s.made (making j.part s.ticks s.moves) o bare in
+      let same : with_line o (making j.part s.ticks s.moves) ≡ making k.part (s.ticks ++ ticks_for o) (s.moves ++ moves_of (asks o.work)) =
+      making_more j.part s.ticks (ticks_for o) s.moves (moves_of (asks o.work)) o refl refl ∙ ap (λ (x : Known). making x (s.ticks ++ ticks_for o) (s.moves ++ moves_of (asks o.work))) (sym (ap (λ (x : CourseJudge). x.part) is)) in
+      subst (λ (os : List Outcome). IsMade os s.made (making k.part (s.ticks ++ ticks_for o) (s.moves ++ moves_of (asks o.work)))) (sym (ap (λ (os : List Outcome). (s.since ++ o ∷ []) ++ os) none ∙ append-nil (s.since ++ o ∷ [])))
+      (subst (λ (m : Making). IsMade (s.since ++ o ∷ []) s.made m) same more)
+
+-- ---- a line that a reset keeps from its answer
+
+broken_of : (j k : CourseJudge) (p : Point) (hand : List Outcome) (kept : List ℕ) (o : Outcome) (w : Interpreting) → OfLine j p hand → MayBegin j → IsJudged j p false kept o w k.line → k.work ≡ w → kind_told k.line.accepted ≡ kind_told Code
+    → k.moved ≡ j.moved → k.jog_moved ≡ j.jog_moved → k.unanswered ≡ true → k.in_hand ≡ true → k.jogged ≡ j.jogged → OfLine k (behind_broken p o) []
+broken_of j k p hand kept o w was b judged work kind moved jog_moved broken in_hand jogged = record {
+  work = o.work;
+  settles = false;
+  limit = has_halt o.work;
+  last = ap (λ (l : LastTask). last_behind l k.work.left) judged.is_new.last ∙ ap (last_behind Nothing) left;
+  moves = ap (λ (t : Bool). t || has_moves k.work.left) judged.is_new.moves ∙ ap has_moves left;
+  ticks = ap (λ (t : Bool). t || has_ticks k.work.left) judged.is_new.asks ∙ ap has_ticks left;
+  halts = ap (λ (t : Bool). t || has_halt k.work.left) judged.is_new.halts ∙ ap has_halt left;
+  other = λ e. refl;
+  stays = λ f. refl;
+  moved = λ e s. or_true (has_moves o.work) p.before.moved (was.moved (sym moved ∙ e) calm);
+  jog_moved = λ e s. was.jog_moved (sym jog_moved ∙ e) calm;
+  moves_now = λ s e m. moves_first (has_moves o.work) p.before.moved m;
+  jogs_now = λ s e m. absurd (let f : false ≡ true = sym (ap accepted_jog kind) ∙ e in cc);
+  jogged = was.jogged ∙ sym jogged;
+  alarmed = no_alarm j p hand was b ∙ ap (λ (u : Bool). not u && has_halt o.work) (sym broken);
+  unheld = λ e. refl;
+  none = λ e. absurd (let f : true ≡ false = sym in_hand ∙ e in cc);
+  are = tt;
+} where
+  left : k.work.left ≡ o.work
+  left = ap (λ (i : Interpreting). i.left) (work ∙ judged.work)
+
+  calm : was.settles ≡ false
+  calm = (was.none b.closed).1
+
+  moves_first : (a c : Bool) → a ≡ true → (a || c) ≡ true
+  moves_first true c e = refl
+  moves_first false c e = absurd cc
+
+pub line_broken : (j k : CourseJudge) (kept : List ℕ) (o : Outcome) (w : Interpreting) (first : State) (sent : List Sent) (replies : List Reply) (records : List Record) (s : IsSoFar j first sent replies records)
+    → MayBegin j → IsJudged j s.point false kept o w k.line → kind_told k.line.accepted ≡ kind_told Code
+    → k ≡ record j { work = w; has_line = true; unanswered = true; in_hand = true; line = k.line }
+    → IsSoFar k first (sent ++ a_text kept ∷ []) replies records
+line_broken j k kept o w first sent replies records s b judged kind is = record {
+  point = behind_broken s.point o;
+  number = ap (λ (n : ℕ). n + 1) s.number ∙ sym (ap (λ (i : Interpreting). i.number) work);
+  state = s.state ∙ sym (ap (λ (x : CourseJudge). x.state) is);
+  same_state = λ e. absurd (let f : true ≡ false = sym broken ∙ e in cc);
+  locked = s.locked ∙ sym (ap (λ (x : CourseJudge). x.locked) is);
+  has_line = sym (ap (λ (x : CourseJudge). x.has_line) is);
+  unanswered = sym broken;
+  hand = [];
+  line = broken_of j k s.point s.hand kept o w s.line b judged (ap (λ (x : CourseJudge). x.work) is) kind (ap (λ (x : CourseJudge). x.moved) is) (ap (λ (x : CourseJudge). x.jog_moved) is) broken (ap (λ (x : CourseJudge). x.in_hand) is) (ap (λ (x : CourseJudge). x.jogged) is);
+  since = s.since;
+  begun = s.begun ++ o ∷ [];
+  none_begun = λ e. absurd (let f : true ≡ false = sym broken ∙ e in cc);
+  from = s.from;
+  made = s.made;
+  stands = ap (λ (x : CourseJudge). x.place) is ∙ s.stands;
+  ticks = s.ticks ++ ticks_for o;
+  moves = s.moves ++ moves_of (asks o.work);
+  asked = λ e.
+      let a = asked_more j first sent replies records s b.done (sym (ap (λ (x : CourseJudge). x.lost) is) ∙ e) in
+      (ap (λ (rs : List Record). rs ++ ticks_for o) a.0 ∙ ap (λ (ts : List Task). ticks_of_all (asks ts)) (sym left), ap (λ (ms : List PlannedMove). ms ++ moves_of (asks o.work)) a.1 ∙ ap (λ (ts : List Task). moves_of (asks ts)) (sym left));
+  is_made = subst (λ (os : List Outcome). IsMade os s.made (making k.part (s.ticks ++ ticks_for o) (s.moves ++ moves_of (asks o.work)))) (append_assoc s.since s.begun (o ∷ []))
+      (subst (λ (m : Making). IsMade ((s.since ++ s.begun) ++ o ∷ []) s.made m) same (line_made (s.since ++ s.begun) s.made (making j.part s.ticks s.moves) o s.is_made));
+  loses = record {
+    closed = s.loses.closed;
+    others = s.loses.others;
+    split = s.loses.split ∙ ap (λ (os : List Outcome). (s.loses.closed ++ s.loses.others) ++ os) (s.line.none b.closed).0;
+    over = s.loses.over;
+    jogs = λ e. s.loses.jogs (sym (ap (λ (x : CourseJudge). x.jogs) is) ∙ e);
+    unsettled = λ e. s.loses.unsettled (sym (ap (λ (x : CourseJudge). x.unsettled) is) ∙ e);
+  };
+  alarm = s.alarm;
+  events = ap (λ (x : CourseJudge). x.events) is ∙ s.events;
+  back = λ n more told rest last g.
+      let cuts : k.cuts ≡ j.cuts = ap (λ (x : CourseJudge). x.cuts) is in
+      let tell : left_to_tell k ≡ [] = ap (λ (u : Bool). cond u [] (tells k.work.left)) broken in
+      let before = s.back n (a_text kept ∷ more) told rest last (by_broken s.point last s.since s.begun s.from n kept o more told (s.made ++ rest) (record { free = no_alarm j s.point s.hand s.line b; answered = s.unanswered ∙ b.answered; becomes = judged.becomes }) g) in
+      subst (λ (c : ℕ). GoesTo (opening first) [] [] origin (n + c) ((sent ++ a_text kept ∷ []) ++ more) (replies ++ (left_to_tell k ++ told)) (records ++ rest) last) (sym cuts)
+      (subst (λ (ss : List Sent). GoesTo (opening first) [] [] origin (n + j.cuts) ss (replies ++ (left_to_tell k ++ told)) (records ++ rest) last) (sym (append_assoc sent (a_text kept ∷ []) more))
+      (subst (λ (rs : List Reply). GoesTo (opening first) [] [] origin (n + j.cuts) (sent ++ a_text kept ∷ more) (replies ++ (rs ++ told)) (records ++ rest) last)
+      (none_to_tell j b ∙ sym tell) before));
+} where
+  work : k.work ≡ record { state = o.next; number = j.work.number + 1; left = o.work }
+  work = ap (λ (x : CourseJudge). x.work) is ∙ judged.work
+
+  left : k.work.left ≡ o.work
+  left = ap (λ (i : Interpreting). i.left) work
+
+  broken : k.unanswered ≡ true
+  broken = ap (λ (x : CourseJudge). x.unanswered) is
+
+  same : with_line o (making j.part s.ticks s.moves) ≡ making k.part (s.ticks ++ ticks_for o) (s.moves ++ moves_of (asks o.work))
+  same = making_more j.part s.ticks (ticks_for o) s.moves (moves_of (asks o.work)) o refl refl ∙ ap (λ (x : Known). making x (s.ticks ++ ticks_for o) (s.moves ++ moves_of (asks o.work))) (sym (ap (λ (x : CourseJudge). x.part) is))
+
+-- ---- as it is found
+
+pub says_at : (p : Point) (kept : List ℕ) (o : Outcome) → BecomesAt true p kept o → SaysOf o
+says_at p kept o is = by_either p.locked _ _ _ (λ e. locked_says p.before kept o) (λ e. becomes_says p.before kept o) is
+
+pub says_still : (p : Point) (kept : List ℕ) (o : Outcome) → BecomesAt false p kept o → SaysOf o
+says_still p kept o is = by_either p.locked _ _ _ (λ e. locked_says p.before kept o) (λ e still. becomes_says p.before kept o (still_may p.before kept o still)) is
+
+pub known_at : (j : CourseJudge) (first : State) (sent : List Sent) (replies : List Reply) (records : List Record) (s : IsSoFar j first sent replies records) → MayBegin j → Knows j s.point
+known_at j first sent replies records s b =
+    let calm : s.line.settles ≡ false = (s.line.none b.closed).1 in
+    record { locked = s.locked; moved = λ e. s.line.moved e calm; jog_moved = λ e. s.line.jog_moved e calm; jogged = s.line.jogged }
+
+-- what stands before the line is what the interpreter has, with what the lines before have moved
+pub since_at : Point → Since
+since_at p = record { moved = p.before.moved; jog_moved = p.before.jog_moved; jogged = p.before.jogged; alarmed = p.before.alarmed }
+
+pub stands_there : (j : CourseJudge) (first : State) (sent : List Sent) (replies : List Reply) (records : List Record) (s : IsSoFar j first sent replies records) → MayBegin j → stands_before j.work (since_at s.point) ≡ s.point.before
+unfolding since_at
+stands_there j first sent replies records s b =
+    ap (λ (n : ℕ). before_line n j.work.state (since_at s.point)) (sym s.number)
+    ∙ ap (λ (x : State). before_line s.point.before.number x (since_at s.point)) (sym (s.state ∙ s.same_state b.answered))
+
+taken_true : (t : Bool) (A B : Type 0) → t ≡ true → A → either t A B
+taken_true true A B e a = a
+taken_true false A B e a = absurd cc
+
+taken_false : (t : Bool) (A B : Type 0) → t ≡ false → B → either t A B
+taken_false true A B e b = absurd cc
+taken_false false A B e b = b
+
+-- ---- as the code has it
+
+pub line_answered : (j : CourseJudge) (machine : Machine) (w : Interpreting) (state : State) (locked jogged : Bool) (l : Progress) (accepted : Accepted) (kept : List ℕ) (first : State) (sent : List Sent) (replies : List Reply) (records : List Record)
+    → IsSoFar j first sent replies records → MayBegin j
+    → ((since : Since) → (o : Outcome) × Found machine (stands_before j.work since) kept o × (w ≡ record { state = o.next; number = j.work.number + 1; left = o.work }) × (kind_told accepted ≡ o.kind))
+    → FindsRight j machine kept → state ≡ w.state → IsNew l → l.accepted ≡ accepted → jogged ≡ jogged_behind (kind_told accepted) j.jogged → locked ≡ (j.locked && not (is_unlock (kind_of kept)))
+    → IsSoFar (record j { work = w; state = state; locked = locked; has_line = true; in_hand = true; jogged = jogged; line = l }) first (sent ++ a_text kept ∷ []) replies records
+line_answered j machine w state locked jogged l accepted kept first sent replies records s b judged finds state_is new accepted_is jogged_is locked_is =
+    let o = judged (since_at s.point) in
+    let found : Found machine s.point.before kept o.0 = subst (λ (x : Before). Found machine x kept o.0) (stands_there j first sent replies records s b) o.1 in
+    let becomes = finds s.point (known_at j first sent replies records s b) o.0 found in
+    let kind : kind_told l.accepted ≡ o.0.kind = ap kind_told accepted_is ∙ o.3 in
+    let next : state ≡ o.0.next = state_is ∙ ap (λ (i : Interpreting). i.state) o.2 in
+    line_begun j (record j { work = w; state = state; locked = locked; has_line = true; in_hand = true; jogged = jogged; line = l }) kept o.0 w first sent replies records s b
+    (record { becomes = becomes; says = says_at s.point kept o.0 becomes; work = o.2; is_new = new }) kind
+    (jogged_is ∙ ap (λ k. jogged_behind k j.jogged) o.3) locked_is
+    (ap (λ (x : State). record j { work = w; state = x; locked = locked; has_line = true; in_hand = true; jogged = jogged; line = l }) next)
+
+pub line_unanswered : (j : CourseJudge) (machine : Machine) (w : Interpreting) (l : Progress) (accepted : Accepted) (kept : List ℕ) (first : State) (sent : List Sent) (replies : List Reply) (records : List Record)
+    → IsSoFar j first sent replies records → MayBegin j
+    → ((since : Since) → (o : Outcome) × Found machine (stands_before j.work since) kept o × (w ≡ record { state = o.next; number = j.work.number + 1; left = o.work }) × (kind_told accepted ≡ o.kind))
+    → FindsStill j machine kept → IsNew l → l.accepted ≡ Code
+    → IsSoFar (record j { work = w; has_line = true; unanswered = true; in_hand = true; line = l }) first (sent ++ a_text kept ∷ []) replies records
+line_unanswered j machine w l accepted kept first sent replies records s b judged finds new code =
+    let o = judged (since_at s.point) in
+    let found : Found machine s.point.before kept o.0 = subst (λ (x : Before). Found machine x kept o.0) (stands_there j first sent replies records s b) o.1 in
+    let becomes = finds s.point (known_at j first sent replies records s b) o.0 found in
+    line_broken j (record j { work = w; has_line = true; unanswered = true; in_hand = true; line = l }) kept o.0 w first sent replies records s b
+    (record { becomes = becomes; says = says_still s.point kept o.0 becomes; work = o.2; is_new = new }) (ap kind_told code) refl
+
+-- ---- how the machine is found
+
+pub locked_found : (j : CourseJudge) (kept : List ℕ) → j.locked ≡ true → FindsRight j Locked kept
+locked_found j kept e p knows o found = taken_true p.locked _ _ (knows.locked ∙ e) (becomes_locked p.before kept o found)
+
+free_found : (j : CourseJudge) (machine : Machine) (kept : List ℕ) → j.locked ≡ false → ((p : Point) → Knows j p → (o : Outcome) → Found machine p.before kept o → Becomes true p.before kept o) → FindsRight j machine kept
+free_found j machine kept e becomes p knows o found = taken_false p.locked _ _ (knows.locked ∙ e) (becomes p knows o found)
+
+pub stands_found : (j : CourseJudge) (kept : List ℕ) → j.locked ≡ false → FindsRight j Stands kept
+stands_found j kept e = free_found j Stands kept e (λ p knows o. stands_becomes p.before kept o)
+
+pub busy_found : (j : CourseJudge) (kept : List ℕ) → j.locked ≡ false → begins_with_dollar kept ≡ true → refused_in_run (kind_of kept) ≡ true → ((p : Point) → Knows j p → has_cause p.before (kind_of kept) ≡ true) → FindsRight j Runs kept
+busy_found j kept e dollar here cause = free_found j Runs kept e (λ p knows o. busy_becomes p.before kept o dollar here (cause p knows))
+
+pub jog_found : (j : CourseJudge) (kept : List ℕ) → j.locked ≡ false → begins_with_dollar kept ≡ false → j.jogged ≡ true → FindsRight j Jogs kept
+jog_found j kept e code jogged = free_found j Jogs kept e (λ p knows o. locked_becomes p.before kept o code (knows.jogged ∙ jogged))
+
+pub locked_still : (j : CourseJudge) (kept : List ℕ) → j.locked ≡ true → FindsStill j Locked kept
+locked_still j kept e p knows o found = taken_true p.locked _ _ (knows.locked ∙ e) (becomes_locked p.before kept o found)
+
+pub stands_still : (j : CourseJudge) (kept : List ℕ) → j.locked ≡ false → FindsStill j Stands kept
+stands_still j kept e p knows o found = taken_false p.locked _ _ (knows.locked ∙ e) (becomes_still p.before kept o found)

@@ -1,0 +1,437 @@
+-- A cut, a reset or the end ends a part.
+use Rattle.std.proofs.Common.{◌≡◌, ◌≤◌, ℕ, ◌+◌, ◌-◌, Bool, true, false, cond, not, ◌&&◌, ◌||◌, List, [], ◌∷◌, ◌++◌, length, map, take, drop, append-nil, append_assoc, length-append, ◌⊎◌, inl, inr, refl, sym, ap, ◌∙◌, subst, arith}
+use Rattle.std.specs.List.{AllByRecursion, list_any}
+use Rattle.std.proofs.lemmas.List.{take-append-le, take-append-drop}
+use Rattle.std.proofs.lemmas.List.Elements.{filter-append}
+use Rattle.flight.specs.Places.{origin}
+use Rattle.legal_heads.specs.Whole.{events_among, is_event}
+use Rattle.status_report.specs.declared.Reply.{Reply}
+use Rattle.step_line.specs.Asking.{ticks_of_all, moves_of, ticks_among}
+use Rattle.step_line.specs.declared.Mark.TheVariants.{Reset as ResetMark}
+use Rattle.step_line.specs.declared.Record.{Record}
+use Rattle.step_line.specs.declared.Record.TheVariants as kinds
+use Rattle.modal_state.specs.Modes.{rebased}
+use Rattle.run_rules.specs.declared.State.{State}
+use Rattle.run_rules.specs.Cuts.{ticks_asked_for, LosesJogsAlone}
+use Rattle.run_rules.specs.Outcomes.{at_place, either}
+use Rattle.run_rules.specs.Reports.{settles, settled_to, raises_alarm}
+use Rattle.run_rules.proofs.Answering.{telling_tells}
+use Rattle.run_rules.specs.Work.{Task, Outcome, tells, asks, telling, has_moves, accepted_jog}
+use Rattle.line_interpreter.specs.Interpreting.{Interpreting}
+use Rattle.line_interpreter.specs.Lefts.{greeting}
+use Rattle.part_making.specs.Judging.{Known, nothing_known, making}
+use Rattle.run_texts.specs.Courses.{Reset, IsCut, IsReset, behind_cut, behind_the_reset, reset_state}
+use Rattle.run_texts.specs.Left.{part_of}
+use Rattle.run_texts.specs.Making.{IsMade}
+use Rattle.run_texts.specs.Parts.{ending_record}
+use Rattle.run_texts.specs.Parts.Ending.{by_cut, by_reset, by_end}
+use Rattle.run_texts.specs.Points.{Point, opening}
+use Rattle.run_texts.specs.Recorded.{IsRecorded, ticks_for_all, settled_ticks}
+use Rattle.run_texts.specs.Sent.{Sent, waiting_in, has_reset, behind_reset}
+use Rattle.run_texts.specs.Sent.Sent.{a_text, a_stop}
+use Rattle.run_texts.specs.Told.{told_at_reset}
+use Rattle.run_texts.proofs.Events.{ticks_on}
+use Rattle.run_texts.proofs.Making.{begins, finishes}
+use Rattle.audit_course.specs.declared.LastTask.{LastTask}
+use Rattle.audit_course.specs.declared.LastTask.TheVariants.{Nothing}
+use Rattle.audit_course.specs.declared.Progress.{Progress}
+use Rattle.audit_course.specs.declared.judge.CourseJudge.{CourseJudge}
+use Rattle.audit_course.specs.Progressing.{last_behind, has_ticks, has_halt, fresh}
+use Rattle.audit_course.specs.SoFar.{GoesTo, IsSoFar, IsOver, AddsReset, OfLine, MayLose, MayCut, MayReset, MayEnd, left_to_tell}
+use Rattle.audit_course.proofs.Going.{by_a_cut, by_a_reset, at_end}
+use Rattle.audit_course.proofs.Outcomes.{telling_halts}
+use Rattle.audit_course.proofs.Parting.{idle_owes}
+use Rattle.audit_course.proofs.Saying.{none_asked}
+
+-- ---- ticks that are left out
+
+count : List Outcome → ℕ
+count os = length (ticks_for_all os)
+
+counted : (xs ys : List Outcome) → count (xs ++ ys) ≡ count xs + count ys
+unfolding count
+counted xs ys = ap length (ticks_on xs ys) ∙ length-append (ticks_for_all xs) (ticks_for_all ys)
+
+one_counted : (o : Outcome) → count (o ∷ []) ≡ ticks_asked_for o
+unfolding count
+one_counted o = ap (λ asked. length (ticks_of_all asked)) (append-nil (asks o.work))
+
+jog_or_none : (jog some : Bool) (n m : ℕ) → (some ≡ false → n ≡ 0) → (jog || not some) ≡ true → (jog ≡ true) ⊎ (n ≤ m)
+jog_or_none true some n m none e = inl refl
+jog_or_none false true n m none e = absurd cc
+jog_or_none false false n m none e = inr (let z = none refl in omega (arith, z))
+
+jogs_lose : (others : List Outcome) (m : ℕ) → AllByRecursion (λ o. (accepted_jog o.kind || not (has_ticks o.work)) ≡ true) others → LosesJogsAlone m others
+jogs_lose [] m all = tt
+jogs_lose (o ∷ os) m all = (
+  jog_or_none (accepted_jog o.kind) (has_ticks o.work) (ticks_asked_for o) m (λ e. ap length (none_asked o.work e)) all.0,
+  jogs_lose os (m - ticks_asked_for o) all.1,
+)
+
+all_lose : (closed others : List Outcome) (m : ℕ) → count closed ≤ m → AllByRecursion (λ o. (accepted_jog o.kind || not (has_ticks o.work)) ≡ true) others → LosesJogsAlone m (closed ++ others)
+all_lose [] others m few all = jogs_lose others m all
+all_lose (o ∷ os) others m few all =
+    let first : count (o ∷ os) ≡ ticks_asked_for o + count os = counted (o ∷ []) os ∙ ap (λ (n : ℕ). n + count os) (one_counted o) in
+    (inr (omega (arith, few, first)), all_lose os others (m - ticks_asked_for o) (omega (arith, few, first)) all)
+
+none_settles : (os : List Outcome) → AllByRecursion (λ o. o.settles ≡ false) os → list_any settles os ≡ false
+none_settles [] all = refl
+none_settles (o ∷ os) all = ap (λ (b : Bool). b || list_any settles os) all.0 ∙ none_settles os all.1
+
+by_cond : (b : Bool) (n m : ℕ) → n ≤ m → cond b n 0 ≤ m
+by_cond true n m few = few
+by_cond false n m few = omega arith
+
+settled_within : (closed others : List Outcome) → AllByRecursion (λ o. o.settles ≡ false) others → settled_to (closed ++ others) ≤ length closed
+settled_within [] [] all = omega arith
+settled_within [] (o ∷ os) all =
+    let none : ◌≡◌ {A = ℕ} (cond (list_any settles (o ∷ os)) (settled_to os + 1) 0) 0 = ap (λ (b : Bool). cond {A = ℕ} b (settled_to os + 1) 0) (none_settles (o ∷ os) all) in
+    omega (arith, none)
+settled_within (c ∷ cs) others all =
+    let again = settled_within cs others all in
+    by_cond (list_any settles (c ∷ (cs ++ others))) (settled_to (cs ++ others) + 1) (length (c ∷ cs)) (omega (arith, again))
+
+front_counted : (n : ℕ) (os : List Outcome) → count (take n os) ≤ count os
+front_counted n os =
+    let both = counted (take n os) (drop n os) in
+    let same : count (take n os ++ drop n os) ≡ count os = ap count (take-append-drop n os) in
+    omega (arith, both, same)
+
+settled_few : (closed others : List Outcome) (m : ℕ) → length (ticks_for_all closed) ≤ m → AllByRecursion (λ o. o.settles ≡ false) others → settled_ticks (closed ++ others) ≤ m
+unfolding count
+settled_few closed others m few all =
+    let n = settled_to (closed ++ others) in
+    let front : take n (closed ++ others) ≡ take n closed = take-append-le n closed others (settled_within closed others all) in
+    let same : settled_ticks (closed ++ others) ≡ count (take n closed) = ap count front in
+    let less = front_counted n closed in
+    omega (arith, few, same, less)
+
+lose_few : (closed others : List Outcome) (m : ℕ) → length (ticks_for_all closed) ≤ m → AllByRecursion (λ o. (accepted_jog o.kind || not (has_ticks o.work)) ≡ true) others → LosesJogsAlone m (closed ++ others)
+unfolding count
+lose_few closed others m few all = all_lose closed others m few all
+
+-- what a part may lose, by what is told of the lines of which ticks may be left out
+pub jogs_alone : (j : CourseJudge) (since : List Outcome) (made : List Record) (l : MayLose j since [] made) → j.jogs ≡ true → LosesJogsAlone (length (ticks_among made)) since
+jogs_alone j since made l e =
+    subst (λ (os : List Outcome). LosesJogsAlone (length (ticks_among made)) os) (sym (l.split ∙ append-nil (l.closed ++ l.others))) (lose_few l.closed l.others (length (ticks_among made)) l.over (l.jogs e))
+
+pub settled_all : (j : CourseJudge) (since : List Outcome) (made : List Record) (l : MayLose j since [] made) → j.unsettled ≡ true → settled_ticks since ≤ length (ticks_among made)
+settled_all j since made l e =
+    subst (λ (os : List Outcome). settled_ticks os ≤ length (ticks_among made)) (sym (l.split ∙ append-nil (l.closed ++ l.others))) (settled_few l.closed l.others (length (ticks_among made)) l.over (l.unsettled e))
+
+-- ---- an end
+
+with_hand : (j : CourseJudge) (since hand : List Outcome) (made : List Record) → MayLose j since hand made → hand ≡ [] → MayLose j since [] made
+with_hand j since hand made l none = subst (λ (os : List Outcome). MayLose j since os made) none l
+
+to_tell : (j : CourseJudge) → j.work.left ≡ [] → left_to_tell j ≡ []
+to_tell j done = ap (λ (ts : List Task). cond j.unanswered [] (tells ts)) done ∙ by j.unanswered where
+  by : (u : Bool) → cond u [] (tells []) ≡ []
+  by true = refl
+  by false = refl
+
+calm_point : (j : CourseJudge) (p : Point) (hand : List Outcome) → OfLine j p hand → j.work.left ≡ [] → j.line.halts ≡ false → p.before.alarmed ≡ false
+calm_point j p hand o done calm =
+    let limit : o.limit ≡ false = sym o.halts ∙ ap (λ (t : Bool). t || has_halt j.work.left) calm ∙ ap has_halt done in
+    o.alarmed ∙ ap (λ (t : Bool). not j.unanswered && t) limit ∙ and_false (not j.unanswered) where
+      and_false : (b : Bool) → (b && false) ≡ false
+      and_false true = refl
+      and_false false = refl
+
+mark_events : (records : List Record) (r : Record) → is_event r ≡ false → length (events_among (records ++ r ∷ [])) ≡ length (events_among records)
+mark_events records r e =
+    let both : length (events_among (records ++ r ∷ [])) ≡ length (events_among records) + length (events_among (r ∷ [])) = ap length (filter-append is_event records (r ∷ [])) ∙ length-append (events_among records) (events_among (r ∷ [])) in
+    let none : ◌≡◌ {A = ℕ} (length (events_among (r ∷ []))) 0 = ap (λ (b : Bool). length (cond b (r ∷ []) [])) e in
+    omega (arith, both, none)
+
+-- ---- a cut
+
+pub part_cut : (j : CourseJudge) (k : ℕ) (w : Interpreting) (state : State) (first : State) (sent : List Sent) (replies : List Reply) (records : List Record) (s : IsSoFar j first sent replies records)
+    → MayCut j k → state ≡ (at_place j.place (record s.point.before { state = j.state })).state → w ≡ record j.work { state = state }
+    → IsSoFar (record j { work = w; state = state; part = nothing_known; cuts = j.cuts + 1; has_line = false; lost = false; jogs = true; unsettled = true }) first sent replies (records ++ ending_record (by_cut k j.place) ∷ [])
+part_cut j k w state first sent replies records s may state_is is = record {
+  point = behind_cut j.place s.point;
+  number = s.number ∙ sym (ap (λ (i : Interpreting). i.number) is);
+  state = ap (λ (x : State). (at_place j.place (record s.point.before { state = x })).state) s.state ∙ sym state_is;
+  same_state = λ e. sym (ap (λ (i : Interpreting). i.state) is);
+  locked = s.locked;
+  has_line = refl;
+  unanswered = s.unanswered;
+  hand = [];
+  line = cut_line;
+  since = [];
+  begun = [];
+  none_begun = λ e. refl;
+  from = j.place;
+  made = [];
+  stands = refl;
+  ticks = [];
+  moves = [];
+  asked = λ e. (sym (ap (λ (ts : List Task). ticks_of_all (asks ts)) left), sym (ap (λ (ts : List Task). moves_of (asks ts)) left));
+  is_made = begins;
+  loses = record { closed = []; others = []; split = refl; over = omega arith; jogs = λ e. tt; unsettled = λ e. tt };
+  alarm = λ e. absurd (let f : true ≡ false = sym e ∙ calm_point j s.point s.hand s.line may.ends.done may.calm in cc);
+  events = s.events ∙ sym (mark_events records (ending_record (by_cut k j.place)) refl);
+  back = λ n more told rest last g.
+      let before = s.back (n + 1) more told (ending_record (by_cut k j.place) ∷ rest) last
+      (subst (λ (os : List Outcome). GoesTo s.point s.since os s.from (n + 1) more told (s.made ++ ending_record (by_cut k j.place) ∷ rest) last) (sym none)
+      (by_a_cut s.point last s.since [] s.from n k j.place more told s.made rest is_cut recorded g)) in
+      subst (λ (rs : List Record). GoesTo (opening first) [] [] origin (n + (j.cuts + 1)) (sent ++ more) (replies ++ (cond j.unanswered [] (tells w.left) ++ told)) rs last) (sym (append_assoc records (ending_record (by_cut k j.place) ∷ []) rest))
+      (subst (λ (c : ℕ). GoesTo (opening first) [] [] origin c (sent ++ more) (replies ++ (cond j.unanswered [] (tells w.left) ++ told)) (records ++ ending_record (by_cut k j.place) ∷ rest) last) (sums n j.cuts)
+      (subst (λ (rs : List Reply). GoesTo (opening first) [] [] origin ((n + 1) + j.cuts) (sent ++ more) (replies ++ (rs ++ told)) (records ++ ending_record (by_cut k j.place) ∷ rest) last) (to_tell j may.ends.done ∙ sym left_none) before));
+} where
+  left : w.left ≡ []
+  left = ap (λ (i : Interpreting). i.left) is ∙ may.ends.done
+
+  left_none : cond j.unanswered [] (tells w.left) ≡ []
+  left_none = ap (λ (ts : List Task). cond j.unanswered [] (tells ts)) left ∙ ap (λ (u : Bool). cond u [] (tells [])) may.answered
+
+  none : s.begun ≡ []
+  none = s.none_begun may.answered
+
+  sums : (n c : ℕ) → (n + 1) + c ≡ n + (c + 1)
+  sums n c = omega arith
+
+  is_cut : IsCut s.point k
+  is_cut = record { free = calm_point j s.point s.hand s.line may.ends.done may.calm; number = s.number ∙ may.number; has_line = s.has_line ∙ may.has_line }
+
+  made_here : IsMade (s.since ++ []) s.made (making j.part s.ticks s.moves)
+  made_here = subst (λ (os : List Outcome). IsMade (s.since ++ os) s.made (making j.part s.ticks s.moves)) none s.is_made
+
+  recorded : IsRecorded s.from (part_of s.since [] (by_cut k j.place)) s.made
+  recorded = finishes s.from (part_of s.since [] (by_cut k j.place)) s.made (record {
+    making = making j.part s.ticks s.moves;
+    is = made_here;
+    may = (
+      may.out,
+      may.may,
+      subst (λ (os : List Outcome). LosesJogsAlone (length (ticks_among s.made)) os) (sym (append-nil s.since))
+          (jogs_alone j s.since s.made (with_hand j s.since s.hand s.made s.loses (s.line.none may.ends.closed).0) may.jogs),
+      s.stands,
+    );
+  })
+
+  cut_line : OfLine (record j { work = w; state = state; part = nothing_known; cuts = j.cuts + 1; has_line = false; lost = false; jogs = true; unsettled = true }) (behind_cut j.place s.point) []
+  cut_line = record {
+    work = s.line.work;
+    settles = s.line.settles;
+    limit = s.line.limit;
+    last = ap (last_behind j.line.last) same_left ∙ s.line.last;
+    moves = ap (λ (ts : List Task). j.line.moves || has_moves ts) same_left ∙ s.line.moves;
+    ticks = ap (λ (ts : List Task). j.line.asks || has_ticks ts) same_left ∙ s.line.ticks;
+    halts = ap (λ (ts : List Task). j.line.halts || has_halt ts) same_left ∙ s.line.halts;
+    other = s.line.other;
+    stays = s.line.stays;
+    moved = s.line.moved;
+    jog_moved = s.line.jog_moved;
+    moves_now = s.line.moves_now;
+    jogs_now = s.line.jogs_now;
+    jogged = s.line.jogged;
+    alarmed = s.line.alarmed;
+    unheld = λ e. refl;
+    none = λ e. (refl, (s.line.none may.ends.closed).1);
+    are = tt;
+  } where
+    same_left : w.left ≡ j.work.left
+    same_left = ap (λ (i : Interpreting). i.left) is
+
+-- ---- a reset
+
+waits_so : (lines : List (List ℕ)) (more : List Sent) → waiting_in (map a_text lines ++ a_stop ∷ more) ≡ lines
+waits_so [] more = refl
+waits_so (l ∷ ls) more = ap (λ (xs : List (List ℕ)). l ∷ xs) (waits_so ls more)
+
+resets_so : (lines : List (List ℕ)) (more : List Sent) → has_reset (map a_text lines ++ a_stop ∷ more) ≡ true
+resets_so [] more = refl
+resets_so (l ∷ ls) more = resets_so ls more
+
+behind_so : (lines : List (List ℕ)) (more : List Sent) → behind_reset (map a_text lines ++ a_stop ∷ more) ≡ more
+behind_so [] more = refl
+behind_so (l ∷ ls) more = behind_so ls more
+
+telling_last : (before : LastTask) (rs : List Reply) → last_behind before (telling rs) ≡ before
+telling_last before [] = refl
+telling_last before (r ∷ rs) = telling_last before rs
+
+telling_moves : (rs : List Reply) → has_moves (telling rs) ≡ false
+telling_moves [] = refl
+telling_moves (r ∷ rs) = telling_moves rs
+
+telling_ticks : (rs : List Reply) → has_ticks (telling rs) ≡ false
+telling_ticks [] = refl
+telling_ticks (r ∷ rs) = telling_ticks rs
+
+telling_asks : (rs : List Reply) → asks (telling rs) ≡ []
+telling_asks [] = refl
+telling_asks (r ∷ rs) = telling_asks rs
+
+or_cause : (a b c d : Bool) → (a ≡ true → c ≡ true) → (b ≡ true → d ≡ true) → (a || b) ≡ true → (c || d) ≡ true
+or_cause true b c d f g e = ap (λ (x : Bool). x || d) (f refl)
+or_cause false b c d f g e = or_last c d (g e) where
+  or_last : (c d : Bool) → d ≡ true → (c || d) ≡ true
+  or_last true d e = refl
+  or_last false d e = e
+
+abbrev pub reset_here : CourseJudge → ℕ → ℕ → Bool → Bool → Reset
+reset_here j k dropped alarm locked = record { number = k; dropped = dropped; alarm = alarm; locked = locked; at = j.place }
+
+pub part_reset : (j : CourseJudge) (k dropped : ℕ) (alarm locked : Bool) (lines : List (List ℕ)) (w : Interpreting) (state : State) (first : State) (sent : List Sent) (replies : List Reply) (records : List Record)
+    (s : IsSoFar j first sent replies records) → MayReset j k alarm → dropped ≡ length lines → locked ≡ (alarm || j.locked) → state ≡ reset_state j.place j.state
+    → w ≡ record { state = state; number = k + dropped + 1; left = telling (greeting alarm locked) }
+    → IsSoFar (record j { work = w; state = state; part = nothing_known; locked = locked; has_line = false; unanswered = false; lost = false; jogs = true; unsettled = true; moved = false; jog_moved = false; jogged = false; line = fresh false })
+    first (sent ++ (map a_text lines ++ a_stop ∷ [])) replies (records ++ kinds.Mark (ResetMark k) ∷ [])
+part_reset j k dropped alarm locked lines w state first sent replies records s may count locked_is state_is is = record {
+  point = behind_the_reset (reset_here j k dropped alarm locked) s.point;
+  number = sym (ap (λ (i : Interpreting). i.number) is);
+  state = ap (reset_state j.place) s.state ∙ sym state_is;
+  same_state = λ e. sym (ap (λ (i : Interpreting). i.state) is);
+  locked = refl;
+  has_line = refl;
+  unanswered = refl;
+  hand = [];
+  line = record {
+    work = telling (greeting alarm locked);
+    settles = false;
+    limit = false;
+    last = ap (last_behind Nothing) left;
+    moves = ap has_moves left;
+    ticks = ap has_ticks left;
+    halts = ap has_halt left ∙ telling_halts (greeting alarm locked);
+    other = λ e. refl;
+    stays = λ e. refl;
+    moved = λ e n. absurd cc;
+    jog_moved = λ e n. absurd cc;
+    moves_now = λ n e m. absurd cc;
+    jogs_now = λ n e m. absurd cc;
+    jogged = refl;
+    alarmed = refl;
+    unheld = λ e. refl;
+    none = λ e. (refl, refl);
+    are = tt;
+  };
+  since = [];
+  begun = [];
+  none_begun = λ e. refl;
+  from = j.place;
+  made = [];
+  stands = refl;
+  ticks = [];
+  moves = [];
+  asked = λ e. (
+    sym (ap (λ (ts : List Task). ticks_of_all (asks ts)) left ∙ ap ticks_of_all (telling_asks (greeting alarm locked))),
+    sym (ap (λ (ts : List Task). moves_of (asks ts)) left ∙ ap moves_of (telling_asks (greeting alarm locked))),
+  );
+  is_made = begins;
+  loses = record { closed = []; others = []; split = refl; over = omega arith; jogs = λ e. tt; unsettled = λ e. tt };
+  alarm = λ e. absurd cc;
+  events = s.events ∙ sym (mark_events records (kinds.Mark (ResetMark k)) refl);
+  back = λ n more told rest last g.
+      let on : GoesTo (behind_the_reset (reset_here j k dropped alarm locked) s.point) [] [] j.place n (behind_reset (map a_text lines ++ a_stop ∷ more)) told rest last =
+      subst (λ (ss : List Sent). GoesTo (behind_the_reset (reset_here j k dropped alarm locked) s.point) [] [] j.place n ss told rest last) (sym (behind_so lines more)) g in
+      let before = s.back n (map a_text lines ++ a_stop ∷ more) (told_at_reset (reset_here j k dropped alarm locked) ++ told) (kinds.Mark (ResetMark k) ∷ rest) last
+      (by_a_reset s.point last s.since s.begun s.from n (reset_here j k dropped alarm locked) (map a_text lines ++ a_stop ∷ more) told s.made rest (is_reset more) recorded on) in
+      subst (λ (rs : List Record). GoesTo (opening first) [] [] origin (n + j.cuts) ((sent ++ (map a_text lines ++ a_stop ∷ [])) ++ more) (replies ++ (tells w.left ++ told)) rs last) (sym (append_assoc records (kinds.Mark (ResetMark k) ∷ []) rest))
+      (subst (λ (ss : List Sent). GoesTo (opening first) [] [] origin (n + j.cuts) ss (replies ++ (tells w.left ++ told)) (records ++ kinds.Mark (ResetMark k) ∷ rest) last)
+      (ap (λ (ss : List Sent). sent ++ ss) (sym (append_assoc (map a_text lines) (a_stop ∷ []) more)) ∙ sym (append_assoc sent (map a_text lines ++ a_stop ∷ []) more))
+      (subst (λ (rs : List Reply). GoesTo (opening first) [] [] origin (n + j.cuts) (sent ++ (map a_text lines ++ a_stop ∷ more)) (replies ++ rs) (records ++ kinds.Mark (ResetMark k) ∷ rest) last)
+      (ap (λ (rs : List Reply). rs ++ (told_at_reset (reset_here j k dropped alarm locked) ++ told)) (to_tell j may.ends.done) ∙ ap (λ (rs : List Reply). rs ++ told) (sym greets)) before));
+} where
+  left : w.left ≡ telling (greeting alarm locked)
+  left = ap (λ (i : Interpreting). i.left) is
+
+  greets : tells w.left ≡ told_at_reset (reset_here j k dropped alarm locked)
+  greets = ap tells left ∙ telling_tells (greeting alarm locked)
+
+  calm : s.line.settles ≡ false
+  calm = (s.line.none may.ends.closed).1
+
+  is_reset : (more : List Sent) → IsReset s.point (map a_text lines ++ a_stop ∷ more) (reset_here j k dropped alarm locked)
+  is_reset more = record {
+    free = calm_point j s.point s.hand s.line may.ends.done may.calm;
+    comes = resets_so lines more;
+    number = may.number ∙ sym s.number;
+    dropped = count ∙ ap length (sym (waits_so lines more));
+    cause = λ e. or_cause j.moved j.jog_moved s.point.before.moved s.point.before.jog_moved (λ m. s.line.moved m calm) (λ m. s.line.jog_moved m calm) (may.cause e);
+    locked = locked_is ∙ ap (λ (b : Bool). alarm || b) (sym s.locked);
+  }
+
+  recorded : IsRecorded s.from (part_of s.since s.begun (by_reset (reset_here j k dropped alarm locked))) s.made
+  recorded = finishes s.from (part_of s.since s.begun (by_reset (reset_here j k dropped alarm locked))) s.made (record {
+    making = making j.part s.ticks s.moves;
+    is = s.is_made;
+    may = (settled_all j s.since s.made (with_hand j s.since s.hand s.made s.loses (s.line.none may.ends.closed).0) may.settled, s.stands);
+  })
+
+-- ---- the end
+
+point_halts : (j : CourseJudge) (p : Point) (hand : List Outcome) → OfLine j p hand → j.work.left ≡ [] → j.unanswered ≡ false → p.before.alarmed ≡ j.line.halts
+point_halts j p hand o done answered =
+    o.alarmed ∙ ap (λ (u : Bool). not u && o.limit) answered ∙ sym o.halts ∙ ap (λ (ts : List Task). j.line.halts || has_halt ts) done ∙ or_none j.line.halts where
+      or_none : (b : Bool) → (b || false) ≡ b
+      or_none true = refl
+      or_none false = refl
+
+either_way : (t h : Bool) (A B : Type 0) → A → (h ≡ false → B) → (h ≡ true → t ≡ true) → either t A B
+either_way true h A B a b f = a
+either_way false true A B a b f = absurd (let e = f refl in cc)
+either_way false false A B a b f = b refl
+
+left_so : (b : Bool) → either b (behind_reset [] ≡ []) (◌≡◌ {A = List Sent} [] [])
+left_so true = refl
+left_so false = refl
+
+pub course_over : (j : CourseJudge) (first : State) (sent : List Sent) (replies : List Reply) (records : List Record) (s : IsSoFar j first sent replies records) → MayEnd j → IsOver j first sent replies records
+course_over j first sent replies records s may = record {
+  last = s.point;
+  number = s.number;
+  alarmed = point_halts j s.point s.hand s.line may.ends.done may.answered;
+  fits = λ n.
+      let at = at_end s.point s.since [] s.from n s.made (record { answered = s.unanswered ∙ may.answered; rest = left_so s.point.before.alarmed }) recorded in
+      let before = s.back n [] [] (kinds.End ∷ []) s.point (subst (λ (os : List Outcome). GoesTo s.point s.since os s.from n [] [] (s.made ++ kinds.End ∷ []) s.point) (sym none) at) in
+      subst (λ (ss : List Sent). GoesTo (opening first) [] [] origin (n + j.cuts) ss replies (records ++ kinds.End ∷ []) s.point) (append-nil sent)
+      (subst (λ (rs : List Reply). GoesTo (opening first) [] [] origin (n + j.cuts) (sent ++ []) rs (records ++ kinds.End ∷ []) s.point)
+      (ap (λ (rs : List Reply). replies ++ (rs ++ [])) (to_tell j may.ends.done) ∙ append-nil replies) before);
+} where
+  none : s.begun ≡ []
+  none = s.none_begun may.answered
+
+  recorded : IsRecorded s.from (part_of s.since [] by_end) s.made
+  recorded = finishes s.from (part_of s.since [] by_end) s.made (record {
+    making = making j.part s.ticks s.moves;
+    is = subst (λ (os : List Outcome). IsMade (s.since ++ os) s.made (making j.part s.ticks s.moves)) none s.is_made;
+    may = (
+      may.out,
+      may.may,
+      either_way (list_any raises_alarm s.since) j.line.halts (settled_ticks s.since ≤ length (ticks_among s.made)) ((making j.part s.ticks s.moves).owed ≡ [])
+          (settled_all j s.since s.made (with_hand j s.since s.hand s.made s.loses (s.line.none may.ends.closed).0) may.settled)
+          (λ e. idle_owes j first sent replies records s (may.none e))
+          (λ e. s.alarm (point_halts j s.point s.hand s.line may.ends.done may.answered ∙ e)),
+    );
+  })
+
+-- ---- as the code has it
+
+pub cut_made : (j : CourseJudge) (k : ℕ) (w : Interpreting) (state : State) (part : Known) (first : State) (sent : List Sent) (replies : List Reply) (records : List Record)
+    → IsSoFar j first sent replies records → MayCut j k → state ≡ record j.state { parser = rebased j.state.parser j.place j.state.settings.limits.per_mm }
+    → w ≡ record j.work { state = record j.work.state { parser = rebased j.work.state.parser j.place j.work.state.settings.limits.per_mm } } → part ≡ nothing_known
+    → IsSoFar (record j { work = w; state = state; part = part; cuts = j.cuts + 1; has_line = false; lost = false; jogs = true; unsettled = true }) first sent replies (records ++ ending_record (by_cut k j.place) ∷ [])
+cut_made j k w state part first sent replies records s may state_is work part_is =
+    let same : j.work.state ≡ j.state = sym (s.same_state may.answered) in
+    let here : w ≡ record j.work { state = state } =
+    work ∙ ap (λ (x : State). record j.work { state = record x { parser = rebased x.parser j.place x.settings.limits.per_mm } }) same ∙ ap (λ (x : State). record j.work { state = x }) (sym state_is) in
+    subst (λ (x : Known). IsSoFar (record j { work = w; state = state; part = x; cuts = j.cuts + 1; has_line = false; lost = false; jogs = true; unsettled = true }) first sent replies (records ++ ending_record (by_cut k j.place) ∷ [])) (sym part_is)
+    (part_cut j k w state first sent replies records s may state_is here)
+
+pub reset_made : (j : CourseJudge) (k dropped : ℕ) (alarm locked : Bool) (w : Interpreting) (state : State) (part : Known) (line : Progress)
+    → MayReset j k alarm → locked ≡ (alarm || j.locked) → state ≡ reset_state j.place j.state
+    → w ≡ record { state = state; number = j.work.number + dropped; left = telling (greeting alarm locked) } → part ≡ nothing_known → line ≡ fresh false
+    → AddsReset j (record j { work = w; state = state; part = part; locked = locked; has_line = false; unanswered = false; lost = false; jogs = true; unsettled = true; moved = false; jog_moved = false; jogged = false; line = line }) k dropped
+reset_made j k dropped alarm locked w state part line may locked_is state_is opened part_is new lines count first sent replies records s =
+    let number : j.work.number + dropped ≡ k + dropped + 1 = (let n = may.number in omega (arith, n)) in
+    let here : w ≡ record { state = state; number = k + dropped + 1; left = telling (greeting alarm locked) } =
+    opened ∙ ap (λ (n : ℕ). record { state = state; number = n; left = telling (greeting alarm locked) }) number in
+    subst (λ (x : Known). IsSoFar (record j { work = w; state = state; part = x; locked = locked; has_line = false; unanswered = false; lost = false; jogs = true; unsettled = true; moved = false; jog_moved = false; jogged = false; line = line })
+    first (sent ++ (map a_text lines ++ a_stop ∷ [])) replies (records ++ kinds.Mark (ResetMark k) ∷ [])) (sym part_is)
+    (subst (λ (l : Progress). IsSoFar (record j { work = w; state = state; part = nothing_known; locked = locked; has_line = false; unanswered = false; lost = false; jogs = true; unsettled = true; moved = false; jog_moved = false; jogged = false; line = l })
+    first (sent ++ (map a_text lines ++ a_stop ∷ [])) replies (records ++ kinds.Mark (ResetMark k) ∷ [])) (sym new)
+    (part_reset j k dropped alarm locked lines w state first sent replies records s may count locked_is state_is here))

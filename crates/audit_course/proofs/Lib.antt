@@ -1,0 +1,9 @@
+pub mod Going
+pub mod Saying
+pub mod Outcomes
+pub mod Finding
+pub mod Passing
+pub mod Beginning
+pub mod Parting
+pub mod Ending
+pub mod Opening

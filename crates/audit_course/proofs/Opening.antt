@@ -1,0 +1,100 @@
+-- Before the first line.
+use Rattle.std.proofs.Common.{◌≡◌, ℕ, ◌+◌, pos, Bool, true, false, ◌||◌, List, [], ◌++◌, refl, sym, ap, ◌∙◌, subst, arith}
+use Rattle.flight.specs.Places.{origin}
+use Rattle.status_report.specs.declared.Reply.{Reply}
+use Rattle.step_line.specs.Asking.{ticks_of_all, moves_of}
+use Rattle.run_rules.specs.States.{IsOpening}
+use Rattle.run_rules.proofs.Determined.{one_opening}
+use Rattle.run_rules.specs.declared.State.{State}
+use Rattle.run_rules.specs.Work.{Task, tells, asks, has_moves, accepted_code, accepted_jog}
+use Rattle.line_interpreter.specs.Desks.{kind_told}
+use Rattle.line_interpreter.specs.Interpreting.{Interpreting}
+use Rattle.line_interpreter.specs.declared.desk.Accepted.TheVariants.{Neither}
+use Rattle.part_making.specs.Judging.{Known, nothing_known, making}
+use Rattle.run_texts.specs.Making.{IsMade}
+use Rattle.run_texts.specs.Points.{opening}
+use Rattle.run_texts.proofs.Making.{begins}
+use Rattle.audit_course.specs.declared.LastTask.{LastTask}
+use Rattle.audit_course.specs.declared.LastTask.TheVariants.{Nothing}
+use Rattle.audit_course.specs.declared.Progress.{Progress}
+use Rattle.audit_course.specs.declared.judge.CourseJudge.{CourseJudge}
+use Rattle.audit_course.specs.Progressing.{last_behind, has_ticks, has_halt, IsNew}
+use Rattle.audit_course.specs.SoFar.{GoesTo, IsSoFar}
+
+-- what a judge knows then
+abbrev pub opened : Interpreting → State → Known → Progress → CourseJudge
+opened w state part line = record {
+  work = w;
+  state = state;
+  part = part;
+  place = record { x = pos 0; y = pos 0; z = pos 0 };
+  events = 0;
+  cuts = 0;
+  locked = false;
+  has_line = false;
+  unanswered = false;
+  lost = false;
+  in_hand = false;
+  jogs = true;
+  unsettled = true;
+  moved = false;
+  jog_moved = false;
+  jogged = false;
+  line = line;
+}
+
+pub opens_so_far : (first : State) (w : Interpreting) (state : State) (part : Known) (line : Progress) → state ≡ first → w.state ≡ first → w.number ≡ 1 → w.left ≡ [] → part ≡ nothing_known → IsNew line → line.accepted ≡ Neither
+    → IsSoFar (opened w state part line) first [] [] []
+opens_so_far first w state part line state_is work number left part_is new accepted = record {
+  point = opening first;
+  number = sym number;
+  state = sym state_is;
+  same_state = λ e. state_is ∙ sym work;
+  locked = refl;
+  has_line = refl;
+  unanswered = refl;
+  hand = [];
+  line = record {
+    work = [];
+    settles = false;
+    limit = false;
+    last = ap (λ (l : LastTask). last_behind l w.left) new.last ∙ ap (last_behind Nothing) left;
+    moves = ap (λ (b : Bool). b || has_moves w.left) new.moves ∙ ap has_moves left;
+    ticks = ap (λ (b : Bool). b || has_ticks w.left) new.asks ∙ ap has_ticks left;
+    halts = ap (λ (b : Bool). b || has_halt w.left) new.halts ∙ ap has_halt left;
+    other = λ e. refl;
+    stays = λ e. refl;
+    moved = λ e n. absurd cc;
+    jog_moved = λ e n. absurd cc;
+    moves_now = λ n e m. absurd (let f : false ≡ true = sym (ap (λ a. accepted_code (kind_told a)) accepted) ∙ e in cc);
+    jogs_now = λ n e m. absurd (let f : false ≡ true = sym (ap (λ a. accepted_jog (kind_told a)) accepted) ∙ e in cc);
+    jogged = refl;
+    alarmed = refl;
+    unheld = λ e. refl;
+    none = λ e. (refl, refl);
+    are = tt;
+  };
+  since = [];
+  begun = [];
+  none_begun = λ e. refl;
+  from = origin;
+  made = [];
+  stands = refl;
+  ticks = [];
+  moves = [];
+  asked = λ e. (sym (ap (λ (ts : List Task). ticks_of_all (asks ts)) left), sym (ap (λ (ts : List Task). moves_of (asks ts)) left));
+  is_made = subst (λ (k : Known). IsMade [] [] (making k [] [])) (sym part_is) begins;
+  loses = record { closed = []; others = []; split = refl; over = omega arith; jogs = λ e. tt; unsettled = λ e. tt };
+  alarm = λ e. absurd cc;
+  events = refl;
+  back = λ n more told rest last g.
+      subst (λ (rs : List Reply). GoesTo (opening first) [] [] origin (n + 0) more (rs ++ told) rest last) (sym (ap tells left))
+      (subst (λ (c : ℕ). GoesTo (opening first) [] [] origin c more told rest last) (plus_none n) g);
+} where
+  plus_none : (n : ℕ) → n ≡ n + 0
+  plus_none n = omega arith
+
+pub opened_so_far : (w : Interpreting) (state : State) (part : Known) (line : Progress) → IsOpening w.state → IsOpening state → w.number ≡ 1 → w.left ≡ [] → part ≡ nothing_known → IsNew line → line.accepted ≡ Neither
+    → (first : State) × IsOpening first × IsSoFar (opened w state part line) first [] [] []
+opened_so_far w state part line here there number left part_is new accepted =
+    (w.state, here, opens_so_far w.state w state part line (one_opening state w.state there here) refl number left part_is new accepted)

@@ -1,0 +1,280 @@
+-- A judge takes records, and ends a part.
+use Rattle.std.proofs.Common.{◌≡◌, ◌≤◌, ℕ, ◌+◌, Bool, true, false, not, ◌&&◌, ◌||◌, List, [], ◌∷◌, ◌++◌, length, append-nil, append_assoc, length-append, refl, sym, ap, ◌∙◌, subst, arith}
+use Rattle.std.specs.List.{AllByRecursion}
+use Rattle.std.proofs.lemmas.List.Elements.{filter-append}
+use Rattle.units.specs.declared.Steps3.{Steps3}
+use Rattle.flight.specs.Places.{moved_by, origin}
+use Rattle.legal_heads.specs.Whole.{events_among}
+use Rattle.status_report.specs.declared.Reply.{Reply}
+use Rattle.step_line.specs.Asking.{ticks_of_all, ticks_among}
+use Rattle.step_line.specs.Places.{stepped}
+use Rattle.step_line.specs.Records.{is_tick}
+use Rattle.legal_heads.specs.Whole.{is_event}
+use Rattle.step_line.specs.declared.Record.{Record}
+use Rattle.step_line.specs.declared.Record.TheVariants as kinds
+use Rattle.run_rules.specs.declared.State.{State}
+use Rattle.run_rules.specs.Reports.{settles}
+use Rattle.run_rules.specs.Work.{Task, Outcome, asks, has_moves, accepted_code, accepted_jog}
+use Rattle.line_interpreter.specs.Desks.{kind_told}
+use Rattle.line_interpreter.specs.Interpreting.{Interpreting}
+use Rattle.part_making.specs.Judging.{Known, Goes, making, rest_of, all_ticks}
+use Rattle.run_texts.specs.Making.{IsMade}
+use Rattle.run_texts.specs.Points.{Point, opening}
+use Rattle.run_texts.specs.Sent.{Sent}
+use Rattle.part_making.proofs.Ending.{entered}
+use Rattle.part_making.proofs.Refused.{made_on}
+use Rattle.audit_course.specs.declared.LastTask.{LastTask}
+use Rattle.audit_course.specs.declared.LastTask.TheVariants.{Nothing, Move, Rest}
+use Rattle.audit_course.specs.declared.Progress.{Progress}
+use Rattle.audit_course.specs.declared.judge.CourseJudge.{CourseJudge}
+use Rattle.audit_course.specs.Progressing.{last_behind, has_ticks, has_halt, not_rest, stays_on, moved_now, fresh}
+use Rattle.audit_course.specs.SoFar.{GoesTo, IsSoFar, OfLine, MayLose, IsIdle, left_to_tell}
+
+-- ---- a record
+
+moved_on : (place : Steps3) (rs qs : List Record) → moved_by place (rs ++ qs) ≡ moved_by (moved_by place rs) qs
+moved_on place [] qs = refl
+moved_on place (kinds.Event b ∷ rs) qs = moved_on (stepped place b) rs qs
+moved_on place (kinds.Mark m ∷ rs) qs = moved_on place rs qs
+moved_on place (kinds.Head h ∷ rs) qs = moved_on place rs qs
+moved_on place (kinds.End ∷ rs) qs = moved_on place rs qs
+
+more_ticks : (made : List Record) (r : Record) → length (ticks_among made) ≤ length (ticks_among (made ++ r ∷ []))
+more_ticks made r =
+    let both : ticks_among (made ++ r ∷ []) ≡ ticks_among made ++ ticks_among (r ∷ []) = filter-append is_tick made (r ∷ []) in
+    let long = ap length both ∙ length-append (ticks_among made) (ticks_among (r ∷ [])) in
+    omega (arith, long)
+
+-- It does not change what the line says; a judge that differs in these fields alone.
+same_line : (j k : CourseJudge) (p : Point) (hand : List Outcome) → OfLine j p hand → k.work ≡ j.work → k.line ≡ j.line → k.moved ≡ j.moved → k.jog_moved ≡ j.jog_moved → k.jogged ≡ j.jogged → k.unanswered ≡ j.unanswered → k.in_hand ≡ j.in_hand → OfLine k p hand
+same_line j k p hand o work line moved jog_moved jogged unanswered in_hand = record {
+  work = o.work;
+  settles = o.settles;
+  limit = o.limit;
+  last = ap (λ (l : Progress). last_behind l.last k.work.left) line ∙ ap (λ (i : Interpreting). last_behind j.line.last i.left) work ∙ o.last;
+  moves = ap (λ (l : Progress). l.moves || has_moves k.work.left) line ∙ ap (λ (i : Interpreting). j.line.moves || has_moves i.left) work ∙ o.moves;
+  ticks = ap (λ (l : Progress). l.asks || has_ticks k.work.left) line ∙ ap (λ (i : Interpreting). j.line.asks || has_ticks i.left) work ∙ o.ticks;
+  halts = ap (λ (l : Progress). l.halts || has_halt k.work.left) line ∙ ap (λ (i : Interpreting). j.line.halts || has_halt i.left) work ∙ o.halts;
+  other = λ e. o.other (sym (ap (λ (l : Progress). accepted_code (kind_told l.accepted)) line) ∙ e);
+  stays = o.stays;
+  moved = λ e. o.moved (sym moved ∙ e);
+  jog_moved = λ e. o.jog_moved (sym jog_moved ∙ e);
+  moves_now = λ s e. o.moves_now s (sym (ap (λ (l : Progress). accepted_code (kind_told l.accepted)) line) ∙ e);
+  jogs_now = λ s e. o.jogs_now s (sym (ap (λ (l : Progress). accepted_jog (kind_told l.accepted)) line) ∙ e);
+  jogged = o.jogged ∙ sym jogged;
+  alarmed = o.alarmed ∙ ap (λ (b : Bool). not b && o.limit) (sym unanswered);
+  unheld = λ e. o.unheld (sym unanswered ∙ e);
+  none = λ e. o.none (sym in_hand ∙ e);
+  are = subst (λ (l : Progress). AllByRecursion (λ (x : Outcome). (x.work ≡ o.work) × (x.settles ≡ o.settles) × (x.kind ≡ kind_told l.accepted)) hand) (sym line) o.are;
+}
+
+pub record_taken : (j : CourseJudge) (r : Record) (part : Known) (place : Steps3) (events : ℕ) (first : State) (sent : List Sent) (replies : List Reply) (records : List Record) → IsSoFar j first sent replies records
+    → Goes j.part r part → place ≡ moved_by j.place (r ∷ []) → events ≡ j.events + length (events_among (r ∷ []))
+    → IsSoFar (record j { part = part; place = place; events = events }) first sent replies (records ++ r ∷ [])
+record_taken j r part place events first sent replies records s goes here count = record {
+  point = s.point;
+  number = s.number;
+  state = s.state;
+  same_state = s.same_state;
+  locked = s.locked;
+  has_line = s.has_line;
+  unanswered = s.unanswered;
+  hand = s.hand;
+  line = same_line j (record j { part = part; place = place; events = events }) s.point s.hand s.line refl refl refl refl refl refl refl;
+  since = s.since;
+  begun = s.begun;
+  none_begun = s.none_begun;
+  from = s.from;
+  made = s.made ++ r ∷ [];
+  stands = here ∙ ap (λ (x : Steps3). moved_by x (r ∷ [])) s.stands ∙ sym (moved_on s.from s.made (r ∷ []));
+  ticks = s.ticks;
+  moves = s.moves;
+  asked = s.asked;
+  is_made = made_on (s.since ++ s.begun) s.made j.part part s.ticks s.moves r s.is_made goes;
+  loses = record {
+    closed = s.loses.closed;
+    others = s.loses.others;
+    split = s.loses.split;
+    over = (let few = s.loses.over in let more = more_ticks s.made r in omega (arith, few, more));
+    jogs = s.loses.jogs;
+    unsettled = s.loses.unsettled;
+  };
+  alarm = s.alarm;
+  events = (let before = s.events in
+      let both : length (events_among (records ++ r ∷ [])) ≡ length (events_among records) + length (events_among (r ∷ [])) = ap length (filter-append is_event records (r ∷ [])) ∙ length-append (events_among records) (events_among (r ∷ [])) in
+      omega (arith, before, both, count));
+  back = λ n more told rest last g.
+      subst (λ (rs : List Record). GoesTo (opening first) [] [] origin (n + j.cuts) (sent ++ more) (replies ++ (left_to_tell j ++ told)) rs last) (sym (append_assoc records (r ∷ []) rest))
+      (s.back n more told (r ∷ rest) last (subst (λ (rs : List Record). GoesTo s.point s.since s.begun s.from n more told rs last) (append_assoc s.made (r ∷ []) rest) g));
+}
+
+-- ---- the line at hand is over
+
+rest_or : (l : LastTask) → not_rest l ≡ true → l ≡ Rest → ⊥
+rest_or Nothing e f = absurd cc
+rest_or Rest e f = absurd cc
+rest_or Move e f = absurd cc
+
+-- and so it does not
+stays_so : (j : CourseJudge) (p : Point) (hand : List Outcome) (o : OfLine j p hand) → j.work.left ≡ [] → stays_on j.line ≡ true → o.settles ≡ false
+stays_so j p hand o done e = by (accepted_code (kind_told j.line.accepted)) refl where
+  last : j.line.last ≡ last_behind Nothing o.work
+  last = sym (ap (last_behind j.line.last) done) ∙ o.last
+
+  by : (c : Bool) → accepted_code (kind_told j.line.accepted) ≡ c → o.settles ≡ false
+  by false f = o.other f
+  by true f = o.stays (λ r. rest_or j.line.last (sym (ap (λ (b : Bool). not b || not_rest j.line.last) f) ∙ e) (last ∙ r))
+
+by_and : (a b : Bool) → (a && b) ≡ true → (a ≡ true) × (b ≡ true)
+by_and true b e = (refl, e)
+by_and false b e = absurd cc
+
+by_or : {A : Type 0} (a b c : Bool) → (a && b || c) ≡ true → (a ≡ true → b ≡ true → A) → (c ≡ true → A) → A
+by_or true true c e here there = here refl refl
+by_or true false c e here there = there e
+by_or false b c e here there = there e
+
+or_none : (b : Bool) → (b || false) ≡ b
+or_none true = refl
+or_none false = refl
+
+-- the lines at hand join those of which ticks may be left out
+all_join : {A : Type 0} (P : A → Type 0) (xs ys : List A) → AllByRecursion P xs → AllByRecursion P ys → AllByRecursion P (xs ++ ys)
+all_join P [] ys a b = b
+all_join P (x ∷ xs) ys a b = (a.0, all_join P xs ys a.1 b)
+
+all_by : {A : Type 0} (P Q : A → Type 0) → ((x : A) → P x → Q x) → (xs : List A) → AllByRecursion P xs → AllByRecursion Q xs
+all_by P Q f [] a = tt
+all_by P Q f (x ∷ xs) a = (f x a.0, all_by P Q f xs a.1)
+
+-- that goes on behind a line that is over, where nothing is owed or what may be left out is told
+pub line_closed : (j : CourseJudge) (l : Progress) (moved jog_moved jogs unsettled : Bool) (first : State) (sent : List Sent) (replies : List Reply) (records : List Record) (s : IsSoFar j first sent replies records)
+    → j.work.left ≡ [] → l ≡ fresh j.line.halts
+    → moved ≡ moved_now (accepted_code (kind_told j.line.accepted)) j.line j.moved → jog_moved ≡ moved_now (accepted_jog (kind_told j.line.accepted)) j.line j.jog_moved
+    → ((made : MayLose (record j { jogs = jogs; unsettled = unsettled }) s.since [] s.made) → IsSoFar (record j { line = l; in_hand = false; moved = moved; jog_moved = jog_moved; jogs = jogs; unsettled = unsettled }) first sent replies records)
+line_closed j l moved jog_moved jogs unsettled first sent replies records s done new is_moved is_jog loses = record {
+  point = s.point;
+  number = s.number;
+  state = s.state;
+  same_state = s.same_state;
+  locked = s.locked;
+  has_line = s.has_line;
+  unanswered = s.unanswered;
+  hand = [];
+  line = record {
+    work = [];
+    settles = false;
+    limit = s.line.limit;
+    last = ap (λ (p : Progress). last_behind p.last j.work.left) new ∙ ap (last_behind Nothing) done;
+    moves = ap (λ (p : Progress). p.moves || has_moves j.work.left) new ∙ ap has_moves done;
+    ticks = ap (λ (p : Progress). p.asks || has_ticks j.work.left) new ∙ ap has_ticks done;
+    halts = ap (λ (p : Progress). p.halts || has_halt j.work.left) new ∙ s.line.halts;
+    other = λ e. refl;
+    stays = λ e. refl;
+    moved = λ e n.
+        let b = by_and (stays_on j.line) (accepted_code (kind_told j.line.accepted) && j.line.moves || j.moved) (sym is_moved ∙ e) in
+        let stay = stays_so j s.point s.hand s.line done b.0 in
+        by_or (accepted_code (kind_told j.line.accepted)) j.line.moves j.moved b.1 (λ c m. s.line.moves_now stay c (moves_done m)) (λ m. s.line.moved m stay);
+    jog_moved = λ e n.
+        let b = by_and (stays_on j.line) (accepted_jog (kind_told j.line.accepted) && j.line.moves || j.jog_moved) (sym is_jog ∙ e) in
+        let stay = stays_so j s.point s.hand s.line done b.0 in
+        by_or (accepted_jog (kind_told j.line.accepted)) j.line.moves j.jog_moved b.1 (λ c m. s.line.jogs_now stay c (moves_done m)) (λ m. s.line.jog_moved m stay);
+    moves_now = λ n e m. absurd (let f : false ≡ true = sym (ap (λ (p : Progress). accepted_code (kind_told p.accepted)) new) ∙ e in cc);
+    jogs_now = λ n e m. absurd (let f : false ≡ true = sym (ap (λ (p : Progress). accepted_jog (kind_told p.accepted)) new) ∙ e in cc);
+    jogged = s.line.jogged;
+    alarmed = s.line.alarmed;
+    unheld = λ e. refl;
+    none = λ e. (refl, refl);
+    are = tt;
+  };
+  since = s.since;
+  begun = s.begun;
+  none_begun = s.none_begun;
+  from = s.from;
+  made = s.made;
+  stands = s.stands;
+  ticks = s.ticks;
+  moves = s.moves;
+  asked = s.asked;
+  is_made = s.is_made;
+  loses = record { closed = loses.closed; others = loses.others; split = loses.split; over = loses.over; jogs = loses.jogs; unsettled = loses.unsettled };
+  alarm = s.alarm;
+  events = s.events;
+  back = s.back;
+} where
+  moves_done : j.line.moves ≡ true → has_moves s.line.work ≡ true
+  moves_done m = sym s.line.moves ∙ ap (λ (b : Bool). b || has_moves j.work.left) m
+
+none_of : (xs ys : List Record) → xs ++ ys ≡ [] → (xs ≡ []) × (ys ≡ [])
+none_of [] ys e = (refl, e)
+none_of (x ∷ xs) ys e = absurd cc
+
+pub idle_owes : (j : CourseJudge) (first : State) (sent : List Sent) (replies : List Reply) (records : List Record) (s : IsSoFar j first sent replies records) → IsIdle j → (making j.part s.ticks s.moves).owed ≡ []
+idle_owes j first sent replies records s i =
+    let a = s.asked i.kept in
+    let ticks : s.ticks ≡ [] = a.0 ∙ ap (λ (ts : List Task). ticks_of_all (asks ts)) i.done in
+    let n = none_of (rest_of j.part.latest) (all_ticks j.part.next) i.none in
+    ap (λ (rs : List Record). rs ++ (all_ticks j.part.next ++ s.ticks)) n.0 ∙ ap (λ (rs : List Record). rs ++ s.ticks) n.1 ∙ ticks
+
+bare : (j : CourseJudge) (first : State) (sent : List Sent) (replies : List Reply) (records : List Record) (s : IsSoFar j first sent replies records) → j.unanswered ≡ false → IsMade s.since s.made (making j.part s.ticks s.moves)
+bare j first sent replies records s answered =
+    subst (λ (os : List Outcome). IsMade os s.made (making j.part s.ticks s.moves)) (ap (λ (os : List Outcome). s.since ++ os) (s.none_begun answered) ∙ append-nil s.since) s.is_made
+
+-- then no line has lost a tick
+pub idle_loses : (j : CourseJudge) (jogs unsettled : Bool) (first : State) (sent : List Sent) (replies : List Reply) (records : List Record) (s : IsSoFar j first sent replies records) → IsIdle j
+    → MayLose (record j { jogs = jogs; unsettled = unsettled }) s.since [] s.made
+idle_loses j jogs unsettled first sent replies records s i = record {
+  closed = s.since;
+  others = [];
+  split = sym (append-nil (s.since ++ []) ∙ append-nil s.since);
+  over = entered s.since s.made (making j.part s.ticks s.moves) (bare j first sent replies records s i.answered) (idle_owes j first sent replies records s i);
+  jogs = λ e. tt;
+  unsettled = λ e. tt;
+}
+
+-- and else the line at hand may have
+pub other_loses : (j : CourseJudge) (first : State) (sent : List Sent) (replies : List Reply) (records : List Record) (s : IsSoFar j first sent replies records) → j.work.left ≡ []
+    → MayLose (record j { jogs = j.jogs && (accepted_jog (kind_told j.line.accepted) || not j.line.asks); unsettled = j.unsettled && (j.unanswered || stays_on j.line) }) s.since [] s.made
+other_loses j first sent replies records s done = record {
+  closed = s.loses.closed;
+  others = s.loses.others ++ s.hand;
+  split = s.loses.split ∙ append_assoc s.loses.closed s.loses.others s.hand ∙ sym (append-nil (s.loses.closed ++ (s.loses.others ++ s.hand)));
+  over = s.loses.over;
+  jogs = λ e.
+      let b = by_and j.jogs (accepted_jog (kind_told j.line.accepted) || not j.line.asks) e in
+      all_join (λ o. (accepted_jog o.kind || not (has_ticks o.work)) ≡ true) s.loses.others s.hand (s.loses.jogs b.0)
+      (all_by _ (λ o. (accepted_jog o.kind || not (has_ticks o.work)) ≡ true)
+      (λ o is. ap (λ k. accepted_jog k || not (has_ticks o.work)) is.2 ∙ ap (λ (ts : List Task). accepted_jog (kind_told j.line.accepted) || not (has_ticks ts)) is.0
+      ∙ ap (λ (t : Bool). accepted_jog (kind_told j.line.accepted) || not t) (sym ticks) ∙ b.1) s.hand s.line.are);
+  unsettled = λ e.
+      let b = by_and j.unsettled (j.unanswered || stays_on j.line) e in
+      all_join (λ o. o.settles ≡ false) s.loses.others s.hand (s.loses.unsettled b.0) (by_answer j.unanswered refl b.1);
+} where
+  by_answer : (u : Bool) → j.unanswered ≡ u → (u || stays_on j.line) ≡ true → AllByRecursion (λ o. o.settles ≡ false) s.hand
+  by_answer true u e = subst (λ (os : List Outcome). AllByRecursion (λ (o : Outcome). o.settles ≡ false) os) (sym (s.line.unheld u)) tt
+  by_answer false u e = all_by _ (λ o. o.settles ≡ false) (λ o is. is.1 ∙ stays_so j s.point s.hand s.line done e) s.hand s.line.are
+
+  ticks : j.line.asks ≡ has_ticks s.line.work
+  ticks = sym (or_none j.line.asks) ∙ ap (λ (ts : List Task). j.line.asks || has_ticks ts) (sym done) ∙ s.line.ticks
+
+-- ---- as the code has it
+
+abbrev jogs_now : CourseJudge → Bool → Bool
+jogs_now j idle = idle || (j.jogs && (accepted_jog (kind_told j.line.accepted) || not j.line.asks))
+
+abbrev unsettled_now : CourseJudge → Bool → Bool
+unsettled_now j idle = idle || (j.unsettled && (j.unanswered || stays_on j.line))
+
+loses_by : (j : CourseJudge) (idle : Bool) (first : State) (sent : List Sent) (replies : List Reply) (records : List Record) (s : IsSoFar j first sent replies records) → j.work.left ≡ [] → (idle ≡ true → IsIdle j)
+    → MayLose (record j { jogs = jogs_now j idle; unsettled = unsettled_now j idle }) s.since [] s.made
+loses_by j true first sent replies records s done is = idle_loses j true true first sent replies records s (is refl)
+loses_by j false first sent replies records s done is = other_loses j first sent replies records s done
+
+pub closes : (j : CourseJudge) (idle : Bool) (l : Progress) (moved jog_moved jogs unsettled : Bool) (first : State) (sent : List Sent) (replies : List Reply) (records : List Record) → IsSoFar j first sent replies records
+    → j.work.left ≡ [] → (idle ≡ true → IsIdle j) → l ≡ fresh j.line.halts → jogs ≡ jogs_now j idle → unsettled ≡ unsettled_now j idle
+    → moved ≡ moved_now (accepted_code (kind_told j.line.accepted)) j.line j.moved → jog_moved ≡ moved_now (accepted_jog (kind_told j.line.accepted)) j.line j.jog_moved
+    → IsSoFar (record j { line = l; in_hand = false; moved = moved; jog_moved = jog_moved; jogs = jogs; unsettled = unsettled }) first sent replies records
+closes j idle l moved jog_moved jogs unsettled first sent replies records s done is new jogs_is unsettled_is moved_is jog_is =
+    line_closed j l moved jog_moved jogs unsettled first sent replies records s done new moved_is jog_is
+    (subst (λ (b : Bool). MayLose (record j { jogs = b; unsettled = unsettled }) s.since [] s.made) (sym jogs_is)
+    (subst (λ (b : Bool). MayLose (record j { jogs = jogs_now j idle; unsettled = b }) s.since [] s.made) (sym unsettled_is) (loses_by j idle first sent replies records s done is)))

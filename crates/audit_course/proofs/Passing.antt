@@ -1,0 +1,239 @@
+-- A judge goes on: task by task, and by a line that is begun.
+use Rattle.std.proofs.Common.{◌≡◌, ◌+◌, Bool, true, false, cond, not, ◌&&◌, ◌||◌, List, [], ◌∷◌, ◌++◌, drop, append-nil, append_assoc, refl, sym, ap, ◌∙◌, subst, IsTrue, ◌↔◌, None, Some}
+use Rattle.std.specs.declared.option.Option.{Option}
+use Rattle.std.specs.List.{AllByRecursion}
+use Rattle.std.proofs.lemmas.Grind.{flat_map-append}
+use Rattle.flight.specs.Places.{origin}
+use Rattle.status_report.specs.declared.Reply.{Reply}
+use Rattle.step_line.specs.Asking.Asked.{a_move, a_mark, a_rest}
+use Rattle.step_line.specs.Asking.{ticks_of_all, ticks_of_one, moves_of, move_of}
+use Rattle.step_line.specs.declared.Record.{Record}
+use Rattle.step_line.specs.declared.planned_move.PlannedMove.{PlannedMove}
+use Rattle.run_rules.specs.declared.State.{State}
+use Rattle.run_rules.specs.Work.{Task, Outcome, tells, told_by, asks, asked_by_task, asks_move, has_moves, accepted_code, accepted_jog}
+use Rattle.run_rules.specs.Work.Task.{ask, tell, pause, normal, finish, halt}
+use Rattle.line_interpreter.specs.Desks.{kind_told}
+use Rattle.line_interpreter.specs.Interpreting.{Interpreting}
+use Rattle.line_interpreter.specs.Lefts.{IsNextOf, IsTodo}
+use Rattle.line_interpreter.specs.declared.tasks.Todo.{Todo}
+use Rattle.line_interpreter.specs.declared.tasks.Todo.TheVariants as todos
+use Rattle.step_line.specs.declared.Mark.{Mark}
+use Rattle.part_making.specs.declared.Item.TheVariants as items
+use Rattle.part_making.specs.Judging.{Known, making, item_ticks, item_moves}
+use Rattle.part_making.specs.declared.Item.{Item}
+use Rattle.part_making.proofs.Refused.{asked as asked_next}
+use Rattle.run_texts.specs.Making.{Making, IsMade}
+use Rattle.run_texts.specs.Points.{Point, opening}
+use Rattle.run_texts.specs.Sent.{Sent}
+use Rattle.audit_course.specs.declared.LastTask.{LastTask}
+use Rattle.audit_course.specs.declared.LastTask.TheVariants.{Nothing, Rest}
+use Rattle.audit_course.specs.declared.Progress.{Progress}
+use Rattle.audit_course.specs.declared.judge.CourseJudge.{CourseJudge}
+use Rattle.audit_course.specs.Progressing.{last_behind, asks_ticks, has_ticks, is_halt, has_halt, Counts, IsQuiet, IsItemOf}
+use Rattle.audit_course.specs.SoFar.{GoesTo, IsSoFar, OfLine, left_to_tell}
+use Rattle.audit_course.proofs.Saying.{last_on, or_on}
+
+-- ---- a task is done
+
+-- it counts in the line at hand
+counted : (j k : CourseJudge) (p : Point) (hand : List Outcome) (t : Task) → OfLine j p hand → IsNextOf t j.work.left → k.work.left ≡ drop 1 j.work.left → Counts j.line k.line t
+    → k.moved ≡ j.moved → k.jog_moved ≡ j.jog_moved → k.jogged ≡ j.jogged → k.unanswered ≡ j.unanswered → k.in_hand ≡ j.in_hand → OfLine k p hand
+counted j k p hand t o next left counts moved jog_moved jogged unanswered in_hand = record {
+  work = o.work;
+  settles = o.settles;
+  limit = o.limit;
+  last = ap (λ (l : LastTask). last_behind l k.work.left) counts.last ∙ ap (last_behind (last_behind j.line.last (t ∷ []))) left
+      ∙ sym (last_on j.line.last t (drop 1 j.work.left)) ∙ ap (last_behind j.line.last) (sym next) ∙ o.last;
+  moves = flag has_moves (asks_move t) (λ ts. refl) k.line.moves j.line.moves counts.moves o.work o.moves;
+  ticks = flag has_ticks (asks_ticks t) (λ ts. refl) k.line.asks j.line.asks counts.asks o.work o.ticks;
+  halts = ap (λ (b : Bool). b || has_halt k.work.left) counts.halts ∙ ap (λ (ts : List Task). (j.line.halts || is_halt t) || has_halt ts) left
+      ∙ or_on j.line.halts (is_halt t) (has_halt (drop 1 j.work.left)) ∙ ap (λ (ts : List Task). j.line.halts || has_halt ts) (sym next) ∙ o.halts;
+  other = λ e. o.other (sym kind ∙ e);
+  stays = o.stays;
+  moved = λ e. o.moved (sym moved ∙ e);
+  jog_moved = λ e. o.jog_moved (sym jog_moved ∙ e);
+  moves_now = λ s e. o.moves_now s (sym kind ∙ e);
+  jogs_now = λ s e. o.jogs_now s (sym jog ∙ e);
+  jogged = o.jogged ∙ sym jogged;
+  alarmed = o.alarmed ∙ ap (λ (b : Bool). not b && o.limit) (sym unanswered);
+  unheld = λ e. o.unheld (sym unanswered ∙ e);
+  none = λ e. o.none (sym in_hand ∙ e);
+  are = are;
+} where
+  kind : accepted_code (kind_told k.line.accepted) ≡ accepted_code (kind_told j.line.accepted)
+  kind = ap (λ a. accepted_code (kind_told a)) counts.accepted
+
+  jog : accepted_jog (kind_told k.line.accepted) ≡ accepted_jog (kind_told j.line.accepted)
+  jog = ap (λ a. accepted_jog (kind_told a)) counts.accepted
+
+  are : AllByRecursion (λ x. (x.work ≡ o.work) × (x.settles ≡ o.settles) × (x.kind ≡ kind_told k.line.accepted)) hand
+  are = subst (λ a. AllByRecursion (λ (x : Outcome). (x.work ≡ o.work) × (x.settles ≡ o.settles) × (x.kind ≡ kind_told a)) hand) (sym counts.accepted) o.are
+
+  flag : (f : List Task → Bool) (here : Bool) → ((ts : List Task) → f (t ∷ ts) ≡ (here || f ts)) → (now before : Bool) → now ≡ (before || here) → (all : List Task)
+      → (before || f j.work.left) ≡ f all → (now || f k.work.left) ≡ f all
+  flag f here on now before e all is = ap (λ (b : Bool). b || f k.work.left) e ∙ ap (λ (ts : List Task). (before || here) || f ts) left
+      ∙ or_on before here (f (drop 1 j.work.left)) ∙ ap (λ (b : Bool). before || b) (sym (on (drop 1 j.work.left))) ∙ ap (λ (ts : List Task). before || f ts) (sym next) ∙ is
+
+told_on : (replies now left told : List Reply) → replies ++ ((now ++ left) ++ told) ≡ (replies ++ now) ++ (left ++ told)
+told_on replies now left told = ap (λ (rs : List Reply). replies ++ rs) (append_assoc now left told) ∙ sym (append_assoc replies now (left ++ told))
+
+-- A task is done, which tells something or nothing, and asks for what the part is to have from then on.
+pub task_done : (j : CourseJudge) (t : Task) (w : Interpreting) (l : Progress) (part : Known) (lost : Bool) (first : State) (sent : List Sent) (replies now : List Reply) (records : List Record)
+    (ticks : List Record) (moves : List PlannedMove) (s : IsSoFar j first sent replies records)
+    → IsNextOf t j.work.left → w ≡ record j.work { left = drop 1 j.work.left } → Counts j.line l t
+    → left_to_tell j ≡ now ++ cond j.unanswered [] (tells (drop 1 j.work.left))
+    → (lost ≡ false → (ticks ≡ ticks_of_all (asks (drop 1 j.work.left))) × (moves ≡ moves_of (asks (drop 1 j.work.left))))
+    → IsMade (s.since ++ s.begun) s.made (making part ticks moves)
+    → IsSoFar (record j { work = w; line = l; part = part; lost = lost }) first sent (replies ++ now) records
+task_done j t w l part lost first sent replies now records ticks moves s next is counts tell_now asked made = record {
+  point = s.point;
+  number = s.number ∙ sym (ap (λ (i : Interpreting). i.number) is);
+  state = s.state;
+  same_state = λ e. s.same_state e ∙ sym (ap (λ (i : Interpreting). i.state) is);
+  locked = s.locked;
+  has_line = s.has_line;
+  unanswered = s.unanswered;
+  hand = s.hand;
+  line = counted j (record j { work = w; line = l; part = part; lost = lost }) s.point s.hand t s.line next left counts refl refl refl refl refl;
+  since = s.since;
+  begun = s.begun;
+  none_begun = s.none_begun;
+  from = s.from;
+  made = s.made;
+  stands = s.stands;
+  ticks = ticks;
+  moves = moves;
+  asked = λ e.
+      let a = asked e in
+      (a.0 ∙ ap (λ (ts : List Task). ticks_of_all (asks ts)) (sym left), a.1 ∙ ap (λ (ts : List Task). moves_of (asks ts)) (sym left));
+  is_made = made;
+  loses = record { closed = s.loses.closed; others = s.loses.others; split = s.loses.split; over = s.loses.over; jogs = s.loses.jogs; unsettled = s.loses.unsettled };
+  alarm = s.alarm;
+  events = s.events;
+  back = λ n more told rest last g.
+      subst (λ (rs : List Reply). GoesTo (opening first) [] [] origin (n + j.cuts) (sent ++ more) rs (records ++ rest) last) (same told) (s.back n more told rest last g);
+} where
+  left : w.left ≡ drop 1 j.work.left
+  left = ap (λ (i : Interpreting). i.left) is
+
+  same : (told : List Reply) → replies ++ (left_to_tell j ++ told) ≡ (replies ++ now) ++ (cond j.unanswered [] (tells w.left) ++ told)
+  same told =
+      ap (λ (rs : List Reply). replies ++ (rs ++ told)) (tell_now ∙ ap (λ (ts : List Task). now ++ cond j.unanswered [] (tells ts)) (sym left))
+      ∙ told_on replies now (cond j.unanswered [] (tells w.left)) told
+
+-- ---- the tasks, one by one
+
+first_told : (u : Bool) (r : Reply) (rs : List Reply) → u ≡ false → cond u [] (r ∷ rs) ≡ (r ∷ []) ++ cond u [] rs
+first_told true r rs e = absurd cc
+first_told false r rs e = refl
+
+none_told : (u : Bool) (rs : List Reply) → u ≡ true → cond u [] rs ≡ []
+none_told true rs e = refl
+none_told false rs e = absurd cc
+
+-- a reply is told
+pub reply_told : (j : CourseJudge) (r : Reply) (w : Interpreting) (l : Progress) (first : State) (sent : List Sent) (replies : List Reply) (records : List Record) → IsSoFar j first sent replies records
+    → IsNextOf (tell r) j.work.left → j.unanswered ≡ false → w ≡ record j.work { left = drop 1 j.work.left } → Counts j.line l (tell r)
+    → IsSoFar (record j { work = w; line = l }) first sent (replies ++ r ∷ []) records
+reply_told j r w l first sent replies records s next answered is counts =
+    task_done j (tell r) w l j.part j.lost first sent replies (r ∷ []) records s.ticks s.moves s next is counts
+    (ap (λ (ts : List Task). cond j.unanswered [] (tells ts)) next ∙ first_told j.unanswered r (tells (drop 1 j.work.left)) answered)
+    (λ e. let a = s.asked e in (a.0 ∙ ap (λ (ts : List Task). ticks_of_all (asks ts)) next, a.1 ∙ ap (λ (ts : List Task). moves_of (asks ts)) next))
+    s.is_made
+
+none_cond : (u : Bool) → ◌≡◌ {A = List Reply} (cond u [] []) []
+none_cond true = refl
+none_cond false = refl
+
+quiet_told : (u : Bool) (t : Task) (ts : List Task) → cond u [] (told_by t) ≡ [] → cond u [] (tells (t ∷ ts)) ≡ cond u [] (tells ts)
+quiet_told true t ts e = refl
+quiet_told false t ts e = ap (λ (rs : List Reply). rs ++ tells ts) e
+
+asks_on : (t : Task) (ts : List Task) → asks (t ∷ ts) ≡ asked_by_task t ++ asks ts
+asks_on t ts = refl
+
+quiet_ticks : (t : Task) (ts : List Task) → ticks_of_all (asked_by_task t) ≡ [] → ticks_of_all (asks (t ∷ ts)) ≡ ticks_of_all (asks ts)
+quiet_ticks t ts e = flat_map-append ticks_of_one (asked_by_task t) (asks ts) ∙ ap (λ (rs : List Record). rs ++ ticks_of_all (asks ts)) e
+
+quiet_moves : (t : Task) (ts : List Task) → moves_of (asked_by_task t) ≡ [] → moves_of (asks (t ∷ ts)) ≡ moves_of (asks ts)
+quiet_moves t ts e = flat_map-append move_of (asked_by_task t) (asks ts) ∙ ap (λ (ms : List PlannedMove). ms ++ moves_of (asks ts)) e
+
+pub quiet_done : (j : CourseJudge) (t : Task) (w : Interpreting) (l : Progress) (first : State) (sent : List Sent) (replies : List Reply) (records : List Record) → IsSoFar j first sent replies records
+    → IsNextOf t j.work.left → IsQuiet j.unanswered t → w ≡ record j.work { left = drop 1 j.work.left } → Counts j.line l t
+    → IsSoFar (record j { work = w; line = l }) first sent replies records
+quiet_done j t w l first sent replies records s next quiet is counts =
+    subst (λ (rs : List Reply). IsSoFar (record j { work = w; line = l }) first sent rs records) (append-nil replies)
+    (task_done j t w l j.part j.lost first sent replies [] records s.ticks s.moves s next is counts
+    (ap (λ (ts : List Task). cond j.unanswered [] (tells ts)) next ∙ quiet_told j.unanswered t (drop 1 j.work.left) quiet.told)
+    (λ e.
+    let a = s.asked e in (
+      a.0 ∙ ap (λ (ts : List Task). ticks_of_all (asks ts)) next ∙ quiet_ticks t (drop 1 j.work.left) quiet.ticks,
+      a.1 ∙ ap (λ (ts : List Task). moves_of (asks ts)) next ∙ quiet_moves t (drop 1 j.work.left) quiet.moves,
+    ))
+    s.is_made)
+
+ask_told : (u : Bool) (t : Task) (ts : List Task) → told_by t ≡ [] → cond u [] (tells (t ∷ ts)) ≡ cond u [] (tells ts)
+ask_told u t ts e = ap (λ (rs : List Reply). cond u [] (rs ++ tells ts)) e
+
+pub item_asked : (j : CourseJudge) (t : Task) (item : Item) (w : Interpreting) (l : Progress) (part : Known) (first : State) (sent : List Sent) (replies : List Reply) (records : List Record) → IsSoFar j first sent replies records
+    → IsNextOf t j.work.left → IsItemOf t item → j.lost ≡ false → j.part.next ≡ None → part ≡ record j.part { next = Some item } → w ≡ record j.work { left = drop 1 j.work.left } → Counts j.line l t
+    → IsSoFar (record j { work = w; line = l; part = part }) first sent replies records
+item_asked j t item w l part first sent replies records s next of kept none part_is is counts =
+    let rest = drop 1 j.work.left in
+    let a = s.asked kept in
+    let ticks : s.ticks ≡ item_ticks item ++ ticks_of_all (asks rest) =
+    a.0 ∙ ap (λ (ts : List Task). ticks_of_all (asks ts)) next ∙ flat_map-append ticks_of_one (asked_by_task t) (asks rest) ∙ ap (λ (rs : List Record). rs ++ ticks_of_all (asks rest)) of.ticks in
+    let moves : s.moves ≡ item_moves item ++ moves_of (asks rest) =
+    a.1 ∙ ap (λ (ts : List Task). moves_of (asks ts)) next ∙ flat_map-append move_of (asked_by_task t) (asks rest) ∙ ap (λ (ms : List PlannedMove). ms ++ moves_of (asks rest)) of.moves in
+    let same : making j.part s.ticks s.moves ≡ making part (ticks_of_all (asks rest)) (moves_of (asks rest)) =
+    ap (λ (rs : List Record). making j.part rs s.moves) ticks ∙ ap (λ (ms : List PlannedMove). making j.part (item_ticks item ++ ticks_of_all (asks rest)) ms) moves
+    ∙ asked_next j.part item (ticks_of_all (asks rest)) (moves_of (asks rest)) none ∙ ap (λ (k : Known). making k (ticks_of_all (asks rest)) (moves_of (asks rest))) (sym part_is) in
+    subst (λ (rs : List Reply). IsSoFar (record j { work = w; line = l; part = part }) first sent rs records) (append-nil replies)
+    (task_done j t w l part j.lost first sent replies [] records (ticks_of_all (asks rest)) (moves_of (asks rest)) s next is counts
+    (ap (λ (ts : List Task). cond j.unanswered [] (tells ts)) next ∙ ask_told j.unanswered t rest of.told)
+    (λ e. (refl, refl))
+    (subst (λ (m : Making). IsMade (s.since ++ s.begun) s.made m) same s.is_made))
+
+-- what a task asks for is not recorded before the part ends
+pub task_lost : (j : CourseJudge) (t : Task) (w : Interpreting) (l : Progress) (first : State) (sent : List Sent) (replies : List Reply) (records : List Record) → IsSoFar j first sent replies records
+    → IsNextOf t j.work.left → told_by t ≡ [] → w ≡ record j.work { left = drop 1 j.work.left } → Counts j.line l t
+    → IsSoFar (record j { work = w; line = l; lost = true }) first sent replies records
+task_lost j t w l first sent replies records s next told is counts =
+    subst (λ (rs : List Reply). IsSoFar (record j { work = w; line = l; lost = true }) first sent rs records) (append-nil replies)
+    (task_done j t w l j.part true first sent replies [] records s.ticks s.moves s next is counts
+    (ap (λ (ts : List Task). cond j.unanswered [] (tells ts)) next ∙ ask_told j.unanswered t (drop 1 j.work.left) told)
+    (λ e. absurd cc)
+    s.is_made)
+
+-- ---- which tasks are so
+
+same_task : (t u : Task) (left : List Task) → IsNextOf t left → IsNextOf u left → t ≡ u
+same_task t u left a b = cc (a, b)
+
+pub quiet_by : (u : Bool) (todo : Todo) (left : List Task) → IsTodo todo left → (todo ≡ todos.Move → ⊥) → ((m : Mark) → todo ≡ todos.Mark m → ⊥) → (todo ≡ todos.Tell → u ≡ true) → (t : Task) → IsNextOf t left → IsQuiet u t
+quiet_by u todos.Nothing left is move mark tells t next = absurd (cc (is, next))
+quiet_by u todos.Rest left is move mark tells t next = subst (IsQuiet u) (same_task (ask a_rest) t left is next) (record { told = none_cond u; ticks = refl; moves = refl })
+quiet_by u (todos.Mark m) left is move mark tells t next = absurd (mark m refl)
+quiet_by u todos.Move left is move mark tells t next = absurd (move refl)
+quiet_by u todos.Tell left is move mark tells t next = subst (IsQuiet u) (same_task (tell is.0) t left is.1 next) (record { told = none_told u (is.0 ∷ []) (tells refl); ticks = refl; moves = refl })
+quiet_by u todos.Pause left is move mark tells t next = subst (IsQuiet u) (same_task pause t left is next) (record { told = none_cond u; ticks = refl; moves = refl })
+quiet_by u todos.Normal left is move mark tells t next = subst (IsQuiet u) (same_task normal t left is next) (record { told = none_cond u; ticks = refl; moves = refl })
+quiet_by u todos.Finish left is move mark tells t next = subst (IsQuiet u) (same_task finish t left is next) (record { told = none_cond u; ticks = refl; moves = refl })
+quiet_by u todos.Halt left is move mark tells t next = subst (IsQuiet u) (same_task halt t left is next) (record { told = none_cond u; ticks = refl; moves = refl })
+
+pub move_item : (m : PlannedMove) (t : Task) (left : List Task) → IsNextOf (ask (a_move m)) left → IsNextOf t left → IsItemOf t (items.Move m)
+move_item m t left is next = subst (λ (x : Task). IsItemOf x (items.Move m)) (same_task (ask (a_move m)) t left is next) (record { ticks = append-nil (item_ticks (items.Move m)); moves = refl; told = refl })
+
+pub mark_item : (m : Mark) (t : Task) (left : List Task) → IsNextOf (ask (a_mark m)) left → IsNextOf t left → IsItemOf t (items.Mark m)
+mark_item m t left is next = subst (λ (x : Task). IsItemOf x (items.Mark m)) (same_task (ask (a_mark m)) t left is next) (record { ticks = refl; moves = refl; told = refl })
+
+pub mark_untold : (m : Mark) (left : List Task) → IsNextOf (ask (a_mark m)) left → (t : Task) → IsNextOf t left → told_by t ≡ []
+mark_untold m left is t next = subst (λ (x : Task). told_by x ≡ []) (same_task (ask (a_mark m)) t left is next) refl
+
+pub some_next : (left : List Task) → (left ≡ [] → ⊥) → (t : Task) × IsNextOf t left
+some_next [] some = absurd (some refl)
+some_next (t ∷ ts) some = (t, refl)
+
+pub not_waiting : (next : Option Item) (waits : Bool) → (IsTrue waits ↔ (next ≡ None → ⊥)) → waits ≡ false → next ≡ None
+not_waiting None waits tells e = refl
+not_waiting (Some item) waits tells e = absurd (let f : false ≡ true = subst IsTrue e (tells.1 (λ x. cc)) in cc)

@@ -1,0 +1,208 @@
+-- A course so far, as its judge knows it.
+use Rattle.std.specs.Prelude.{◌≡◌, ◌≤◌, ℕ, ◌+◌, Bool, true, false, cond, not, ◌&&◌, ◌||◌, List, [], ◌∷◌, ◌++◌, length, map}
+use Rattle.std.specs.List.{AllByRecursion, list_any}
+use Rattle.units.specs.declared.Steps3.{Steps3}
+use Rattle.flight.specs.Places.{moved_by, origin}
+use Rattle.legal_heads.specs.Whole.{events_among}
+use Rattle.status_report.specs.declared.Reply.{Reply}
+use Rattle.step_line.specs.Asking.{ticks_of_all, moves_of, ticks_among}
+use Rattle.step_line.specs.declared.Mark.TheVariants.{Reset as ResetMark}
+use Rattle.step_line.specs.declared.Record.{Record}
+use Rattle.step_line.specs.declared.Record.TheVariants as kinds
+use Rattle.step_line.specs.declared.planned_move.PlannedMove.{PlannedMove}
+use Rattle.run_rules.specs.declared.State.{State}
+use Rattle.run_rules.specs.declared.machine.Machine.{Machine}
+use Rattle.run_rules.specs.Finding.{Found}
+use Rattle.run_rules.specs.Reports.{raises_alarm}
+use Rattle.run_rules.specs.Work.{Task, Outcome, tells, asks, has_moves, accepted_code, accepted_jog}
+use Rattle.line_interpreter.specs.Desks.{kind_told}
+use Rattle.legal_heads.specs.Speeds.{MayStop}
+use Rattle.part_making.specs.Judging.{making, owed_of, coming_of, head_of}
+use Rattle.run_texts.specs.Courses.{Passed, Follows, cuts_in}
+use Rattle.run_texts.specs.Left.{behind_lines}
+use Rattle.run_texts.specs.Making.{IsMade}
+use Rattle.run_texts.specs.Parts.{parts_of}
+use Rattle.run_texts.specs.Points.{Point, BecomesAt, opening}
+use Rattle.run_texts.specs.Recorded.{AreRecorded, ticks_for_all}
+use Rattle.run_texts.specs.Sent.{Sent}
+use Rattle.run_texts.specs.Sent.Sent.{a_text, a_stop}
+use Rattle.run_texts.specs.Told.{told_in}
+use Rattle.audit_course.specs.declared.LastTask.TheVariants.{Nothing, Rest}
+use Rattle.audit_course.specs.declared.judge.CourseJudge.{CourseJudge}
+use Rattle.audit_course.specs.Progressing.{last_behind, has_ticks, has_halt}
+
+-- What is left of texts that fit goes on to this point, from another one on: `GoesOn` of `run_texts`, with the point told.
+pub record GoesTo (p : Point) (since begun : List Outcome) (place : Steps3) (cuts : ℕ) (sent : List Sent) (replies : List Reply) (records : List Record) (last : Point) : Type 0 where
+  pub course : List Passed
+  pub follows : Follows p sent course last
+  pub told : replies ≡ told_in course
+  pub recorded : AreRecorded place (behind_lines since begun (parts_of course)) records
+  pub few : cuts_in course ≤ cuts
+
+-- what is still told of the line at hand; of one that is not answered nothing
+abbrev pub left_to_tell : CourseJudge → List Reply
+left_to_tell j = cond j.unanswered [] (tells j.work.left)
+
+-- ---- the line at hand
+
+-- A line of this work was begun, or none: what is left to do of it, and what its tasks so far say of it, agree. What it
+-- leaves for the next is known where it does not settle. It is at hand, unless it is not answered.
+pub record OfLine (j : CourseJudge) (p : Point) (hand : List Outcome) : Type 0 where
+  pub work : List Task
+  pub settles : Bool
+  pub limit : Bool
+  pub last : last_behind j.line.last j.work.left ≡ last_behind Nothing work
+  pub moves : (j.line.moves || has_moves j.work.left) ≡ has_moves work
+  pub ticks : (j.line.asks || has_ticks j.work.left) ≡ has_ticks work
+  pub halts : (j.line.halts || has_halt j.work.left) ≡ limit
+  pub other : accepted_code (kind_told j.line.accepted) ≡ false → settles ≡ false
+  pub stays : (last_behind Nothing work ≡ Rest → ⊥) → settles ≡ false
+  pub moved : j.moved ≡ true → settles ≡ false → p.before.moved ≡ true
+  pub jog_moved : j.jog_moved ≡ true → settles ≡ false → p.before.jog_moved ≡ true
+  pub moves_now : settles ≡ false → accepted_code (kind_told j.line.accepted) ≡ true → has_moves work ≡ true → p.before.moved ≡ true
+  pub jogs_now : settles ≡ false → accepted_jog (kind_told j.line.accepted) ≡ true → has_moves work ≡ true → p.before.jog_moved ≡ true
+  pub jogged : p.before.jogged ≡ j.jogged
+  pub alarmed : p.before.alarmed ≡ (not j.unanswered && limit)
+  pub unheld : j.unanswered ≡ true → hand ≡ []
+  pub none : j.in_hand ≡ false → (hand ≡ []) × (settles ≡ false)
+  pub are : AllByRecursion (λ o. (o.work ≡ work) × (o.settles ≡ settles) × (o.kind ≡ kind_told j.line.accepted)) hand
+
+-- ---- the part
+
+-- Of the lines of a part the first have all their ticks; of the others but the last what may be left out is known.
+pub record MayLose (j : CourseJudge) (since hand : List Outcome) (made : List Record) : Type 0 where
+  pub closed : List Outcome
+  pub others : List Outcome
+  pub split : since ≡ (closed ++ others) ++ hand
+  pub over : length (ticks_for_all closed) ≤ length (ticks_among made)
+  pub jogs : j.jogs ≡ true → AllByRecursion (λ o. (accepted_jog o.kind || not (has_ticks o.work)) ≡ true) others
+  pub unsettled : j.unsettled ≡ true → AllByRecursion (λ o. o.settles ≡ false) others
+
+-- ---- so far
+
+-- From the opening on the judge was told of these lines and resets, replies and records. A course leads through them, and
+-- goes on as long as one goes on from here.
+pub record IsSoFar (j : CourseJudge) (first : State) (sent : List Sent) (replies : List Reply) (records : List Record) : Type 0 where
+  pub point : Point
+  pub number : point.before.number ≡ j.work.number
+  pub state : point.before.state ≡ j.state
+  pub same_state : j.unanswered ≡ false → j.state ≡ j.work.state
+  pub locked : point.locked ≡ j.locked
+  pub has_line : point.has_line ≡ j.has_line
+  pub unanswered : point.unanswered ≡ j.unanswered
+  pub hand : List Outcome
+  pub line : OfLine j point hand
+  pub since : List Outcome
+  pub begun : List Outcome
+  pub none_begun : j.unanswered ≡ false → begun ≡ []
+  pub from : Steps3
+  pub made : List Record
+  pub stands : j.place ≡ moved_by from made
+  pub ticks : List Record
+  pub moves : List PlannedMove
+  pub asked : j.lost ≡ false → (ticks ≡ ticks_of_all (asks j.work.left)) × (moves ≡ moves_of (asks j.work.left))
+  pub is_made : IsMade (since ++ begun) made (making j.part ticks moves)
+  pub loses : MayLose j since hand made
+  pub alarm : point.before.alarmed ≡ true → list_any raises_alarm since ≡ true
+  pub events : j.events ≡ length (events_among records)
+  pub back : (n : ℕ) (more : List Sent) (told : List Reply) (rest : List Record) (last : Point) → GoesTo point since begun from n more told (made ++ rest) last →
+      GoesTo (opening first) [] [] origin (n + j.cuts) (sent ++ more) (replies ++ (left_to_tell j ++ told)) (records ++ rest) last
+
+-- It has come to its end: with these texts, and one record of the end, it leads to a point, whatever more cuts may come.
+pub record IsOver (j : CourseJudge) (first : State) (sent : List Sent) (replies : List Reply) (records : List Record) : Type 0 where
+  pub last : Point
+  pub number : last.before.number ≡ j.work.number
+  pub alarmed : last.before.alarmed ≡ j.line.halts
+  pub fits : (n : ℕ) → GoesTo (opening first) [] [] origin (n + j.cuts) sent replies (records ++ kinds.End ∷ []) last
+
+-- ---- steps
+
+-- nothing more was told
+abbrev pub StaysSoFar : CourseJudge → CourseJudge → Type 0
+StaysSoFar j k = (first : State) (sent : List Sent) (replies : List Reply) (records : List Record) → IsSoFar j first sent replies records → IsSoFar k first sent replies records
+
+-- these lines and resets more were told
+abbrev pub AddsSent : CourseJudge → CourseJudge → List Sent → Type 0
+AddsSent j k more = (first : State) (sent : List Sent) (replies : List Reply) (records : List Record) → IsSoFar j first sent replies records → IsSoFar k first (sent ++ more) replies records
+
+-- a reply more was told
+abbrev pub AddsReply : CourseJudge → CourseJudge → Reply → Type 0
+AddsReply j k r = (first : State) (sent : List Sent) (replies : List Reply) (records : List Record) → IsSoFar j first sent replies records → IsSoFar k first sent (replies ++ r ∷ []) records
+
+-- a record more was told
+abbrev pub AddsRecord : CourseJudge → CourseJudge → Record → Type 0
+AddsRecord j k r = (first : State) (sent : List Sent) (replies : List Reply) (records : List Record) → IsSoFar j first sent replies records → IsSoFar k first sent replies (records ++ r ∷ [])
+
+-- a reset of the job was told, behind some lines that it dropped, and its record
+abbrev pub AddsReset : CourseJudge → CourseJudge → ℕ → ℕ → Type 0
+AddsReset j k number dropped =
+    (lines : List (List ℕ)) → dropped ≡ length lines → (first : State) (sent : List Sent) (replies : List Reply) (records : List Record) → IsSoFar j first sent replies records
+    → IsSoFar k first (sent ++ (map a_text lines ++ a_stop ∷ [])) replies (records ++ kinds.Mark (ResetMark number) ∷ [])
+
+-- the course has come to its end
+abbrev pub EndsSoFar : CourseJudge → CourseJudge → Type 0
+EndsSoFar j k = (first : State) (sent : List Sent) (replies : List Reply) (records : List Record) → IsSoFar j first sent replies records → IsOver k first sent replies records
+
+-- a point of which a judge knows this
+pub record Knows (j : CourseJudge) (p : Point) : Type 0 where
+  pub locked : p.locked ≡ j.locked
+  pub moved : j.moved ≡ true → p.before.moved ≡ true
+  pub jog_moved : j.jog_moved ≡ true → p.before.jog_moved ≡ true
+  pub jogged : p.before.jogged ≡ j.jogged
+
+-- of a line of which this is kept it becomes what is found
+abbrev pub FindsRight : CourseJudge → Machine → List ℕ → Type 0
+FindsRight j machine kept = (p : Point) → Knows j p → (o : Outcome) → Found machine p.before kept o → BecomesAt true p kept o
+
+-- and of one that is not answered what it would have become
+abbrev pub FindsStill : CourseJudge → Machine → List ℕ → Type 0
+FindsStill j machine kept = (p : Point) → Knows j p → (o : Outcome) → Found machine p.before kept o → BecomesAt false p kept o
+
+-- nothing is left of the line at hand, which is over; all lines are answered, and none has raised an alarm
+pub record MayBegin (j : CourseJudge) : Type 0 where
+  pub done : j.work.left ≡ []
+  pub answered : j.unanswered ≡ false
+  pub closed : j.in_hand ≡ false
+  pub calm : j.line.halts ≡ false
+
+-- nothing is owed of the part
+pub record IsIdle (j : CourseJudge) : Type 0 where
+  pub done : j.work.left ≡ []
+  pub none : owed_of j.part ≡ []
+  pub kept : j.lost ≡ false
+  pub answered : j.unanswered ≡ false
+
+-- ---- ends
+
+-- A part may end: nothing is left of the line at hand, which is over.
+pub record IsClosed (j : CourseJudge) : Type 0 where
+  pub done : j.work.left ≡ []
+  pub closed : j.in_hand ≡ false
+
+-- a cut may end a part behind line k
+pub record MayCut (j : CourseJudge) (k : ℕ) : Type 0 where
+  pub ends : IsClosed j
+  pub answered : j.unanswered ≡ false
+  pub calm : j.line.halts ≡ false
+  pub has_line : j.has_line ≡ true
+  pub number : j.work.number ≡ k + 1
+  pub out : coming_of j.part.latest ≡ []
+  pub may : MayStop (head_of j.part.latest)
+  pub jogs : j.jogs ≡ true
+
+-- a reset may end a part behind line k, with or without its alarm
+pub record MayReset (j : CourseJudge) (k : ℕ) (alarm : Bool) : Type 0 where
+  pub ends : IsClosed j
+  pub calm : j.line.halts ≡ false
+  pub number : k + 1 ≡ j.work.number
+  pub settled : j.unsettled ≡ true
+  pub cause : alarm ≡ true → (j.moved || j.jog_moved) ≡ true
+
+-- the end may come
+pub record MayEnd (j : CourseJudge) : Type 0 where
+  pub ends : IsClosed j
+  pub answered : j.unanswered ≡ false
+  pub out : coming_of j.part.latest ≡ []
+  pub may : MayStop (head_of j.part.latest)
+  pub settled : j.unsettled ≡ true
+  pub none : j.line.halts ≡ false → IsIdle j

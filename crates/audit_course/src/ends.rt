@@ -1,0 +1,203 @@
+//! Cuts, resets and the end.
+
+ghost use Rattle.std.specs.Prelude.{◌≡◌, ◌<◌, ◌+◌, ◌^◌, ◌↔◌, ◌||◌, true, false, IsTrue};
+ghost use Rattle.step_line.specs.declared.Mark.TheVariants.{Cut as CutMark};
+ghost use Rattle.step_line.specs.declared.Record.TheVariants as kinds;
+ghost use Rattle.units.specs.Lengths.{IsPlace, IsCoordinate};
+ghost use Rattle.audit_course.specs.SoFar.{AddsRecord, AddsReset, EndsSoFar, IsClosed, MayCut, MayReset, MayEnd};
+
+use crate::{CourseJudge, Progress};
+use part_making::PartJudge;
+use units::Steps3;
+
+/// Whether a number of steps is one that an axis may have.
+fn is_coordinate(steps: i64) -> bool
+    ensures { IsTrue result ↔ IsCoordinate steps }
+{
+    steps.unsigned_abs() <= 100_000_000
+}
+
+/// Whether a place is one that an axis may have on each axis.
+fn is_place(place: &Steps3) -> bool
+    ensures { IsTrue result → IsPlace place.now }
+{
+    is_coordinate(place.x) && is_coordinate(place.y) && is_coordinate(place.z)
+}
+
+/// Whether the machine is locked behind a reset, with or without its alarm.
+fn locks(alarm: bool, was: bool) -> bool
+    ensures { result ≡ (alarm || was) }
+{
+    alarm || was
+}
+
+impl CourseJudge {
+    /// Whether a part may be cut behind this line.
+    fn may_cut(&self, k: u32) -> bool
+        requires { IsClosed self.now }
+        ensures { IsTrue result → MayCut self.now k }
+    {
+        !self.unanswered
+            && !self.line.halts
+            && self.has_line
+            && u64::from(self.work.number()) == u64::from(k) + 1
+            && self.part.may_stop()
+            && self.jogs
+    }
+
+    /// The part is cut, where the machine is.
+    fn make_cut(&mut self, k: u32)
+        requires may { MayCut self.old k }
+        requires place { IsPlace self.old.place }
+        requires few { self.old.cuts + 1 < 2 ^ 32 }
+        ensures { AddsRecord self.old self.new (kinds.Mark (CutMark k)) }
+    {
+        self.work.rebase(self.place);
+        self.state = self.state.rebased(self.place);
+        self.part = PartJudge::new();
+        self.cuts += 1;
+        self.has_line = false;
+        self.lost = false;
+        self.jogs = true;
+        self.unsettled = true;
+    }
+
+    /// The mark of a cut comes, behind this line: whether it may.
+    pub fn cut(&mut self, k: u32) -> bool
+        ensures { IsTrue result → AddsRecord self.old self.new (kinds.Mark (CutMark k)) }
+    {
+        if !self.work.is_done() {
+            return false;
+        }
+        self.close();
+        if self.cuts == u32::MAX || !is_place(&self.place) || !self.may_cut(k) {
+            return false;
+        }
+        self.make_cut(k);
+        true
+    }
+
+    /// Whether a reset may end the part behind this line, with or without its alarm.
+    fn may_reset(&self, k: u32, alarm: bool) -> bool
+        requires { IsClosed self.now }
+        ensures { IsTrue result → MayReset self.now k alarm }
+    {
+        !self.line.halts
+            && u64::from(self.work.number()) == u64::from(k) + 1
+            && self.unsettled
+            && (!alarm || self.moved || self.jog_moved)
+    }
+
+    /// A reset ends the part, where the machine is, and drops so many lines.
+    fn make_reset(&mut self, k: u32, dropped: u32, alarm: bool)
+        requires may { MayReset self.old k alarm }
+        requires place { IsPlace self.old.place }
+        requires few { self.old.work.number + dropped < 2 ^ 32 }
+        ensures { AddsReset self.old self.new k dropped }
+    {
+        let locked = locks(alarm, self.locked);
+        let state = self.state.anew(self.place);
+        self.work.open_behind(state.state(), dropped, alarm, locked);
+        self.state = state;
+        self.part = PartJudge::new();
+        self.locked = locked;
+        self.has_line = false;
+        self.unanswered = false;
+        self.lost = false;
+        self.jogs = true;
+        self.unsettled = true;
+        self.moved = false;
+        self.jog_moved = false;
+        self.jogged = false;
+        self.line = Progress::fresh(false);
+    }
+
+    /// A reset comes of the job, which drops so many lines that are not begun, and its mark, behind this line: whether it
+    /// may. Then what is told at it is to be told, with or without the alarm.
+    pub fn reset(&mut self, k: u32, dropped: u32, alarm: bool) -> bool
+        ensures { IsTrue result → AddsReset self.old self.new k dropped }
+    {
+        if !self.work.is_done() {
+            return false;
+        }
+        self.close();
+        if u64::from(self.work.number()) + u64::from(dropped) > u64::from(u32::MAX)
+            || !is_place(&self.place)
+            || !self.may_reset(k, alarm)
+        {
+            return false;
+        }
+        self.make_reset(k, dropped, alarm);
+        true
+    }
+
+    /// A reset comes of the job that is not recorded, and drops so many lines: whether it may. The machine stays where the
+    /// lines have led. No record is told behind it any more.
+    pub fn reset_unrecorded(&mut self, dropped: u32, alarm: bool) -> bool {
+        let at = self.state.state().parser.pos_steps;
+        if !self.work.is_done() || self.work.number() > u32::MAX - dropped || !is_place(&at) {
+            return false;
+        }
+        self.close();
+        let locked = locks(alarm, self.locked);
+        let state = self.state.anew(at);
+        self.work.open_behind(state.state(), dropped, alarm, locked);
+        self.state = state;
+        self.part = PartJudge::new();
+        self.locked = locked;
+        self.has_line = false;
+        self.unanswered = false;
+        self.line = Progress::fresh(false);
+        true
+    }
+
+    /// Whether the machine is locked.
+    pub fn is_locked(&self) -> bool
+        ensures { result ≡ self.now.locked }
+    {
+        self.locked
+    }
+
+    /// Whether the end may come.
+    fn may_end(&self) -> bool
+        requires { IsClosed self.now }
+        ensures { IsTrue result → MayEnd self.now }
+    {
+        !self.unanswered
+            && self.part.may_stop()
+            && self.unsettled
+            && (self.line.halts || self.is_idle())
+    }
+
+    /// The end comes: whether it may.
+    pub fn end(&mut self) -> bool
+        ensures { IsTrue result → EndsSoFar self.old self.new }
+    {
+        if !self.work.is_done() {
+            return false;
+        }
+        self.close();
+        self.may_end()
+    }
+
+    /// How many events were taken.
+    pub fn events(&self) -> u64
+        ensures { result ≡ self.now.events }
+    {
+        self.events
+    }
+
+    /// How many cuts were taken.
+    pub fn cuts(&self) -> u32
+        ensures { result ≡ self.now.cuts }
+    {
+        self.cuts
+    }
+
+    /// Whether a line has raised the alarm of a soft limit.
+    pub fn is_halted(&self) -> bool
+        ensures { result ≡ self.now.line.halts }
+    {
+        self.line.halts
+    }
+}

@@ -1,0 +1,204 @@
+//! Lines that are begun.
+
+ghost use Rattle.std.specs.Prelude.{◌≡◌, ◌<◌, ◌+◌, ◌^◌, ◌∷◌, ◌&&◌, ◌||◌, not, [], true, false, List, ℕ, IsTrue};
+ghost use Rattle.run_rules.specs.Outcomes.{jogged_behind};
+ghost use Rattle.run_rules.specs.Work.{accepted_code, accepted_jog};
+ghost use Rattle.run_texts.specs.Sent.Sent.{a_text};
+ghost use Rattle.line_interpreter.specs.Desks.{kind_told};
+ghost use Rattle.line_interpreter.specs.Keeping.{IsKept};
+ghost use Rattle.audit_course.specs.Progressing.{moved_now, stays_on, fresh};
+ghost use Rattle.audit_course.specs.SoFar.{StaysSoFar, AddsSent, MayBegin, IsIdle, FindsRight, FindsStill};
+
+use crate::machines::unlocks;
+use crate::valid::ValidState;
+use crate::{CourseJudge, LastTask, MotionError, Progress};
+use line_interpreter::{Accepted, KeptLine};
+use run_rules::Machine;
+
+/// Whether the last that was accepted of G-code and jogs is a jog.
+fn jogged_behind(accepted: Accepted, was: bool) -> bool
+    ensures { result ≡ jogged_behind (kind_told accepted) was }
+{
+    match accepted {
+        Accepted::Code => false,
+        Accepted::Jog => true,
+        Accepted::Neither => was,
+    }
+}
+
+/// Whether the machine is locked behind a line.
+fn still_locked(was: bool, unlocked: bool) -> bool
+    ensures { result ≡ (was && not unlocked) }
+{
+    was && !unlocked
+}
+
+/// Whether no answered line settles at the last: it does not, or is not answered.
+fn leaves_none(unanswered: bool, stays: bool) -> bool
+    ensures { result ≡ (unanswered || stays) }
+{
+    unanswered || stays
+}
+
+/// Whether something may be left out: where nothing is owed, or it may be of the lines before and of this one.
+fn may_lose(idle: bool, before: bool, here: bool) -> bool
+    ensures { result ≡ (idle || (before && here)) }
+{
+    idle || before && here
+}
+
+impl Progress {
+    /// Whether it is a line of G-code.
+    fn is_code(&self) -> bool
+        ensures { result ≡ accepted_code (kind_told self.now.accepted) }
+    {
+        matches!(self.accepted, Accepted::Code)
+    }
+
+    /// Whether it is a jog.
+    fn is_jog(&self) -> bool
+        ensures { result ≡ accepted_jog (kind_told self.now.accepted) }
+    {
+        matches!(self.accepted, Accepted::Jog)
+    }
+
+    /// Whether it asks for no ticks but those of a jog.
+    fn loses_jogs(&self) -> bool
+        ensures { result ≡ (accepted_jog (kind_told self.now.accepted) || not self.now.asks) }
+    {
+        self.is_jog() || !self.asks
+    }
+
+    /// Whether the line does not settle, where all of it is done.
+    fn stays_on(&self) -> bool
+        ensures { result ≡ stays_on self.now }
+    {
+        !self.is_code() || self.last != LastTask::Rest
+    }
+
+    /// Whether lines of G-code have moved, or jogs have, up to it.
+    fn moved_now(&self, of_kind: bool, before: bool) -> bool
+        ensures { result ≡ moved_now of_kind self.now before }
+    {
+        self.stays_on() && (of_kind && self.moves || before)
+    }
+
+    /// No line is at hand, whether or not the machine was halted.
+    pub(crate) fn fresh(halts: bool) -> Progress
+        ensures { result ≡ fresh halts }
+    {
+        Progress {
+            accepted: Accepted::Neither,
+            moves: false,
+            asks: false,
+            last: LastTask::Nothing,
+            halts,
+        }
+    }
+}
+
+impl CourseJudge {
+    /// Whether nothing is owed of the part, where all of the line at hand is done.
+    pub(crate) fn is_idle(&self) -> bool
+        requires { self.now.work.left ≡ [] }
+        ensures { result ≡ true → IsIdle self.now }
+    {
+        !self.lost && !self.unanswered && self.part.is_idle()
+    }
+
+    /// The line at hand is over.
+    pub(crate) fn close(&mut self)
+        requires { self.old.work.left ≡ [] }
+        ensures stays { StaysSoFar self.old self.new }
+        ensures closed { self.new.in_hand ≡ false }
+        ensures work { self.new.work ≡ self.old.work }
+        ensures unanswered { self.new.unanswered ≡ self.old.unanswered }
+        ensures halts { self.new.line.halts ≡ self.old.line.halts }
+    {
+        let idle = self.is_idle();
+        let line = self.line;
+        self.jogs = may_lose(idle, self.jogs, line.loses_jogs());
+        self.unsettled = may_lose(
+            idle,
+            self.unsettled,
+            leaves_none(self.unanswered, line.stays_on()),
+        );
+        self.moved = line.moved_now(line.is_code(), self.moved);
+        self.jog_moved = line.moved_now(line.is_jog(), self.jog_moved);
+        self.in_hand = false;
+        self.line = Progress::fresh(line.halts);
+    }
+
+    /// Whether a line may be begun: all of the last one is done, and it is answered and has raised no alarm.
+    pub fn may_begin(&self) -> bool
+        ensures done { IsTrue result → self.now.work.left ≡ [] }
+        ensures answered { IsTrue result → self.now.unanswered ≡ false }
+        ensures calm { IsTrue result → self.now.line.halts ≡ false }
+        ensures few { IsTrue result → self.now.work.number + 1 < 2 ^ 32 }
+    {
+        self.work.is_done() && !self.unanswered && !self.line.halts && self.work.number() < u32::MAX
+    }
+
+    /// A line is begun where the machine is found so.
+    fn answer_line(&mut self, line: &KeptLine, machine: Machine)
+        requires may { MayBegin self.old }
+        requires few { self.old.work.number + 1 < 2 ^ 32 }
+        requires found { (kept : List ℕ) → IsKept line.now kept → FindsRight self.old machine kept }
+        ensures { (kept : List ℕ) → IsKept line.now kept → AddsSent self.old self.new (a_text kept ∷ []) }
+    {
+        let unlocked = unlocks(line);
+        let accepted = self.work.judge(line, machine);
+        self.state = ValidState::of(self.work.state());
+        self.locked = still_locked(self.locked, unlocked);
+        self.jogged = jogged_behind(accepted, self.jogged);
+        self.has_line = true;
+        self.in_hand = true;
+        self.line = Progress::begin(accepted);
+    }
+
+    /// A line is begun, of which the console tells this error, if any: whether it may be. Then it is the line at hand.
+    pub fn begin(&mut self, line: &KeptLine, error: MotionError) -> bool
+        ensures { IsTrue result → (kept : List ℕ) → IsKept line.now kept → AddsSent self.old self.new (a_text kept ∷ []) }
+    {
+        if !self.may_begin() {
+            return false;
+        }
+        self.close();
+        let machine = self.machine_for(line, error);
+        self.answer_line(line, machine);
+        true
+    }
+
+    /// A line that is not answered is begun where the machine is found so.
+    fn break_line(&mut self, line: &KeptLine, machine: Machine)
+        requires may { MayBegin self.old }
+        requires few { self.old.work.number + 1 < 2 ^ 32 }
+        requires found { (kept : List ℕ) → IsKept line.now kept → FindsStill self.old machine kept }
+        ensures { (kept : List ℕ) → IsKept line.now kept → AddsSent self.old self.new (a_text kept ∷ []) }
+    {
+        let _ = self.work.judge(line, machine);
+        self.has_line = true;
+        self.unanswered = true;
+        self.in_hand = true;
+        self.line = Progress::begin(Accepted::Code);
+    }
+
+    /// A line is begun that a reset keeps from its answer: whether it may be. Then it is the line at hand, and the next
+    /// that may come is a reset.
+    pub fn begin_unanswered(&mut self, line: &KeptLine) -> bool
+        ensures { IsTrue result → (kept : List ℕ) → IsKept line.now kept → AddsSent self.old self.new (a_text kept ∷ []) }
+    {
+        if !self.may_begin() {
+            return false;
+        }
+        self.close();
+        let machine = self.still_machine();
+        self.break_line(line, machine);
+        true
+    }
+
+    /// The number of the next line.
+    pub fn number(&self) -> u32 {
+        self.work.number()
+    }
+}

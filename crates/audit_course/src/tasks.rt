@@ -1,0 +1,163 @@
+//! The tasks of the line at hand that tell nothing, and the records that come for them.
+
+ghost use Rattle.std.specs.Prelude.{◌≡◌, ◌≢◌, ◌+◌, ◌∷◌, [], true, false, IsTrue, IfSome, length};
+ghost use Rattle.status_report.specs.declared.Reply.{Reply as AnyReply};
+ghost use Rattle.run_rules.specs.Work.{Task, told_by};
+ghost use Rattle.run_rules.specs.Work.Task.{ask, tell};
+ghost use Rattle.flight.specs.Places.{moved_by};
+ghost use Rattle.legal_heads.specs.Whole.{events_among};
+ghost use Rattle.line_interpreter.specs.Lefts.{IsNextOf, IsTodo};
+ghost use Rattle.part_making.specs.Judging.{IsItem};
+ghost use Rattle.step_line.specs.declared.Record.TheVariants as kinds;
+ghost use Rattle.step_line.specs.Places.{stepped};
+ghost use Rattle.run_texts.specs.Parts.{is_ending};
+ghost use Rattle.audit_course.specs.Progressing.{IsQuiet, IsItemOf};
+ghost use Rattle.audit_course.specs.SoFar.{StaysSoFar, AddsRecord};
+
+use crate::CourseJudge;
+use crate::judge::counted;
+use line_interpreter::Todo;
+use part_making::Item;
+use step_line::{Bits, Mark, Record};
+use units::Steps3;
+
+/// Whether a mark ends a part.
+fn is_ending(mark: &Mark) -> bool
+    ensures { result ≡ is_ending (kinds.Mark mark.now) }
+{
+    matches!(mark, Mark::Cut(_) | Mark::Reset(_))
+}
+
+/// A place, one event further, if it is in range.
+fn stepped(place: &Steps3, bits: &Bits) -> Option<Steps3>
+    ensures { IfSome result (λ p. p ≡ stepped place.now bits.now) }
+{
+    let x = place.x.checked_add(i64::from(bits.x))?;
+    let y = place.y.checked_add(i64::from(bits.y))?;
+    let z = place.z.checked_add(i64::from(bits.z))?;
+    Some(Steps3 { x, y, z })
+}
+
+/// Where a record leaves the machine.
+fn place_behind(place: &Steps3, record: &Record) -> Option<Steps3>
+    ensures { IfSome result (λ p. p ≡ moved_by place.now (record.now ∷ [])) }
+{
+    match record {
+        Record::Event(bits) => stepped(place, bits),
+        _ => Some(*place),
+    }
+}
+
+/// How many events a record is.
+fn event_count(record: &Record) -> u64
+    ensures { result ≡ length (events_among (record.now ∷ [])) }
+{
+    match record {
+        Record::Event(_) => 1,
+        _ => 0,
+    }
+}
+
+impl CourseJudge {
+    /// One task less, which tells nothing and asks for no ticks.
+    fn pass(&mut self, todo: Todo)
+        requires todo { IsTodo todo self.old.work.left }
+        requires some { self.old.work.left ≢ [] }
+        requires quiet { (t : Task) → IsNextOf t self.old.work.left → IsQuiet self.old.unanswered t }
+        ensures { StaysSoFar self.old self.new }
+    {
+        self.line = counted(self.line, todo);
+        self.work.done();
+    }
+
+    /// One task less: what it asks for is not recorded before the part ends.
+    fn lose(&mut self, todo: Todo)
+        requires todo { IsTodo todo self.old.work.left }
+        requires some { self.old.work.left ≢ [] }
+        requires untold { (t : Task) → IsNextOf t self.old.work.left → told_by t ≡ [] }
+        ensures { StaysSoFar self.old self.new }
+    {
+        self.line = counted(self.line, todo);
+        self.work.done();
+        self.lost = true;
+    }
+
+    /// One task less, which asks for an item. The item that waits goes before it, so if one does, this one is lost.
+    fn ask(&mut self, todo: Todo, item: Item)
+        requires todo { IsTodo todo self.old.work.left }
+        requires some { self.old.work.left ≢ [] }
+        requires item { IsItem item }
+        requires of { (t : Task) → IsNextOf t self.old.work.left → IsItemOf t item }
+        ensures { StaysSoFar self.old self.new }
+    {
+        if self.lost || self.part.is_waiting() {
+            self.lose(todo);
+            return;
+        }
+        self.line = counted(self.line, todo);
+        self.work.done();
+        self.part.ask(item);
+    }
+
+    /// The next move is asked for.
+    #[tactic(auto, using(crate::proofs::Passing::move_item))]
+    fn ask_move(&mut self)
+        requires { IsTodo Todo.Move self.old.work.left }
+        ensures { StaysSoFar self.old self.new }
+    {
+        let planned = self.work.planned_move();
+        self.ask(Todo::Move, Item::Move(planned));
+    }
+
+    /// The next mark is asked for.
+    #[tactic(auto, using(crate::proofs::Passing::mark_item, crate::proofs::Passing::mark_untold))]
+    fn ask_mark(&mut self, mark: Mark)
+        requires { IsTodo (Todo.Mark mark) self.old.work.left }
+        ensures { StaysSoFar self.old self.new }
+    {
+        if is_ending(&mark) {
+            self.lose(Todo::Mark(mark));
+            return;
+        }
+        self.ask(Todo::Mark(mark), Item::Mark(mark));
+    }
+
+    /// Does what is next of the line at hand, which tells nothing. Call it where `next` says `Work`.
+    #[tactic(auto, using(crate::proofs::Passing::quiet_by))]
+    pub fn work_on(&mut self)
+        requires some { self.old.work.left ≢ [] }
+        requires untold { (r : AnyReply) → IsNextOf (tell r) self.old.work.left → self.old.unanswered ≡ true }
+        ensures { StaysSoFar self.old self.new }
+    {
+        let todo = self.work.todo();
+        match todo {
+            Todo::Move => self.ask_move(),
+            Todo::Mark(mark) => self.ask_mark(mark),
+            _ => self.pass(todo),
+        }
+    }
+
+    /// Whether something is owed of what the lines ask for.
+    pub fn owes(&self) -> bool {
+        !self.part.is_idle()
+    }
+
+    /// A record comes: whether it is the next one of the part. If not, no record is told any more.
+    pub fn take(&mut self, record: &Record) -> bool
+        ensures { IsTrue result → AddsRecord self.old self.new record.now }
+    {
+        let Some(place) = place_behind(&self.place, record) else {
+            return false;
+        };
+        let count = event_count(record);
+        if self.events > u64::MAX - count || self.part.is_idle() {
+            return false;
+        }
+        if !self.part.take(record) {
+            return false;
+        }
+        self.place = place;
+        self.events += count;
+        true
+    }
+}
