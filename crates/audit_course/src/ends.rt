@@ -97,7 +97,8 @@ impl CourseJudge {
     {
         let locked = locks(alarm, self.locked);
         let state = self.state.anew(self.place);
-        self.work.open_behind(state.state(), dropped, alarm, locked);
+        self.work
+            .open_behind(self.state.state(), self.place, dropped, alarm, locked);
         self.state = state;
         self.part = PartJudge::new();
         self.locked = locked;
@@ -141,7 +142,8 @@ impl CourseJudge {
         self.close();
         let locked = locks(alarm, self.locked);
         let state = self.state.anew(at);
-        self.work.open_behind(state.state(), dropped, alarm, locked);
+        self.work
+            .open_behind(self.state.state(), at, dropped, alarm, locked);
         self.state = state;
         self.part = PartJudge::new();
         self.locked = locked;
