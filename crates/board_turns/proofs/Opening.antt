@@ -30,8 +30,9 @@ use Rattle.board_epochs.proofs.Prompting.{unstopping}
 use Rattle.board_turns.specs.declared.board.Board.{Board}
 use Rattle.board_turns.specs.declared.board.Flags.TheVariants as words
 use Rattle.board_turns.specs.declared.board.Beat.TheVariants.{Motion}
-use Rattle.board_turns.specs.declared.input.Input.{Input}
-use Rattle.board_turns.specs.Boards.{EpochFits, KeepsBetween, Works, Reads}
+use Rattle.board_lines.specs.declared.input.Input.{Input}
+use Rattle.board_lines.specs.Inputs.{Reads}
+use Rattle.board_turns.specs.Boards.{EpochFits, KeepsBetween, Works}
 
 -- ---- any epoch
 

@@ -4,16 +4,15 @@ use Rattle.std.specs.List.{list_any}
 use Rattle.outside.specs.declared.Turn.{Turn}
 use Rattle.outside.specs.declared.Turn.TheVariants.{Did}
 use Rattle.run_rules.specs.Work.{Task, pauses}
-use Rattle.run_rules.specs.Outcomes.{Before, begins_with_dollar}
+use Rattle.run_rules.specs.Outcomes.{Before}
 use Rattle.status_report.specs.declared.Reply.TheVariants.{Bye}
-use Rattle.line_interpreter.specs.Keeping.{IsKept}
 use Rattle.line_interpreter.specs.Interpreting.{Interpreting}
 use Rattle.flight.specs.Flights.{Flying, Flies}
 use Rattle.code_table.specs.declared.flags.Exec.{Exec}
 use Rattle.std.specs.Option.{option_to_list}
 use Rattle.std.specs.declared.option.Option.{Option}
 use Rattle.board_rules.specs.Openings.{Opening, IsPlaced}
-use Rattle.board_rules.specs.Steps.{Step, Journal, port_log, taken_of, has_limited, published_of, known_of, open_of, whole_of, before_of, left_of, closed_tells, given_of, hand_of, plan_of, motion_of}
+use Rattle.board_rules.specs.Steps.{Step, Journal, taken_of, has_limited, published_of, known_of, open_of, whole_of, before_of, left_of, closed_tells, given_of, hand_of, plan_of, motion_of}
 use Rattle.board_rules.specs.Steps.Step.{turned}
 use Rattle.board_rules.specs.Turns.{this_turn, is_greeted, unobeyed_of, owes_report, moving, is_full, is_halting, awaits_unlock, awaits_motion, has_jogged, changes_taken, flags_taken, tries_of, missed_of, waits_of}
 use Rattle.board_rules.specs.Conduct.{Conducted, AreWaiting}
@@ -27,8 +26,8 @@ use Rattle.board_turns.specs.declared.board.Flags.{Flags}
 use Rattle.board_turns.specs.declared.board.Flags.TheVariants as words
 use Rattle.board_turns.specs.declared.board.Beat.{Beat}
 use Rattle.board_turns.specs.declared.board.Beat.TheVariants.{Motion, Main}
-use Rattle.board_turns.specs.declared.input.Input.{Input}
 use Rattle.board_machine.specs.Machines.{Runs}
+use Rattle.board_lines.specs.Inputs.{Reads}
 use Rattle.board_rules.specs.Limiting.{limit_pending}
 
 -- the lines, by what is left to do, and what stands before the next line
@@ -36,14 +35,6 @@ pub record Works (i : Interpreting) (left : List Task) (b : Before) : Type 0 whe
   pub left_is : i.left ≡ left
   pub state_is : i.state ≡ b.state
   pub number_is : i.number ≡ b.number
-
--- the line that is not begun, by its bytes, and whether it was taken whole
-pub record Reads (i : Input) (bytes : List ℕ) (whole : Bool) : Type 0 where
-  pub kept_is : IsKept i.kept bytes
-  pub whole_is : i.whole ≡ whole
-  pub empty : i.begun ≡ false → bytes ≡ []
-  pub begun : i.begun ≡ true → bytes ≡ [] → ⊥
-  pub dollar_is : i.dollar ≡ begins_with_dollar bytes
 
 -- a flight of the pieces that were published, which knows of some of the ticks that were found done
 pub record IsFlown (first : Opening) (f : Flying) (h : Journal) : Type 0 where

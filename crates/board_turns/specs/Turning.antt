@@ -34,10 +34,11 @@ use Rattle.units.specs.Truths.{one_if}
 pub use Rattle.board_rules.specs.Within.{AreWorked, MayFinish, PassesNothing, DidAlone, MayHaveLooked, Tried, HasTried}
 use Rattle.board_turns.specs.declared.board.Board.{Board}
 use Rattle.board_machine.specs.Machines.{start_motion, limit_motion}
+use Rattle.board_lines.specs.Inputs.{Reads}
 use Rattle.board_turns.specs.declared.board.Beat.TheVariants.{Motion}
 use Rattle.board_turns.specs.declared.board.Flags.{Flags}
 use Rattle.board_turns.specs.declared.board.Flags.TheVariants as words
-use Rattle.board_turns.specs.Boards.{Keeps, Reads, Rounds, NoneWaits, TakesFlags, takes_no_word, has_published, changes_left, number_of}
+use Rattle.board_turns.specs.Boards.{Keeps, Rounds, NoneWaits, TakesFlags, takes_no_word, has_published, changes_left, number_of}
 
 -- ---- what is known
 

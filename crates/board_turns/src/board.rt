@@ -5,8 +5,6 @@ ghost use Rattle.std.specs.List.{list_any};
 ghost use Rattle.feed_hold.specs.declared.Motion.TheVariants.{Idle};
 ghost use Rattle.outside.specs.declared.Turn.TheVariants.{Done};
 ghost use Rattle.run_rules.specs.Work.{Outcome};
-ghost use Rattle.run_rules.specs.Outcomes.{jogged_behind};
-ghost use Rattle.line_interpreter.specs.Desks.{kind_told};
 ghost use Rattle.run_rules.specs.Work.Task.{ask, tell, pause, normal, finish};
 ghost use Rattle.step_line.specs.Asking.Asked.{a_rest};
 ghost use Rattle.board_rules.specs.Ports.PortStep.{took};
@@ -21,14 +19,13 @@ ghost use Rattle.board_rules.specs.Conduct.{IsNextTask, MayTake, MayPoll};
 ghost use Rattle.board_turns.specs.Boards.{Keeps, EpochFits, GoingFits, GoingTurned, BoardIsOver, GoingBetween, IsFree, TakesFlags, takes_no_word, board_number};
 ghost use Rattle.board_turns.specs.Turning.{IsNextMove, HasPiece, IsReady, MayRun, MayAwait, MayJudge, IsLooked, NeedsNoWait, IsWholeLine, HasPolled, HasStopped, PassesNothing, DidAlone, HasLooked, HasAdded, HasFilled, HasBegun, Tried, HasTried, BoardWorked, IsHeldUp, IsJudged, GoesOn, LetsLines, HasSettled, IsPassed, WorksOn};
 
-use crate::answered::Answered;
-use crate::input::Input;
+use board_lines::{Answered, Input, jogs_behind};
 use board_machine::Machine;
 use code_table::Exec;
 use epoch_ports::EpochPort;
 use feed_hold::Motion;
 use flight::Flight;
-use line_interpreter::{Accepted, Interpreter, Todo};
+use line_interpreter::{Interpreter, Todo};
 use outside::{On, Turn};
 use run_rules::Machine as Found;
 use serial_ring::ByteIn;
@@ -92,17 +89,6 @@ fn found(motion: Motion) -> Found
         Motion::Jog => Found::Jogs,
         Motion::Alarm => Found::Locked,
         _ => Found::Stands,
-    }
-}
-
-/// Whether the last that was accepted of G-code and jogs is a jog, behind a line of which this is accepted.
-fn jogs_behind(accepted: Accepted, was: bool) -> bool
-    ensures { result ≡ jogged_behind (kind_told accepted) was }
-{
-    match accepted {
-        Accepted::Code => false,
-        Accepted::Jog => true,
-        Accepted::Neither => was,
     }
 }
 

@@ -1,10 +1,8 @@
 //! The board: it takes the bytes of a job, carries out its lines, and answers them.
 #![tactic(auto)]
 
-mod answered;
 mod board;
 mod flags;
-mod input;
 mod pieces;
 mod reports;
 mod resets;

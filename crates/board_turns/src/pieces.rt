@@ -20,8 +20,8 @@ ghost use Rattle.board_machine.specs.Machines.{marks_cut};
 ghost use Rattle.flight.specs.Flights.{flight_room};
 ghost use Rattle.board_turns.specs.Turning.{IsNextMove, HasPiece, IsReady, MayRun, MayHaveLooked, MayHaveTold, MayFinish, HasAdded, HasFilled, Tried, HasTried, GoesOn, WorksOn};
 
-use crate::answered::Answered;
 use crate::board::{Beat, Board, Flags};
+use board_lines::Answered;
 use board_machine::is_cut;
 use epoch_ports::EpochPort;
 use line_interpreter::Todo;

@@ -8,10 +8,11 @@ ghost use Rattle.board_epochs.specs.Work.{Work, halted_in};
 ghost use Rattle.board_rules.specs.Openings.{Opening};
 ghost use Rattle.board_rules.specs.Ports.{MayBeDone, taken_in};
 ghost use Rattle.board_rules.specs.Steps.{Journal, port_log, taken_of};
-ghost use Rattle.board_turns.specs.Boards.{EpochFits, GoingBetween, Reads};
+ghost use Rattle.board_lines.specs.Inputs.{Reads};
+ghost use Rattle.board_turns.specs.Boards.{EpochFits, GoingBetween};
 
-use crate::answered::Answered;
 use crate::board::{Beat, Board, Flags};
+use board_lines::Answered;
 use flight::Flight;
 use line_interpreter::Todo;
 

@@ -3,7 +3,7 @@ use Rattle.std.proofs.lemmas.Bool.Decides.{nat_tests}
 use Rattle.board_rules.specs.Ports.PortStep.{took}
 use Rattle.board_rules.specs.Steps.{Journal, taken_of, open_of, whole_of}
 use Rattle.board_rules.specs.Steps.Step.{at_port}
-use Rattle.board_turns.specs.Boards.{Reads}
+use Rattle.board_lines.specs.Inputs.{Reads}
 use Rattle.board_turns.proofs.board.Board.keep.Goals as goal
 
 taken_more : (b : ℕ) (h : Journal) (n : ℕ) → n ≡ length (taken_of h) → n + 1 ≡ length (taken_of (at_port (took b) ∷ h))

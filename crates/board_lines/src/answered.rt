@@ -9,7 +9,7 @@ use std::marker::Model;
 
 /// The state behind the answered lines. Contracts see that state; its fields are in range.
 #[derive(Drop)]
-pub(crate) struct Answered {
+pub struct Answered {
     state: State,
 }
 
@@ -26,7 +26,7 @@ impl Model for Answered {
 
 impl Answered {
     /// All lines that were begun are answered.
-    pub(crate) fn behind(lines: &Interpreter) -> Answered
+    pub fn behind(lines: &Interpreter) -> Answered
         ensures { result ≡ lines.now.state }
     {
         Answered {
@@ -35,7 +35,7 @@ impl Answered {
     }
 
     /// The state itself.
-    pub(crate) fn state(&self) -> State
+    pub fn state(&self) -> State
         ensures is { result ≡ self.now }
         ensures valid { IsState result }
     {

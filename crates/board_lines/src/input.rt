@@ -2,18 +2,18 @@
 
 ghost use Rattle.std.specs.Prelude.{◌≡◌, ℕ, Bool, true, false, List, [], ◌∷◌, ◌++◌};
 ghost use Rattle.run_rules.specs.Locking.{unlocks};
-ghost use Rattle.board_turns.specs.Boards.{Reads};
+ghost use Rattle.board_lines.specs.Inputs.{Reads};
 
 use line_interpreter::KeptLine;
 
 /// What is kept of the line that is not begun, whether a byte of it came, whether its first one is `$`, and whether it was
 /// taken whole.
 #[derive(Drop)]
-pub(crate) struct Input {
-    pub(crate) kept: KeptLine,
-    pub(crate) begun: bool,
-    pub(crate) dollar: bool,
-    pub(crate) whole: bool,
+pub struct Input {
+    pub kept: KeptLine,
+    begun: bool,
+    pub dollar: bool,
+    pub whole: bool,
 }
 
 /// Whether a line is `$X`.
@@ -26,7 +26,7 @@ fn is_unlock(line: &[u8]) -> bool
 
 impl Input {
     /// No byte has come.
-    pub(crate) fn new() -> Input
+    pub fn new() -> Input
         ensures { Reads result [] false }
     {
         Input {
@@ -39,7 +39,7 @@ impl Input {
 
     /// One byte more, which is no line feed.
     #[inline]
-    pub(crate) fn push(&mut self, byte: u8)
+    pub fn push(&mut self, byte: u8)
         ensures { (bytes : List ℕ) (whole : Bool) → Reads self.old bytes whole → Reads self.new (bytes ++ byte ∷ []) whole }
     {
         if !self.begun {
@@ -51,14 +51,14 @@ impl Input {
 
     /// The line feed has come.
     #[inline]
-    pub(crate) fn finish(&mut self)
+    pub fn finish(&mut self)
         ensures { (bytes : List ℕ) (whole : Bool) → Reads self.old bytes whole → Reads self.new bytes true }
     {
         self.whole = true;
     }
 
     /// Whether the line is `$X`, which unlocks a machine that is locked.
-    pub(crate) fn unlocks(&self) -> bool
+    pub fn unlocks(&self) -> bool
         ensures { (bytes : List ℕ) (whole : Bool) → Reads self.now bytes whole → result ≡ unlocks bytes }
     {
         match self.kept.bytes() {
@@ -69,7 +69,7 @@ impl Input {
 
     /// The next line begins.
     #[inline]
-    pub(crate) fn clear(&mut self)
+    pub fn clear(&mut self)
         ensures { Reads self.new [] false }
     {
         self.kept.clear();

@@ -1,7 +1,7 @@
 use Rattle.std.proofs.Common.{rules, ◌≡◌, ℕ, ◌<◌, false, List, [], ◌∷◌, length, arith}
 use Rattle.system_lines.specs.Commands.{kind_of}
 use Rattle.run_rules.specs.Locking.{unlocks}
-use Rattle.board_turns.proofs.input.Input.unlocks.Goals as goal
+use Rattle.board_lines.proofs.input.Input.unlocks.Goals as goal
 
 -- `$X` has two bytes
 long_locks : (bytes : List ℕ) → 79 < length bytes → false ≡ unlocks bytes
