@@ -1,6 +1,7 @@
 pub mod Begins
 pub mod Known
 pub mod Turns
+pub mod PortSteps
 pub mod Steps
 pub mod Requests
 pub mod Stages
@@ -18,6 +19,7 @@ pub mod Flying
 pub mod Freeing
 pub mod Telling
 pub mod Ends
+pub mod Turned
 pub mod Owing
 pub mod Owed
 pub mod Nexts

@@ -34,7 +34,8 @@ use Rattle.board_machine.specs.declared.machine.Machine.{Machine}
 use Rattle.board_machine.specs.Machines.{Runs}
 use Rattle.board_turns.specs.Boards.{Keeps, Rounds, number_of}
 use Rattle.board_turns.specs.Turning.{HasPiece, IsAtLimit, IsInAlarm, HasHalted, IsReady, PassesNothing, BoardWorked}
-use Rattle.board_turns.proofs.Steps.{is_next, looked, one_less, halts_by}
+use Rattle.board_turns.proofs.Steps.{is_next, halts_by}
+use Rattle.board_turns.proofs.PortSteps.{looked, one_less}
 use Rattle.board_rules.proofs.Speeds.{no_speed, rests}
 use Rattle.board_turns.proofs.Stages.{alarm_limits, ends_run, halts_raised, limited_next}
 use Rattle.board_turns.proofs.Stopping.{locks}

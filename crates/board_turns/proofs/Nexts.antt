@@ -34,7 +34,8 @@ use Rattle.board_turns.specs.Boards.{Keeps, Rounds, NoneWaits, GoingBetween, IsF
 use Rattle.board_turns.specs.Turning.{IsNextMove, IsQuiet, IsReady, IsHeldUp, HasPiece, HasPolled, MayRun, MayAwait, MayFinish, IsWholeLine, NeedsNoWait, GoesOn, LetsLines, PassesNothing, BoardWorked, starting}
 use Rattle.board_rules.proofs.Alarms.{limited_alarmed}
 use Rattle.board_turns.proofs.Begins.{still_is}
-use Rattle.board_turns.proofs.Steps.{is_next, not_told, begins_by, calm_now, halts_by}
+use Rattle.board_turns.proofs.Steps.{is_next, begins_by, calm_now, halts_by}
+use Rattle.board_turns.proofs.PortSteps.{not_told}
 use Rattle.board_rules.proofs.Facts.{not_whole, uncounted, unmissed}
 use Rattle.board_rules.proofs.Tries.{publishes_none, publishes_one, worked_behind, passes_did, passes_end, passes_motion}
 use Rattle.board_turns.proofs.Standing.{full_is_queued, goes_or_stands}

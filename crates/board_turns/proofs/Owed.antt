@@ -35,7 +35,8 @@ use Rattle.board_turns.specs.declared.board.Flags.TheVariants as words
 use Rattle.board_turns.specs.Boards.{Keeps, Rounds, NoneWaits, TakesFlags, has_published}
 use Rattle.board_turns.specs.Turning.{NoneFits, HasPiece, HasTried, HasFilled, BoardWorked}
 use Rattle.board_turns.specs.Reporting.{HasObserved, HasAskedRoom, IsBehind, IsReported, IsTold, IsToReport, LacksRoom, obeying}
-use Rattle.board_turns.proofs.Steps.{report_told, report_kept, other_flags, halts_by}
+use Rattle.board_turns.proofs.Steps.{other_flags, halts_by}
+use Rattle.board_turns.proofs.PortSteps.{report_told, report_kept}
 use Rattle.board_rules.proofs.Tries.{counts_none, publishes_none, publishes_one}
 use Rattle.board_rules.proofs.Facts.{uncounted_owing}
 use Rattle.board_rules.proofs.Greeted.{owed_greeted}

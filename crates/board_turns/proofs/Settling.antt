@@ -34,7 +34,8 @@ use Rattle.board_turns.specs.Boards.{Keeps, NoneWaits, changes_left}
 use Rattle.board_turns.specs.Turning.{NoneFits, StaysSo, IsCutNow, IsUncut, IsFoundStopped, ComesOf, HasSettled, replanned}
 use Rattle.board_turns.specs.Turning.ComesOf.{is_held, is_cut, is_locked, is_over}
 use Rattle.board_rules.proofs.Uncut.{none_asked, cut_off}
-use Rattle.board_turns.proofs.Steps.{hand_empty, looked, other_flight}
+use Rattle.board_turns.proofs.Steps.{hand_empty, other_flight}
+use Rattle.board_turns.proofs.PortSteps.{looked}
 use Rattle.board_turns.proofs.Flying.{learned, learned_all}
 use Rattle.board_rules.proofs.Tries.{passes_none, passes_load, passes_motion, passes_cut, passes_on}
 use Rattle.board_turns.proofs.Ends.{same_calls}

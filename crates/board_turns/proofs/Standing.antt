@@ -34,7 +34,8 @@ use Rattle.board_machine.specs.Machines.{Runs, StandsOrGoes}
 use Rattle.board_turns.specs.Boards.{Keeps, Rounds}
 use Rattle.board_turns.specs.Turning.{HasPiece, HasLooked, MayAwait, PassesNothing, BoardWorked}
 use Rattle.board_rules.proofs.Facts.{uncounted, and_false}
-use Rattle.board_turns.proofs.Steps.{at_rest, hand_empty, none_by_test, looked, drained, halts_by}
+use Rattle.board_turns.proofs.Steps.{at_rest, hand_empty, none_by_test, drained, halts_by}
+use Rattle.board_turns.proofs.PortSteps.{looked}
 use Rattle.board_rules.proofs.Tries.{passes_load, passes_motion, passes_on}
 use Rattle.board_turns.proofs.Ends.{rounds_still, some_awaited, free_of, free_passed, takes_none, no_word_left}
 

@@ -33,7 +33,8 @@ use Rattle.board_machine.specs.Machines.{Runs, StandsOrGoes, observed, settled}
 use Rattle.board_turns.specs.Boards.{Keeps}
 use Rattle.board_turns.specs.Reporting.{HasObserved, HasAskedRoom, IsReported, MayObeyNow, obeying}
 use Rattle.board_turns.specs.Turning.{ComesOf}
-use Rattle.board_turns.proofs.Steps.{looked, drained, other_flight, at_rest, halts_by}
+use Rattle.board_turns.proofs.Steps.{drained, other_flight, at_rest, halts_by}
+use Rattle.board_turns.proofs.PortSteps.{looked}
 use Rattle.board_turns.proofs.Requests.{obeys}
 use Rattle.board_turns.proofs.Settling.{CameOf, came_of, port_came, published_came, known_came}
 use Rattle.board_rules.proofs.Tries.{passes_load, passes_motion, passes_on}

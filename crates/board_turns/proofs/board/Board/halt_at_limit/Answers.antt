@@ -10,7 +10,7 @@ use Rattle.board_turns.proofs.Ends.{may_run, works_passed}
 use Rattle.board_turns.proofs.Limiting.{alarm_next, at_limit, waits_at_limit, ready_halted}
 use Rattle.board_turns.proofs.Nexts.{some_next}
 use Rattle.board_turns.proofs.Standing.{done_all}
-use Rattle.board_turns.proofs.Steps.{looked}
+use Rattle.board_turns.proofs.PortSteps.{looked}
 use Rattle.board_rules.proofs.Tries.{passes_load, passes_on}
 use Rattle.board_turns.proofs.board.Board.halt_at_limit.Goals as goal
 

@@ -6,7 +6,7 @@ use Rattle.board_rules.specs.Steps.{hand_of, given_of, plan_of, motion_of}
 use Rattle.board_rules.specs.Steps.Step.{at_port, became}
 use Rattle.board_rules.specs.Turns.{is_going}
 use Rattle.board_turns.proofs.Standing.{going_begins, hand_none, hand_some, blocks_are, over, looked_over, looked_only, blocks_undrained}
-use Rattle.board_turns.proofs.Steps.{looked}
+use Rattle.board_turns.proofs.PortSteps.{looked}
 use Rattle.board_turns.proofs.board.Board.look.Goals.{
   else-is_going-via-then-is_going+then-is_none+then-not-has_blocks+else-done-self,
   else-is_going-via-then-is_going+then-is_none+else-not-has_blocks,

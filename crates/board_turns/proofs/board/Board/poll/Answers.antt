@@ -4,7 +4,7 @@ use Rattle.board_rules.specs.Steps.Step.{at_port}
 use Rattle.board_rules.specs.Ports.PortStep.{took, found_empty, found_closed}
 use Rattle.board_rules.proofs.Greeted.{greeted_free}
 use Rattle.board_turns.specs.declared.board.Board.{Board}
-use Rattle.board_turns.proofs.Steps.{polled_empty, polled_closed}
+use Rattle.board_turns.proofs.PortSteps.{polled_empty, polled_closed}
 use Rattle.board_turns.proofs.Ends.{works_on, free_of}
 use Rattle.board_turns.proofs.Nexts.{took_worked, polled_none, polled_end}
 use Rattle.board_turns.proofs.board.Board.poll.Goals as goal

@@ -4,7 +4,8 @@ use Rattle.board_rules.specs.Ports.PortStep.{published, no_piece_room}
 use Rattle.board_rules.specs.Steps.Step.{at_port}
 use Rattle.board_machine.specs.Machines.{Runs}
 use Rattle.board_turns.specs.declared.board.Board.{Board}
-use Rattle.board_turns.proofs.Steps.{in_hand, some_in_hand, may_publish, may_publish_now, sent, not_sent}
+use Rattle.board_turns.proofs.Steps.{in_hand, some_in_hand, may_publish, may_publish_now}
+use Rattle.board_turns.proofs.PortSteps.{sent, not_sent}
 use Rattle.board_turns.proofs.Flying.{fits_next, begins_next}
 use Rattle.board_turns.proofs.board.Board.publish.Goals as goal
 

@@ -5,7 +5,8 @@ use Rattle.board_rules.specs.Turns.{tells_next}
 use Rattle.board_rules.specs.Steps.Step.{at_port}
 use Rattle.board_rules.specs.Ports.PortStep.{answered, no_reply_room}
 use Rattle.board_turns.specs.Turning.MayHaveTold.{handed_back, was_told}
-use Rattle.board_turns.proofs.Steps.{is_next, may_answer, not_told, hand_empty}
+use Rattle.board_turns.proofs.Steps.{is_next, may_answer, hand_empty}
+use Rattle.board_turns.proofs.PortSteps.{not_told}
 use Rattle.line_interpreter.specs.declared.tasks.Todo.TheVariants as todos
 use Rattle.board_turns.proofs.Known.{said_plain}
 use Rattle.board_turns.proofs.Over.{a_reply_next}

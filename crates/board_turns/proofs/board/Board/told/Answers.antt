@@ -4,7 +4,7 @@ use Rattle.board_rules.specs.Ports.PortStep.{answered}
 use Rattle.board_rules.specs.Steps.Step.{at_port}
 use Rattle.board_turns.specs.declared.board.Board.{Board}
 use Rattle.board_turns.specs.Boards.{Keeps}
-use Rattle.board_turns.proofs.Steps.{told}
+use Rattle.board_turns.proofs.PortSteps.{told}
 use Rattle.board_turns.proofs.board.Board.told.Goals as goal
 
 pub returns-clause-told : goal.returns-clause-told

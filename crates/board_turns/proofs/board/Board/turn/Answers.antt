@@ -4,7 +4,7 @@ use Rattle.board_rules.specs.Steps.Step.{turned}
 use Rattle.board_turns.specs.declared.board.Board.{Board}
 use Rattle.board_turns.specs.Boards.{EpochFits, GoingTurned}
 use Rattle.board_turns.specs.Turning.{words_awaited}
-use Rattle.board_turns.proofs.Ends.{flags_behind, turned_by, no_wait_keeps}
+use Rattle.board_turns.proofs.Turned.{flags_behind, turned_by, no_wait_keeps}
 use Rattle.board_turns.proofs.Numbers.{number_few}
 use Rattle.board_turns.proofs.Resetting.{begins_going}
 use Rattle.board_turns.proofs.board.Board.turn.Goals as goal
