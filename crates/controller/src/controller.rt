@@ -57,7 +57,7 @@ impl Controller {
         ensures still { BoardRests self.old → (self.new ≡ self.old) × (port.new ≡ port.old) }
         ensures few { (state : State) (e : Epochs) → BoardFits self.old e → number_in state self.old e < 64 }
     {
-        match self.reset.take() {
+        match self.reset {
             None => self.go_on(port),
             Some(work) => self.work_on(port, work),
         }

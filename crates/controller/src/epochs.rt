@@ -75,7 +75,6 @@ impl Controller {
     fn begin_epoch(&mut self, work: &ResetWork)
         requires worked { (state : State) × (es : NewestFirst Closed) × (h : Journal) × (w : Work) × AreEpochs state (resets es h w) × IsWorked (log_behind (closed_log es) h) w
             × EpochFits (opening_behind state es) self.old.board h × IsCounted self.old.counts es × IsWorking work.now (last_line (opening_behind state es) h) (log_behind (closed_log es) h) w }
-        requires none { self.old.reset ≡ None }
         ensures begins { (state : State) (es : NewestFirst Closed) (h : Journal) (w : Work) → AreEpochs state (resets es h w) → IsWorked (log_behind (closed_log es) h) w
             → EpochFits (opening_behind state es) self.old.board h → IsCounted self.old.counts es → IsWorking work.now (last_line (opening_behind state es) h) (log_behind (closed_log es) h) w
             → GoesFits state self.new (record { journal = h; work = w } ∷ es) [] }
@@ -83,17 +82,17 @@ impl Controller {
         let halted = self.counts.halted(work);
         self.board.open_behind(halted, work.dropped());
         self.counts = Counts::behind(work);
+        self.reset = None;
     }
 
     /// Takes a turn of a reset's work. Behind it the next epoch begins, once the reset is worked whole.
     #[inline(never)]
     pub(crate) fn work_on<P: BoardPort>(&mut self, port: &mut P, mut work: ResetWork) -> Turn
         requires stands { (rest : P.Rest) × (state : State) × (es : NewestFirst Closed) × (h : Journal) × (w : Work) × P.stands port.old rest (log_of (resets es h w))
-            × ResetsFits state (record self.old { reset = Some work }) es h w × (this_turn w ≡ []) }
-        requires none { self.old.reset ≡ None }
+            × ResetsFits state self.old es h w × (this_turn w ≡ []) }
+        requires works { self.old.reset ≡ Some work }
         ensures goes_on { (rest : P.Rest) (state : State) (es : NewestFirst Closed) (h : Journal) (w : Work) → P.stands port.old rest (log_of (resets es h w))
-            → ResetsFits state (record self.old { reset = Some work }) es h w → this_turn w ≡ []
-            → GoesOn (P.stands port.new rest) result state (record self.old { reset = Some work }) self.new (resets es h w) }
+            → ResetsFits state self.old es h w → this_turn w ≡ [] → GoesOn (P.stands port.new rest) result state self.old self.new (resets es h w) }
         ensures going { result ≢ Done }
         ensures few { number_of work < 64 }
     {

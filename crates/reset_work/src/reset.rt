@@ -47,7 +47,7 @@ pub(crate) enum Words {
 
 /// Works a reset: drops words of flags, waits for the host's mark, halts the pulse, drops the bytes before the mark, and
 /// publishes the mark of the reset.
-#[derive(Drop)]
+#[derive(Clone, Copy)]
 pub struct ResetWork {
     pub(crate) stage: Stage,
     pub(crate) words: Words,

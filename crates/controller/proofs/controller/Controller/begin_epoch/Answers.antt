@@ -1,3 +1,4 @@
+use Rattle.std.proofs.Common.{refl}
 use Rattle.board_epochs.specs.Epochs.{closed_log, last_line, log_behind, opening_behind, ticks_made}
 use Rattle.reset_work.proofs.Parting.{resets_end}
 use Rattle.controller.proofs.Working.{lines_few}
@@ -27,7 +28,7 @@ returns c = record {
       let dropped = c.dropped.ensures (last_line first h) (log_behind (closed_log es) h) w working in
       record {
         epochs = (resets_end state es h w epochs worked).0;
-        none = c.requires.none;
+        none = refl;
         board = c.open_behind.ensures (ticks_made es) first h w fits epochs.1.may halted.0 halted.1 dropped (lines_few state es h w epochs worked);
         counts = c.behind-self.ensures (last_line first h) es h w working worked;
         unready = λ may. absurd (let e = may.asked in cc);
