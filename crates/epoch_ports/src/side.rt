@@ -22,37 +22,37 @@ impl<P: BoardPort> EpochPort for EpochSide<'_, P> {
 
     ghost stands = { λ side since first l. (side.port.ghost_name ≡ since.1) × Serves P.Rest (P.stands side.port.now) side.base since.0 first l };
 
-    #[inline]
+    #[inline(always)]
     fn byte(&mut self) -> ByteIn {
         self.port.byte()
     }
 
-    #[inline]
+    #[inline(always)]
     fn free(&mut self) -> u8 {
         self.port.free()
     }
 
-    #[inline]
+    #[inline(always)]
     fn answer(&mut self, r: Reply) -> Result<(), Reply> {
         self.port.answer(r)
     }
 
-    #[inline]
+    #[inline(always)]
     fn take_exec(&mut self) -> Exec {
         self.port.take_exec()
     }
 
-    #[inline]
+    #[inline(always)]
     fn take_override(&mut self) -> Ovr {
         self.port.take_override()
     }
 
-    #[inline]
+    #[inline(always)]
     fn publish(&mut self, p: Piece) -> Result<(), Piece> {
         self.port.publish(p)
     }
 
-    #[inline]
+    #[inline(always)]
     fn done(&mut self) -> u64 {
         self.port.done() - self.base
     }
