@@ -1,5 +1,5 @@
 -- What is done to the plan of a machine.
-use Rattle.std.proofs.Common.{◌≡◌, ℕ, ◌+◌, ◌<◌, ◌==◌, Bool, true, false, List, [], ◌∷◌, ◌++◌, length, Some, None, refl, sym, ap, ◌∙◌, subst, arith}
+use Rattle.std.proofs.Common.{◌≡◌, ℕ, ◌+◌, ◌-◌, ◌<◌, ◌≤◌, ◌↔◌, ◌==◌, Bool, true, false, List, [], ◌∷◌, ◌++◌, length, Some, None, refl, sym, ap, ◌∙◌, subst, arith}
 use Rattle.std.proofs.lemmas.Bool.Decides.{nat_tests}
 use Rattle.std.specs.Option.{option_to_list}
 use Rattle.std.proofs.lemmas.List.{length-map}
@@ -14,7 +14,7 @@ use Rattle.plan_rules.specs.Plans.{Planned, added}
 use Rattle.plan_rules.specs.Segments.{advanced}
 use Rattle.plan_rules.specs.Taking.{IsNext}
 use Rattle.plan_rules.specs.declared.Mode.{Mode}
-use Rattle.planner_runs.specs.Runs.{cleared, with_move, most_blocks}
+use Rattle.planner_runs.specs.Runs.{cleared, with_move}
 use Rattle.planner_runs.proofs.Runs.{block_added}
 use Rattle.step_line.specs.Asking.{IsPlannedMove}
 use Rattle.step_line.proofs.Order.{length_after}
@@ -31,17 +31,22 @@ use Rattle.step_line.proofs.Finished.{together_on}
 use Rattle.board_machine.specs.declared.machine.Machine.{Machine}
 use Rattle.board_machine.specs.Machines.{Runs, mode_in, settled, observed}
 
+-- whether it is full, by how many blocks stand
+pub full_is : (most : ℕ) (p : Planned) (b : Bool) → (b ≡ true) ↔ (most ≤ length p.blocks) → b ≡ is_full most p
+full_is most p true full = let least = full.0 refl in grind (arith, nat_tests, least)
+full_is most p false full = let least = full.1 in grind (arith, nat_tests, least)
+
 -- a plan that is not full has room
-pub has_room : (p : Planned) → is_full p ≡ false → length p.blocks < most_blocks
-has_room p e = grind (arith, nat_tests, e)
+pub has_room : (most : ℕ) (p : Planned) → is_full most p ≡ false → length p.blocks < most
+has_room most p e = grind (arith, nat_tests, e)
 
 -- a move is put behind the others, as a block with its geometry
-pub put : (m : Machine) (mv : PlannedMove) (g : Geom) (after p : Planned) (now : Motion) (in_hand given : List Piece) → IsPlannedMove mv → is_full m.plan ≡ false → IsGeom mv.mv mv.limits g
+pub put : {N : ℕ} (m : Machine N) (mv : PlannedMove) (g : Geom) (after p : Planned) (now : Motion) (in_hand given : List Piece) → IsPlannedMove mv → is_full (N - 1) m.plan ≡ false → IsGeom mv.mv mv.limits g
     → m.plan.overrides ≡ m.overrides → after ≡ added m.plan (record { line = mv.line; mv = mv.mv; rate = mv.rate; geom = g; prepared = 0; entry = Free }) mv.deviation m.overrides
     → Runs m p now in_hand given → Runs (record m { plan = after }) (with_move p mv) now in_hand given
-put m mv g after p now in_hand given planned room is same e r = record {
+put {N} m mv g after p now in_hand given planned room is same e r = record {
   plan_is = subst (λ (o : Overrides). after ≡ added m.plan b mv.deviation o) (sym same) e
-      ∙ (block_added most_blocks m.plan mv b (record { move = planned; room = has_room m.plan room }) refl refl refl is refl).1
+      ∙ (block_added (N - 1) m.plan mv b (record { move = planned; room = has_room (N - 1) m.plan room }) refl refl refl is refl).1
       ∙ ap (λ (x : Planned). with_move x mv) r.plan_is;
   same = r.same;
   motion_is = r.motion_is;
@@ -56,7 +61,7 @@ segment_ticks : (s : Segment) → tick_count (pieces.Segment s) ≡ s.n
 segment_ticks s = length-map (events_after s.mv s.first s.n) kinds.Event ∙ length_after s.mv s.first s.n
 
 -- a segment is taken into the hand
-pub taken : (m : Machine) (s : Segment) (mode : Mode) (after p : Planned) (now : Motion) (given : List Piece) → mode ≡ mode_in m.hold.motion → IsNext m.plan mode s
+pub taken : {N : ℕ} (m : Machine N) (s : Segment) (mode : Mode) (after p : Planned) (now : Motion) (given : List Piece) → mode ≡ mode_in m.hold.motion → IsNext m.plan mode s
     → after ≡ advanced m.plan s.n s.w_out → Runs m p now [] given
     → IsNext p (mode_in now) s × Runs (record m { plan = after; hand = Some (pieces.Segment s); given = m.given + s.n }) (advanced p s.n s.w_out) now (pieces.Segment s ∷ []) (given ++ pieces.Segment s ∷ [])
 taken m s mode after p now given is next e r = (
@@ -88,14 +93,14 @@ settled_over motions.Stopping p goes none = absurd cc
 settled_over motions.Alarm p goes none = absurd cc
 
 -- each tick that was given is done, and nothing is in hand
-all_done : (m : Machine) (p : Planned) (now : Motion) (in_hand given : List Piece) (done : ℕ) → Runs m p now in_hand given → m.hand ≡ None → done ≡ m.given
+all_done : {N : ℕ} (m : Machine N) (p : Planned) (now : Motion) (in_hand given : List Piece) (done : ℕ) → Runs m p now in_hand given → m.hand ≡ None → done ≡ m.given
     → observed now p in_hand (done == ticks_together given) ≡ settled now p
 all_done m p now in_hand given done r empty all =
     let same : done ≡ ticks_together given = all ∙ r.given_is in
     observed_is now p in_hand (done == ticks_together given) (sym r.hand_is ∙ ap (λ o. option_to_list o) empty) (grind (arith, nat_tests, same))
 
 -- nothing is left to run, and the cycle is over, or the jogs are
-pub over : (m n : Machine) (p : Planned) (now : Motion) (in_hand given : List Piece) (done : ℕ) → Runs m p now in_hand given → m.hand ≡ None → done ≡ m.given
+pub over : {N : ℕ} (m n : Machine N) (p : Planned) (now : Motion) (in_hand given : List Piece) (done : ℕ) → Runs m p now in_hand given → m.hand ≡ None → done ≡ m.given
     → is_going m.hold.motion ≡ true → has_blocks m.plan.blocks ≡ false → Runs n p motions.Idle in_hand given → Runs n p (observed now p in_hand (done == ticks_together given)) in_hand given
 over m n p now in_hand given done r empty all goes none runs =
     let goes_now : is_going now ≡ true = sym (ap is_going r.motion_is) ∙ goes in
@@ -104,8 +109,8 @@ over m n p now in_hand given done r empty all goes none runs =
 
 -- ---- jogs are cut
 
-pub cleared_runs : (m n : Machine) (p : Planned) (now : Motion) (in_hand given : List Piece) → n ≡ record m { plan = cleared m.plan } → Runs m p now in_hand given → Runs n (cleared p) now in_hand given
-cleared_runs m n p now in_hand given is r = subst (λ (x : Machine). Runs x (cleared p) now in_hand given) (sym is) (record {
+pub cleared_runs : {N : ℕ} (m n : Machine N) (p : Planned) (now : Motion) (in_hand given : List Piece) → n ≡ record m { plan = cleared m.plan } → Runs m p now in_hand given → Runs n (cleared p) now in_hand given
+cleared_runs m n p now in_hand given is r = subst (λ (x : Machine _). Runs x (cleared p) now in_hand given) (sym is) (record {
   plan_is = ap (λ (q : Planned). cleared q) r.plan_is;
   same = r.same;
   motion_is = r.motion_is;

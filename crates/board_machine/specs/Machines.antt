@@ -1,5 +1,5 @@
 -- What the fields of a machine say of its plan, its motion, and the pieces that were given.
-use Rattle.std.specs.Prelude.{◌≡◌, ◌⊎◌, Bool, cond, List, [], ◌∷◌}
+use Rattle.std.specs.Prelude.{◌≡◌, ℕ, ◌⊎◌, Bool, cond, List, [], ◌∷◌}
 use Rattle.std.specs.Option.{option_to_list}
 use Rattle.feed_hold.specs.declared.Motion.{Motion}
 use Rattle.feed_hold.specs.declared.Motion.TheVariants as motions
@@ -13,7 +13,7 @@ use Rattle.planner_runs.specs.Moving.{has_blocks}
 use Rattle.board_machine.specs.declared.machine.Machine.{Machine}
 
 -- the plan, the state of the motion, the pieces in hand, and all pieces that were given
-pub record Runs (m : Machine) (p : Planned) (now : Motion) (in_hand given : List Piece) : Type 0 where
+pub record Runs {N : ℕ} (m : Machine N) (p : Planned) (now : Motion) (in_hand given : List Piece) : Type 0 where
   pub plan_is : m.plan ≡ p
   pub same : p.overrides ≡ m.overrides
   pub motion_is : m.hold.motion ≡ now

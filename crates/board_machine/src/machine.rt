@@ -1,6 +1,6 @@
 //! What a board moves: the plan, the piece in hand, and the state of the motion.
 
-ghost use Rattle.std.specs.Prelude.{◌≡◌, ◌↔◌, ◌⊎◌, ◌<◌, ◌^◌, List, [], ◌∷◌, ◌++◌, ◌+◌, ◌≤◌, ◌==◌, ◌||◌, length, true, false, None};
+ghost use Rattle.std.specs.Prelude.{◌≡◌, ◌↔◌, ◌⊎◌, ◌<◌, ◌^◌, List, [], ◌∷◌, ◌++◌, ◌+◌, ◌-◌, ◌≤◌, ◌==◌, ◌||◌, length, true, false, None};
 ghost use Rattle.feed_hold.specs.declared.Motion.{Motion as AnyMotion};
 ghost use Rattle.feed_hold.specs.declared.Motion.TheVariants as motions;
 ghost use Rattle.step_line.specs.Asking.{IsPlannedMove};
@@ -12,7 +12,7 @@ ghost use Rattle.plan_rules.specs.Plans.{Planned};
 ghost use Rattle.plan_rules.specs.Segments.{advanced};
 ghost use Rattle.plan_rules.specs.Taking.{IsNext};
 ghost use Rattle.planner_runs.specs.Moving.{has_blocks, has_segment, is_full, is_slowing};
-ghost use Rattle.planner_runs.specs.Runs.{cleared, fresh_plan, most_blocks, normal_overrides, with_move};
+ghost use Rattle.planner_runs.specs.Runs.{cleared, fresh_plan, normal_overrides, with_move};
 ghost use Rattle.step_line.specs.Finishing.{ticks_together};
 ghost use Rattle.board_machine.specs.Machines.{Runs, limit_motion, marks_cut, mode_in, observed, start_motion};
 
@@ -26,13 +26,11 @@ use planner_ring::Block;
 use segment_prep::{Mode, next_segment};
 use step_line::{Mark, Piece, PlannedMove};
 
-/// So many blocks stand at most.
-const MOST_BLOCKS: usize = 15;
-
-/// The plan, the piece that was given and is not published yet, how many ticks were given, and the state of the motion.
+/// The plan, of at most N - 1 blocks, the piece that was given and is not published yet, how many ticks were given, and the
+/// state of the motion.
 #[derive(Drop)]
-pub struct Machine {
-    pub plan: Plan<16>,
+pub struct Machine<const N: usize> {
+    pub plan: Plan<N>,
     pub overrides: Overrides,
     pub hold: Hold,
     pub hand: Option<Piece>,
@@ -46,9 +44,10 @@ pub fn is_cut(piece: Piece) -> bool
     matches!(piece, Piece::Mark(Mark::Cut(_)))
 }
 
-impl Machine {
-    /// An empty plan at rest, of which nothing was given.
-    pub fn new() -> Machine
+impl<const N: usize> Machine<N> {
+    /// An empty plan at rest, of which nothing was given. N is from 2 to 64.
+    pub fn new() -> Machine<N>
+        requires { (2 ≤ N) × (N ≤ 64) }
         ensures { Runs result fresh_plan motions.Idle [] [] }
     {
         Machine {
@@ -70,10 +69,11 @@ impl Machine {
 
     /// Whether no other block has room.
     #[inline]
+    #[tactic(auto, using(crate::proofs::Machining::full_is))]
     pub fn is_full(&self) -> bool
-        ensures { result ≡ is_full self.now.plan }
+        ensures { result ≡ is_full (N - 1) self.now.plan }
     {
-        self.plan.len() >= MOST_BLOCKS
+        self.plan.is_full()
     }
 
     /// Whether moves or jogs are carried out.
@@ -187,7 +187,7 @@ impl Machine {
     /// Puts a move behind the others.
     pub fn add(&mut self, m: &PlannedMove)
         requires planned { IsPlannedMove m.now }
-        requires room { is_full self.old.plan ≡ false }
+        requires room { is_full (N - 1) self.old.plan ≡ false }
         requires range { IsOverrides self.old.overrides }
         requires same { self.old.plan.overrides ≡ self.old.overrides }
         ensures { (p : Planned) (now : AnyMotion) (hand given : List AnyPiece) → Runs self.old p now hand given → Runs self.new (with_move p m.now) now hand given }
@@ -364,10 +364,13 @@ impl Machine {
         ensures moving { result ≡ is_moving self.old.hold.motion }
         ensures runs { Runs self.new fresh_plan (behind_reset self.old.hold.motion) [] [] }
     {
-        let mut hold = self.hold;
-        let moving = hold.on_reset();
-        *self = Machine::new();
-        self.hold = hold;
+        let moving = self.hold.on_reset();
+        let normal = Overrides::normal();
+        self.plan.clear();
+        self.plan.replan(&normal);
+        self.overrides = normal;
+        self.hand = None;
+        self.given = 0;
         moving
     }
 
@@ -395,10 +398,9 @@ impl Machine {
 
     /// For how many blocks more there is room.
     pub fn free_blocks(&self) -> u8
-        requires { length self.now.plan.blocks ≤ 15 }
-        ensures { result + length self.now.plan.blocks ≡ most_blocks }
+        ensures { result + length self.now.plan.blocks ≡ N - 1 }
     {
-        (MOST_BLOCKS - self.plan.len()) as u8
+        self.plan.free() as u8
     }
 
     /// The machine, which stands, is held for a pause.

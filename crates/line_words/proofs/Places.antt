@@ -43,10 +43,6 @@ pub none_is : (ws : List Word) → ((i : ℕ) → i < length ws → refusal_at w
 unfolding words_refusal
 none_is ws passed = none_below (length ws) (refusal_at ws) passed
 
-pub one_more : (ws : List Word) (n : ℕ) → ((i : ℕ) → i < n → refusal_at ws i ≡ None) → refusal_at ws n ≡ None → (i : ℕ) → i < n + 1 → refusal_at ws i ≡ None
-one_more ws n passed here i h =
-    elim (here_or_below n i (omega arith)) [ inl below ↦ passed i below | inr same ↦ ap (refusal_at ws) same ∙ here ]
-
 pub got : (ws : List Word) (place : ℕ) (d : Word) → place < length ws → slice_get ws place ≡ Some (get_or ws place d)
 got ws place d h = found ws place d h
 

@@ -3,7 +3,6 @@ use Rattle.std.proofs.Common.{◌≡◌, ℕ, ◌+◌, ◌-◌, ◌/◌, ◌^◌
 use Rattle.std.specs.Int.Bits.{bit_and}
 use Rattle.std.proofs.lemmas.Nat.Bits.{shr_and_one}
 use Rattle.code_table.specs.declared.flags.Exec.{Exec}
-use Rattle.code_table.specs.declared.flags.Ovr.{Ovr}
 use Rattle.code_table.specs.Flags.{exec_bits}
 use Rattle.status_report.specs.declared.Reply.{Reply}
 use Rattle.step_line.specs.declared.Piece.{Piece}
@@ -11,47 +10,38 @@ use Rattle.realtime_flags.specs.declared.words.Take.{Take}
 use Rattle.realtime_flags.specs.declared.words.Take.TheVariants as words
 use Rattle.realtime_flags.specs.Bits.{report_flag, stood_in, counted, takes_with}
 use Rattle.serial_ring.specs.declared.view.LinkStep.{LinkStep}
-use Rattle.serial_ring.specs.declared.view.LinkStep.TheVariants.{Took, Marked, Answered}
+use Rattle.serial_ring.specs.declared.view.LinkStep.TheVariants.{Took}
 use Rattle.serial_ring.specs.Marks.{MarkedPast}
 use Rattle.serial_ring.specs.Logs as link
 use Rattle.board_rules.proofs.LinkSteps.{same_taken, same_answered}
 use Rattle.motion_ring.specs.declared.lists.Sent.{Sent}
 use Rattle.motion_ring.specs.Sides as ring
-use Rattle.motion_ring.specs.Sides.{ticks_published, unfinished_in, with_piece, with_stop, with_halt}
-use Rattle.motion_ring.specs.Rule.{none_sent}
-use Rattle.board_rules.specs.Ports.{BoardLog, said, taken_in, link_steps, asks_report, reports_in, MayAnswer, IsMarkedPast, MayPublish, MayStop, MayAskHalt, HasTakenFew, HasFewReports, LacksReplyRoom, LacksPieceRoom, MayBeDone}
-use Rattle.board_rules.specs.Ports.PortStep.{took, found_empty, found_closed, found_free, found_mark, answered, no_reply_room, took_exec, took_ovr, published, no_piece_room, loaded, stored_stop, found_no_halt, found_halt}
+use Rattle.motion_ring.specs.Sides.{ticks_published, unfinished_in, with_stop}
+use Rattle.board_rules.specs.Ports.{BoardLog, taken_in, link_steps, asks_report, reports_in, MayAnswer, IsMarkedPast, MayPublish, MayStop, MayAskHalt, HasTakenFew, HasFewReports, LacksReplyRoom, LacksPieceRoom, MayBeDone}
+use Rattle.board_rules.specs.Ports.PortStep.{took, found_empty, found_closed, found_free, no_reply_room, took_exec, no_piece_room, stored_stop}
 use Rattle.link_ports.specs.Loads.{FoundNoByte}
 use Rattle.board_rules.specs.Takes.{takes_in}
 use Rattle.link_ports.specs.Boards.{BoardDid, LooksForBytes}
-use Rattle.link_ports.proofs.Lists.{by_said}
-
--- a port that stands for a reply stands for what it is to answer with it
-as_said : (steps : List LinkStep) (over : Bool) (takes : List Take) (sent : Sent) (known : ℕ) (l : BoardLog) (r : Reply)
-    → BoardDid steps over takes sent known (answered r ∷ l) → BoardDid steps over takes sent known (said r ∷ l)
-as_said steps over takes sent known l = by_said (λ r e. BoardDid steps over takes sent known (answered r ∷ l) → BoardDid steps over takes sent known (e ∷ l))
-    (λ r d. d)
-    (λ p d. record { steps_are = d.steps_are; over_is = d.over_is; takes_are = d.takes_are; pieces_are = d.pieces_are; known_is = d.known_is })
 
 module _ (steps steps' : List LinkStep) (over over' : Bool) (takes : List Take) (sent : Sent) (known : ℕ) (l : BoardLog) (d : BoardDid steps over takes sent known l) where
   count : length (taken_in l) ≡ length (link.taken_in steps)
   count = same_taken l ∙ ap (λ z. length (link.taken_in z)) d.steps_are
 
   -- how often the link was looked at for bytes
-  module _ (k s loads shown : ℕ) (looks : LooksForBytes l k s) where
-    pub looks_and_takes : (b : ℕ) → (length (link.taken_in steps) ≡ s → loads ≡ k + 1) → (¬ (length (link.taken_in steps) ≡ s) → (loads ≡ k) × (shown ≡ s)) → length (link.taken_in steps) < shown → LooksForBytes (took b ∷ l) loads shown
+  module _ (room k s loads shown : ℕ) (looks : LooksForBytes room l k s) where
+    pub looks_and_takes : (b : ℕ) → (length (link.taken_in steps) ≡ s → loads ≡ k + 1) → (¬ (length (link.taken_in steps) ≡ s) → (loads ≡ k) × (shown ≡ s)) → length (link.taken_in steps) < shown → LooksForBytes room (took b ∷ l) loads shown
     looks_and_takes b anew kept there = (k, s, looks, record { look = record { anew = λ e. anew (sym count ∙ e); kept = λ n. kept (λ e. n (count ∙ e)) }; there = (let c = count in omega arith) })
 
     found_none : length (link.taken_in steps) ≡ s → loads ≡ k + 1 → length (link.taken_in steps) ≡ shown → FoundNoByte (length (taken_in l)) k s loads shown
     found_none before anew none = record { before = count ∙ before; look = anew; none = count ∙ none }
 
-    pub looks_in_vain : length (link.taken_in steps) ≡ s → loads ≡ k + 1 → length (link.taken_in steps) ≡ shown → LooksForBytes (found_empty ∷ l) loads shown
+    pub looks_in_vain : length (link.taken_in steps) ≡ s → loads ≡ k + 1 → length (link.taken_in steps) ≡ shown → LooksForBytes room (found_empty ∷ l) loads shown
     looks_in_vain before anew none = (k, s, looks, found_none before anew none)
 
-    pub looks_and_ends : length (link.taken_in steps) ≡ s → loads ≡ k + 1 → length (link.taken_in steps) ≡ shown → LooksForBytes (found_closed ∷ l) loads shown
+    pub looks_and_ends : length (link.taken_in steps) ≡ s → loads ≡ k + 1 → length (link.taken_in steps) ≡ shown → LooksForBytes room (found_closed ∷ l) loads shown
     looks_and_ends before anew none = (k, s, looks, found_none before anew none)
 
-    pub looks_at_room : (n : ℕ) → loads ≡ k + 1 → n + (shown - length (link.taken_in steps)) ≡ 128 → LooksForBytes (found_free n ∷ l) loads shown
+    pub looks_at_room : (n : ℕ) → loads ≡ k + 1 → n + (shown - length (link.taken_in steps)) ≡ room → LooksForBytes room (found_free n ∷ l) loads shown
     looks_at_room n anew free = (k, s, looks, anew, (let c = count in omega arith))
 
   pub byte_taken : (b : ℕ) → steps' ≡ Took b ∷ steps → (over ≡ true → over' ≡ true) → BoardDid steps' over' takes sent known (took b ∷ l)
@@ -65,13 +55,6 @@ module _ (steps steps' : List LinkStep) (over over' : Bool) (takes : List Take) 
 
   pub room_found : (n : ℕ) → steps' ≡ steps → (over ≡ true → over' ≡ true) → BoardDid steps' over' takes sent known (found_free n ∷ l)
   room_found n e o = record { steps_are = d.steps_are ∙ sym e; over_is = λ c. o (d.over_is c); takes_are = d.takes_are; pieces_are = d.pieces_are; known_is = d.known_is }
-
-  pub mark_found : (number before : ℕ) → steps' ≡ Marked number before ∷ steps → over' ≡ over → BoardDid steps' over' takes sent known (found_mark number before ∷ l)
-  mark_found number before e o = record { steps_are = ap (λ (z : List LinkStep). Marked number before ∷ z) d.steps_are ∙ sym e; over_is = λ c. o ∙ d.over_is c; takes_are = d.takes_are; pieces_are = d.pieces_are; known_is = d.known_is }
-
-  pub reply_answered : (r : Reply) → steps' ≡ Answered r ∷ steps → over' ≡ over → BoardDid steps' over' takes sent known (said r ∷ l)
-  reply_answered r e o = as_said steps' over' takes sent known l r
-      (record { steps_are = ap (λ (z : List LinkStep). Answered r ∷ z) d.steps_are ∙ sym e; over_is = λ c. o ∙ d.over_is c; takes_are = d.takes_are; pieces_are = d.pieces_are; known_is = d.known_is })
 
   pub reply_refused : steps' ≡ steps → over' ≡ over → BoardDid steps' over' takes sent known (no_reply_room ∷ l)
   reply_refused e o = record { steps_are = d.steps_are ∙ sym e; over_is = λ c. o ∙ d.over_is c; takes_are = d.takes_are; pieces_are = d.pieces_are; known_is = d.known_is }
@@ -90,35 +73,11 @@ counts_it true n m is le = omega arith
 counts_it false n m is le = absurd cc
 
 module _ (steps : List LinkStep) (over : Bool) (takes takes' : List Take) (sent sent' : Sent) (known known' : ℕ) (l : BoardLog) (d : BoardDid steps over takes sent known l) where
-  pub exec_taken : (word : Exec) → takes' ≡ words.Exec word ∷ takes → BoardDid steps over takes' sent known (took_exec word ∷ l)
-  exec_taken word e = record { steps_are = d.steps_are; over_is = d.over_is; takes_are = ap (λ (z : List Take). words.Exec word ∷ z) d.takes_are ∙ sym e; pieces_are = d.pieces_are; known_is = d.known_is }
-
-  pub override_taken : (word : Ovr) → takes' ≡ words.Override word ∷ takes → BoardDid steps over takes' sent known (took_ovr word ∷ l)
-  override_taken word e = record { steps_are = d.steps_are; over_is = d.over_is; takes_are = ap (λ (z : List Take). words.Override word ∷ z) d.takes_are ∙ sym e; pieces_are = d.pieces_are; known_is = d.known_is }
-
-  pub piece_published : (p : Piece) → sent' ≡ with_piece sent p → known ≤ known' → BoardDid steps over takes sent' known' (published p ∷ l)
-  piece_published p e more = record {
-    steps_are = d.steps_are;
-    over_is = d.over_is;
-    takes_are = d.takes_are;
-    pieces_are = e ∙ ap (λ (s : Sent). with_piece s p) d.pieces_are;
-    known_is = (let k = d.known_is in omega arith);
-  }
-
   pub stop_told : sent' ≡ with_stop sent → known' ≡ known → BoardDid steps over takes sent' known' (stored_stop ∷ l)
   stop_told e same = record { steps_are = d.steps_are; over_is = d.over_is; takes_are = d.takes_are; pieces_are = e ∙ ap with_stop d.pieces_are; known_is = (let k = d.known_is in omega arith) }
 
-  pub none_halted : sent' ≡ sent → known' ≡ known → BoardDid steps over takes sent' known' (found_no_halt ∷ l)
-  none_halted e same = record { steps_are = d.steps_are; over_is = d.over_is; takes_are = d.takes_are; pieces_are = e ∙ d.pieces_are; known_is = (let k = d.known_is in omega arith) }
-
-  pub halt_found : (n : ℕ) → sent' ≡ with_halt sent n → known' ≡ n → BoardDid steps over takes sent' known' (found_halt n ∷ l)
-  halt_found n e is = record { steps_are = d.steps_are; over_is = d.over_is; takes_are = d.takes_are; pieces_are = e ∙ ap (λ (s : Sent). with_halt s n) d.pieces_are; known_is = omega arith }
-
   pub piece_refused : (n : ℕ) → sent' ≡ sent → known ≤ known' → BoardDid steps over takes sent' known' (no_piece_room n ∷ l)
   piece_refused n e more = record { steps_are = d.steps_are; over_is = d.over_is; takes_are = d.takes_are; pieces_are = e ∙ d.pieces_are; known_is = (let k = d.known_is in omega arith) }
-
-  pub done_loaded : (n : ℕ) → sent' ≡ sent → n ≡ known' → BoardDid steps over takes sent' known' (loaded n ∷ l)
-  done_loaded n e is = record { steps_are = d.steps_are; over_is = d.over_is; takes_are = d.takes_are; pieces_are = e ∙ d.pieces_are; known_is = omega arith }
 
   -- what is known of a moment
   pub has_taken_few : length (link.taken_in steps) < 2 ^ 31 → HasTakenFew l
@@ -156,14 +115,3 @@ module _ (steps : List LinkStep) (over : Bool) (takes takes' : List Take) (sent 
     below = subst (λ (s : Sent). n ≤ ticks_published s) d.pieces_are most;
     few = subst (λ (s : Sent). unfinished_in s n ≤ 5) d.pieces_are few;
   }
-
--- the ends of fresh tables
-pub fresh_board : (steps : List LinkStep) (over : Bool) (takes : List Take) (sent : Sent) (known : ℕ)
-    → steps ≡ [] → takes ≡ [] → sent ≡ none_sent → BoardDid steps over takes sent known []
-fresh_board steps over takes sent known s t p = record {
-  steps_are = sym s;
-  over_is = λ e. absurd cc;
-  takes_are = sym t;
-  pieces_are = p;
-  known_is = omega arith;
-}

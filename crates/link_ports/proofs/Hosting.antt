@@ -8,22 +8,17 @@ use Rattle.realtime_flags.specs.declared.words.Raise.{Raise}
 use Rattle.realtime_flags.specs.Bytes.{flag_of_byte}
 use Rattle.status_report.specs.Answering.{lfs_in, is_banner}
 use Rattle.serial_ring.specs.Marks.{Mark, Follows, last_of}
-use Rattle.serial_ring.specs.Lists.{answers_behind_mark, with_greeting, with_moment, AnswersStored}
+use Rattle.serial_ring.specs.Lists.{answers_behind_mark, with_greeting, AnswersStored}
 use Rattle.serial_ring.specs.Lists as link
 use Rattle.stream_host.specs.Links as host
 use Rattle.stream_host.specs.Links.{banners_in, AreGreetings}
-use Rattle.stream_host.specs.Ports.{TakesByte, TakesMark, AreGreeted, SeemsFull, AnswersLines}
+use Rattle.stream_host.specs.Ports.{TakesByte, AreGreeted, SeemsFull, AnswersLines}
 use Rattle.stream_host.specs.Raises.{raised_to, raises_in}
 use Rattle.stream_host.specs.Steps.{HostLog, stored_in, latest_got, marks_in, marks_at_banners}
-use Rattle.stream_host.specs.Steps.PortStep.{stored, dropped, marked, raised, got, no_reply, shut}
+use Rattle.stream_host.specs.Steps.PortStep.{stored, dropped, marked, raised, got}
 use Rattle.stream_host.proofs.Raised.{banners_first}
 use Rattle.link_ports.specs.Hosts.{HostDid, LooksForRoom}
 use Rattle.link_ports.proofs.Lists.{reverse_on, fewer_behind, since_drops, same_lines_behind}
-
--- what holds of a reply, where there is one, by two things that do
-pub both_some : {P Q R : Reply → Type 0} (o : Option Reply) → IfSome o P → IfSome o Q → ((r : Reply) → P r → Q r → R r) → IfSome o R
-both_some None p q both = tt
-both_some (Some r) p q both = both r p q
 
 pub three_some : {P Q S R : Reply → Type 0} (o : Option Reply) → IfSome o P → IfSome o Q → IfSome o S → ((r : Reply) → P r → Q r → S r → R r) → IfSome o R
 three_some None p q s all = tt
@@ -76,30 +71,6 @@ module _ (bytes bytes' marks marks' : List ℕ) (closed closed' : Bool) (replies
     moments_are = d.moments_are ∙ sym w;
   }
 
-  pub none_found : bytes' ≡ bytes → marks' ≡ marks → closed' ≡ closed → (replies' ≡ replies) × (greeted' ≡ greeted) → raises' ≡ raises → moments' ≡ moments → HostDid bytes' marks' closed' replies' greeted' raises' moments' (no_reply ∷ h)
-  none_found e m c g r w = record {
-    bytes_are = d.bytes_are ∙ sym (ap reverse e);
-    marks_are = d.marks_are ∙ sym m;
-    shut_is = d.shut_is ∙ sym c;
-    replies_are = d.replies_are ∙ sym (ap reverse g.0);
-    latest_are = d.latest_are ∙ sym g.0;
-    greeted_are = same_greeted (no_reply ∷ h) refl refl g.1;
-    raises_are = d.raises_are ∙ sym r;
-    moments_are = d.moments_are ∙ sym w;
-  }
-
-  pub link_shut : bytes' ≡ bytes → marks' ≡ marks → closed' ≡ true → (replies' ≡ replies) × (greeted' ≡ greeted) → raises' ≡ raises → moments' ≡ moments → HostDid bytes' marks' closed' replies' greeted' raises' moments' (shut ∷ h)
-  link_shut e m c g r w = record {
-    bytes_are = d.bytes_are ∙ sym (ap reverse e);
-    marks_are = d.marks_are ∙ sym m;
-    shut_is = sym c;
-    replies_are = d.replies_are ∙ sym (ap reverse g.0);
-    latest_are = d.latest_are ∙ sym g.0;
-    greeted_are = same_greeted (shut ∷ h) refl refl g.1;
-    raises_are = d.raises_are ∙ sym r;
-    moments_are = d.moments_are ∙ sym w;
-  }
-
   -- a reply more, with its mark, if it is a Banner
   module _ (x : Reply) (k : Mark) (is : greeted' ≡ with_greeting x k greeted) (follows : is_banner x ≡ true → Follows marks greeted k) where
     greeted_more : AreGreeted (got x ∷ h) greeted'
@@ -116,18 +87,6 @@ module _ (bytes bytes' marks marks' : List ℕ) (closed closed' : Bool) (replies
         by_banner true follows = (subst (λ (m : List ℕ). Follows m greeted k) (sym d.marks_are) (follows refl), d.greeted_are.stored)
         by_banner false follows = d.greeted_are.stored
 
-    pub reply_got : bytes' ≡ bytes → marks' ≡ marks → closed' ≡ closed → replies' ≡ x ∷ replies → raises' ≡ raises → moments' ≡ with_moment x (length bytes) moments → HostDid bytes' marks' closed' replies' greeted' raises' moments' (got x ∷ h)
-    reply_got e m c g r w = record {
-      bytes_are = d.bytes_are ∙ sym (ap reverse e);
-      marks_are = d.marks_are ∙ sym m;
-      shut_is = d.shut_is ∙ sym c;
-      replies_are = ap (λ (l : List Reply). l ++ x ∷ []) d.replies_are ∙ (sym (reverse_on x replies) ∙ sym (ap reverse g));
-      latest_are = ap (λ (l : List Reply). x ∷ l) d.latest_are ∙ sym g;
-      greeted_are = greeted_more;
-      raises_are = d.raises_are ∙ sym r;
-      moments_are = (λ i. with_moment x (count i) (d.moments_are i)) ∙ sym w;
-    }
-
     pub answers_lines : replies' ≡ x ∷ replies → AnswersStored bytes replies' greeted' → AnswersLines (got x ∷ h)
     answers_lines g few = record {
       greeted = greeted';
@@ -142,12 +101,9 @@ module _ (bytes bytes' marks marks' : List ℕ) (closed closed' : Bool) (replies
   pub may_store : TakesByte h → (closed ≡ false) × (length bytes < 2 ^ 31)
   may_store t = (sym d.shut_is ∙ t.going, (let l = length-reverse bytes in let e = ap length d.bytes_are in let f = t.few in omega arith))
 
-  pub may_mark : TakesMark h → length marks + 1 < 2 ^ 32
-  may_mark t = let e = ap length d.marks_are in omega arith
-
   -- where the link had no room
-  pub seems_full : (room tail : ℕ) → 128 ≤ room → length bytes ≡ tail + room → length bytes ≤ tail + length (link.maybe_unread bytes replies greeted) → SeemsFull h
-  seems_full room tail wide full unread = record {
+  pub seems_full : (room tail : ℕ) → length bytes ≡ tail + room → length bytes ≤ tail + length (link.maybe_unread bytes replies greeted) → SeemsFull room h
+  seems_full room tail full unread = record {
     greeted = greeted;
     are = d.greeted_are;
     full =
@@ -189,16 +145,3 @@ byte_raised bytes marks closed replies greeted raises raises' moments h b d one 
     by_flag (Some f) e =
         let r = one f e in let found : Raise = record { flag = f; down = r.0 } in
         (r.0, raised_as r.0 (ap (λ o. raised_to o r.0 (raises_in h)) e ∙ (ap (λ (rs : List Raise). found ∷ rs) d.raises_are ∙ sym r.1)))
-
--- the ends of fresh tables
-pub fresh_host : (bytes marks : List ℕ) (closed : Bool) (replies : List Reply) (greeted : List Mark) (raises : List Raise) (moments : List ℕ) → bytes ≡ [] → marks ≡ [] → closed ≡ false → replies ≡ [] → greeted ≡ [] → raises ≡ [] → moments ≡ [] → HostDid bytes marks closed replies greeted raises moments []
-fresh_host bytes marks closed replies greeted raises moments b m c r g f w = record {
-  bytes_are = ap reverse (sym b);
-  marks_are = sym m;
-  shut_is = sym c;
-  replies_are = ap reverse (sym r);
-  latest_are = sym r;
-  greeted_are = record { each = ap length g; stored = subst (λ (z : List Mark). AreGreetings [] z) (sym g) tt };
-  raises_are = sym f;
-  moments_are = sym w;
-}

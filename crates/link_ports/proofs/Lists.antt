@@ -7,7 +7,7 @@ use Rattle.std.proofs.lemmas.List.{length-reverse, drop_all}
 use Rattle.status_report.specs.declared.Reply.{Reply}
 use Rattle.status_report.specs.declared.Reply.TheVariants as replies
 use Rattle.status_report.specs.declared.reports.Report.{Report}
-use Rattle.status_report.specs.Answering.{lfs_in, is_answer, answers_in}
+use Rattle.status_report.specs.Answering.{lfs_in}
 use Rattle.status_report.proofs.Answered.{lfs_first}
 use Rattle.board_rules.specs.Ports.{PortStep, said}
 use Rattle.board_rules.specs.Ports.PortStep.{answered, reported}
@@ -16,9 +16,6 @@ use Rattle.stream_host.specs.Links as host
 
 pub reverse_on : {X : Type 0} (x : X) (xs : List X) → reverse (x ∷ xs) ≡ reverse xs ++ x ∷ []
 reverse_on x xs = reverse_onto xs x []
-
-pub same_answers : (rs : List Reply) → answers_in (reverse rs) ≡ answers_in rs
-same_answers rs = sum_by-IsPermutation (λ (r : Reply). cond (is_answer r) 1 0) rs (reverse rs) (IsPermutation-reverse rs)
 
 pub same_lines : (bytes : List ℕ) → lfs_in (reverse bytes) ≡ lfs_in bytes
 same_lines bytes = sum_by-IsPermutation (λ (b : ℕ). cond (nat_eq b 10) 1 0) bytes (reverse bytes) (IsPermutation-reverse bytes)

@@ -9,7 +9,7 @@ use Rattle.realtime_flags.specs.Bytes.{flag_of_bit, flag_of_row, flag_of_byte}
 use Rattle.stream_host.specs.Ports.{queries_in, TakesRaise}
 use Rattle.stream_host.specs.Raises.{raised_to, raises_in}
 use Rattle.stream_host.specs.Steps.{HostLog}
-use Rattle.stream_host.specs.Steps.PortStep.{stored, dropped, marked, raised, got, no_reply, shut}
+use Rattle.stream_host.specs.Steps.PortStep.{raised}
 
 by_bool : {Q : Type 0} (b : Bool) → (b ≡ true → Q) → (b ≡ false → Q) → Q
 by_bool true holds fails = holds refl
@@ -17,9 +17,6 @@ by_bool false holds fails = fails refl
 
 same : (a b : ℕ) → nat_eq a b ≡ true → a ≡ b
 same a b e = grind (arith, nat_tests)
-
-other : (a b : ℕ) → (a ≡ b → ⊥) → nat_eq a b ≡ false
-other a b ne = by_bool (nat_eq a b) (λ t. absurd (ne (same a b t))) (λ f. f)
 
 -- each row with this value has this key
 only : ℕ → ℕ → List Row → Bool
@@ -66,13 +63,8 @@ one_step b down rs n e = by_bool (nat_eq b 63)
 
 pub queries_raised : (h : HostLog) → raises_of report_flag (raises_in h) ≡ queries_in h
 queries_raised [] = refl
-queries_raised (stored b ∷ h) = queries_raised h
-queries_raised (dropped b ∷ h) = queries_raised h
-queries_raised (marked ∷ h) = queries_raised h
 queries_raised (raised b down ∷ h) = one_step b down (raises_in h) (queries_in h) (queries_raised h)
-queries_raised (got r ∷ h) = queries_raised h
-queries_raised (no_reply ∷ h) = queries_raised h
-queries_raised (shut ∷ h) = queries_raised h
+queries_raised (_ ∷ h) = queries_raised h
 
 asks_report : (b : ℕ) (found : Option ℕ) → value_of b rows_of_bytes ≡ found → flag_of_row found ≡ Some report_flag → b ≡ 63
 asks_report b None e is = absurd cc

@@ -1,6 +1,6 @@
 -- What a board's log says of its ends of a link, of the flags and of the ring of pieces.
 use Rattle.std.specs.Prelude.{◌≡◌, ℕ, ◌+◌, ◌-◌, ◌≤◌, ◌<◌, Bool, true, false, List, [], ◌∷◌, length}
-use Rattle.status_report.specs.Answering.{receive_room, reply_room}
+use Rattle.status_report.specs.Answering.{reply_room}
 use Rattle.realtime_flags.specs.declared.words.Take.{Take}
 use Rattle.serial_ring.specs.declared.ends.BoardEnd.{BoardEnd}
 use Rattle.serial_ring.specs.declared.view.LinkStep.{LinkStep}
@@ -25,13 +25,13 @@ pub record BoardDid (steps : List LinkStep) (over : Bool) (takes : List Take) (s
 
 -- How often the head of the bytes was loaded, and how many bytes it showed stored at last: a call that finds no byte, or that
 -- tells the room, loads it once, and a call that takes a byte loads it if all that it had shown were taken.
-abbrev pub LooksForBytes : BoardLog → (loads shown : ℕ) → Type 0
-LooksForBytes [] loads shown = (loads ≡ 0) × (shown ≡ 0)
-LooksForBytes (took b ∷ l) loads shown = (k s : ℕ) × LooksForBytes l k s × TookByte (length (taken_in l)) k s loads shown
-LooksForBytes (found_empty ∷ l) loads shown = (k s : ℕ) × LooksForBytes l k s × FoundNoByte (length (taken_in l)) k s loads shown
-LooksForBytes (found_closed ∷ l) loads shown = (k s : ℕ) × LooksForBytes l k s × FoundNoByte (length (taken_in l)) k s loads shown
-LooksForBytes (found_free n ∷ l) loads shown = (k s : ℕ) × LooksForBytes l k s × (loads ≡ k + 1) × (n + (shown - length (taken_in l)) ≡ receive_room)
-LooksForBytes (e ∷ l) loads shown = LooksForBytes l loads shown
+abbrev pub LooksForBytes : (room : ℕ) → BoardLog → (loads shown : ℕ) → Type 0
+LooksForBytes room [] loads shown = (loads ≡ 0) × (shown ≡ 0)
+LooksForBytes room (took b ∷ l) loads shown = (k s : ℕ) × LooksForBytes room l k s × TookByte (length (taken_in l)) k s loads shown
+LooksForBytes room (found_empty ∷ l) loads shown = (k s : ℕ) × LooksForBytes room l k s × FoundNoByte (length (taken_in l)) k s loads shown
+LooksForBytes room (found_closed ∷ l) loads shown = (k s : ℕ) × LooksForBytes room l k s × FoundNoByte (length (taken_in l)) k s loads shown
+LooksForBytes room (found_free n ∷ l) loads shown = (k s : ℕ) × LooksForBytes room l k s × (loads ≡ k + 1) × (n + (shown - length (taken_in l)) ≡ room)
+LooksForBytes room (e ∷ l) loads shown = LooksForBytes room l loads shown
 
 -- how often it was looked for room for a reply, for the done count, and for a halt
 abbrev pub room_looks_at : PortStep → ℕ → ℕ
@@ -82,7 +82,7 @@ BoardSaw (e ∷ l) closed replies got known heard stop = Unit {0}
 -- room, and the done count and the halted word once each time that they looked for that. So what is not found is what a load of
 -- that call showed.
 pub record BoardLooked {room : ℕ} (end : BoardEnd room) (pieces : SegOut) (l : BoardLog) : Type 0 where
-  pub byte_looks : LooksForBytes l (head_loads_of end) (bytes_shown end)
+  pub byte_looks : LooksForBytes room l (head_loads_of end) (bytes_shown end)
   pub room_looks : room_loads_of end ≡ room_looks_in l
   pub done_looks : done_loads_of pieces ≡ done_looks_in l
   pub halt_looks : halt_loads_of pieces ≡ halt_looks_in l

@@ -29,22 +29,14 @@ abbrev pub LooksForRoom : (room : ℕ) → HostLog → (loads shown : ℕ) → T
 LooksForRoom room [] loads shown = (loads ≡ 0) × (shown ≡ 0)
 LooksForRoom room (stored b ∷ h) loads shown = (k s : ℕ) × LooksForRoom room h k s × StoredByte room (length (stored_in h)) k s loads shown
 LooksForRoom room (dropped b ∷ h) loads shown = (k s : ℕ) × LooksForRoom room h k s × FoundNoRoom room (length (stored_in h)) k s loads shown
-LooksForRoom room (marked ∷ h) loads shown = LooksForRoom room h loads shown
-LooksForRoom room (raised b down ∷ h) loads shown = LooksForRoom room h loads shown
-LooksForRoom room (got r ∷ h) loads shown = LooksForRoom room h loads shown
-LooksForRoom room (no_reply ∷ h) loads shown = LooksForRoom room h loads shown
-LooksForRoom room (shut ∷ h) loads shown = LooksForRoom room h loads shown
+LooksForRoom room (_ ∷ h) loads shown = LooksForRoom room h loads shown
 
 -- how often it was looked for a reply
 abbrev pub reply_looks_in : HostLog → ℕ
 reply_looks_in [] = 0
-reply_looks_in (stored b ∷ h) = reply_looks_in h
-reply_looks_in (dropped b ∷ h) = reply_looks_in h
-reply_looks_in (marked ∷ h) = reply_looks_in h
-reply_looks_in (raised b down ∷ h) = reply_looks_in h
 reply_looks_in (got r ∷ h) = reply_looks_in h + 1
 reply_looks_in (no_reply ∷ h) = reply_looks_in h + 1
-reply_looks_in (shut ∷ h) = reply_looks_in h
+reply_looks_in (_ ∷ h) = reply_looks_in h
 
 -- What was loaded last showed: no reply is found only where the head of the replies showed that all are obtained.
 abbrev pub HostSaw : HostLog → (replies obtained : ℕ) → Type 0

@@ -23,11 +23,11 @@ abbrev pub HostSees : {room : ℕ} → HostLink room → host.HostLog → Type 0
 HostSees port h = HostLooked port.end h
 
 -- what a board's port did
-abbrev pub BoardLogs : BoardLink → board.BoardLog → Type 0
+abbrev pub BoardLogs : {room : ℕ} → BoardLink room → board.BoardLog → Type 0
 BoardLogs port l = BoardDid (log_by port.end) (found_closed port.end) (takes_by port.flags) (sent_by port.pieces) (known_by port.pieces) l
 
 -- how often it looked, and what it saw
-abbrev pub BoardSees : BoardLink → board.BoardLog → Type 0
+abbrev pub BoardSees : {room : ℕ} → BoardLink room → board.BoardLog → Type 0
 BoardSees port l = BoardLooked port.end port.pieces l
 
 -- the link is open, at most so many bytes were stored, and no mark
@@ -40,7 +40,7 @@ pub record IsOpenBehind {room : ℕ} (n : ℕ) (port : HostLink room) : Type 0 w
   pub unmarked : host.marks_in log ≡ []
 
 -- since the last Banner so many lines or more wait for an answer, and at most so many replies were answered
-pub record OwesAnswers (owed n : ℕ) (port : BoardLink) : Type 0 where
+pub record OwesAnswers {room : ℕ} (owed n : ℕ) (port : BoardLink room) : Type 0 where
   pub log : board.BoardLog
   pub did : BoardLogs port log
   pub sees : BoardSees port log
@@ -48,7 +48,7 @@ pub record OwesAnswers (owed n : ℕ) (port : BoardLink) : Type 0 where
   pub few : length (board.answered_in log) ≤ n
 
 -- no stop waits, no end was published, and at most so many ticks and pieces
-pub record HasPublished (n : ℕ) (port : BoardLink) : Type 0 where
+pub record HasPublished {room : ℕ} (n : ℕ) (port : BoardLink room) : Type 0 where
   pub log : board.BoardLog
   pub did : BoardLogs port log
   pub sees : BoardSees port log
@@ -58,7 +58,7 @@ pub record HasPublished (n : ℕ) (port : BoardLink) : Type 0 where
   pub many : length (published_in (board.sent_in log)) ≤ n
 
 -- a stop waits for its halt, behind no end and at most so many ticks and pieces
-pub record AwaitsHalt (n : ℕ) (port : BoardLink) : Type 0 where
+pub record AwaitsHalt {room : ℕ} (n : ℕ) (port : BoardLink room) : Type 0 where
   pub log : board.BoardLog
   pub did : BoardLogs port log
   pub sees : BoardSees port log

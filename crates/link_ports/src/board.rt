@@ -10,14 +10,14 @@ use step_line::Piece;
 
 /// The board's ends of a link, of the flags, and of the ring of pieces.
 #[derive(Drop)]
-pub struct BoardLink {
-    pub end: BoardEnd<128>,
+pub struct BoardLink<const RX: usize> {
+    pub end: BoardEnd<RX>,
     pub flags: Taker,
     pub pieces: SegOut,
 }
 
 /// The port stands for what its ends took, answered and published, and its far side for the three tables.
-impl BoardPort for BoardLink {
+impl<const RX: usize> BoardPort for BoardLink<RX> {
     ghost use Rattle.std.specs.Prelude.{◌≡◌};
     ghost use Rattle.atomic_table.specs.Seated.{TableId};
     ghost use Rattle.serial_ring.specs.Ends.{link_of_board, log_by, found_closed};
@@ -26,6 +26,8 @@ impl BoardPort for BoardLink {
     ghost use Rattle.link_ports.specs.Boards.{BoardDid, BoardLooked};
 
     ghost Rest = { TableId × TableId × TableId };
+
+    ghost room = { RX };
 
     ghost stands = { λ port tables log. (link_of_board port.end ≡ tables.0) × (taken_in port.flags ≡ tables.1) × (ring_of_out port.pieces ≡ tables.2)
         × BoardDid (log_by port.end) (found_closed port.end) (takes_by port.flags) (sent_by port.pieces) (known_by port.pieces) log

@@ -25,6 +25,8 @@ impl<const RX: usize> HostPort for HostLink<RX> {
 
     ghost Rest = { TableId × TableId };
 
+    ghost room = { RX };
+
     ghost stands = { λ port tables log. (link_of_host port.end ≡ tables.0) × (raised_in port.flags ≡ tables.1) × HostDid (stored_by port.end) (marks_by port.end) (closed_by port.end) (got_by port.end) (greeted_by port.end) (raises_by port.flags) (moments_by port.end) log
         × HostLooked port.end log };
 

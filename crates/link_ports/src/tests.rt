@@ -23,7 +23,7 @@ use step_line::{Mark, Piece};
 use stream_host::HostPort;
 
 /// Both ports over fresh tables, and the pulse's end of the ring.
-fn fresh_ports(alloc: Global) -> Result<(HostLink<128>, BoardLink, SegIn), OutOfMemory>
+fn fresh_ports(alloc: Global) -> Result<(HostLink<128>, BoardLink<128>, SegIn), OutOfMemory>
     ensures host { IfOk result (λ r. IsOpenBehind 0 r.0) }
     ensures board { IfOk result (λ r. OwesAnswers 0 0 r.1) }
     ensures pieces { IfOk result (λ r. HasPublished 0 r.1) }
@@ -81,7 +81,7 @@ fn reply(host: &mut HostLink<128>) -> Option<Reply>
 }
 
 /// The next byte, where one is there.
-fn byte(board: &mut BoardLink) -> ByteIn
+fn byte(board: &mut BoardLink<128>) -> ByteIn
     ensures line { result ≡ ByteIn.Byte 10 → (n : ℕ) → OwesAnswers 0 n board.old → OwesAnswers 1 n board.new }
     ensures other { (n : ℕ) → OwesAnswers 0 n board.old → OwesAnswers 0 n board.new }
 {
@@ -89,14 +89,14 @@ fn byte(board: &mut BoardLink) -> ByteIn
 }
 
 /// The requests that stood.
-fn requests(board: &mut BoardLink) -> Exec
+fn requests(board: &mut BoardLink<128>) -> Exec
     ensures { (owed n : ℕ) → OwesAnswers owed n board.old → OwesAnswers owed n board.new }
 {
     board.take_exec()
 }
 
 /// Answers a line behind so many replies.
-fn answer_line(board: &mut BoardLink, answered: u32) -> Result<(), Reply>
+fn answer_line(board: &mut BoardLink<128>, answered: u32) -> Result<(), Reply>
     requires { OwesAnswers 1 answered board.old }
     ensures ok { OnOk result (OwesAnswers 0 (answered + 1) board.new) }
     ensures full { OnErr result (OwesAnswers 1 answered board.new × OwesAnswers 0 answered board.new) }
@@ -105,7 +105,7 @@ fn answer_line(board: &mut BoardLink, answered: u32) -> Result<(), Reply>
 }
 
 /// Tells something else behind so many replies.
-fn tell(board: &mut BoardLink, answered: u32, reply: Reply) -> Result<(), Reply>
+fn tell(board: &mut BoardLink<128>, answered: u32, reply: Reply) -> Result<(), Reply>
     requires owes { OwesAnswers 0 answered board.old }
     requires other { IsReply reply × (is_answer reply ≡ false) × (is_banner reply ≡ false) }
     ensures ok { OnOk result (OwesAnswers 0 (answered + 1) board.new) }
@@ -115,7 +115,7 @@ fn tell(board: &mut BoardLink, answered: u32, reply: Reply) -> Result<(), Reply>
 }
 
 /// Publishes a mark behind so many ticks.
-fn publish(board: &mut BoardLink, ticks: u32) -> Result<(), Piece>
+fn publish(board: &mut BoardLink<128>, ticks: u32) -> Result<(), Piece>
     requires { HasPublished ticks board.old }
     ensures ok { OnOk result (HasPublished (ticks + 1) board.new) }
     ensures full { OnErr result (HasPublished ticks board.new) }
@@ -139,7 +139,7 @@ fn fill(host: &mut HostLink<128>) -> u32
 }
 
 /// Tells alarms until one is handed back, and counts those that were not.
-fn fill_replies(board: &mut BoardLink) -> u32
+fn fill_replies(board: &mut BoardLink<128>) -> u32
     requires { OwesAnswers 0 0 board.old }
 {
     let mut answered = 0_u32;
@@ -153,7 +153,7 @@ fn fill_replies(board: &mut BoardLink) -> u32
 }
 
 /// Publishes a mark behind so many ticks, and tells the pulse to stop behind it. Whether there was room.
-fn publish_and_stop(board: &mut BoardLink, ticks: u32) -> bool
+fn publish_and_stop(board: &mut BoardLink<128>, ticks: u32) -> bool
     requires { HasPublished ticks board.old }
     ensures { result ≡ true → AwaitsHalt (ticks + 1) board.new }
 {
@@ -167,7 +167,7 @@ fn publish_and_stop(board: &mut BoardLink, ticks: u32) -> bool
 }
 
 /// Looks for the halt of the stop that waits.
-fn look(board: &mut BoardLink, ticks: u32) -> Option<u64>
+fn look(board: &mut BoardLink<128>, ticks: u32) -> Option<u64>
     requires { AwaitsHalt ticks board.old }
     ensures some { OnSome result (HasPublished ticks board.new) }
     ensures none { IfNone result (AwaitsHalt ticks board.new) }
@@ -176,7 +176,7 @@ fn look(board: &mut BoardLink, ticks: u32) -> Option<u64>
 }
 
 /// Publishes marks behind so many ticks until one is handed back, and counts those that were not.
-fn fill_pieces(board: &mut BoardLink, ticks: u32) -> u32
+fn fill_pieces(board: &mut BoardLink<128>, ticks: u32) -> u32
     requires few { ticks < 1000 }
     requires published { HasPublished ticks board.old }
 {
@@ -340,7 +340,7 @@ struct Counts {
 }
 
 /// Takes bytes until the link is closed, and answers each line.
-fn answer_all<R: Wait>(rt: &R, board: &mut BoardLink) -> Counts
+fn answer_all<R: Wait>(rt: &R, board: &mut BoardLink<128>) -> Counts
     requires { OwesAnswers 0 0 board.old }
     ensures { OwesAnswers 0 result.answered board.new × (result.answered ≤ 2000000) }
 {
@@ -381,7 +381,7 @@ fn answer_all<R: Wait>(rt: &R, board: &mut BoardLink) -> Counts
 }
 
 /// Says Bye as soon as there is room, behind so many replies.
-fn say_bye<R: Wait>(rt: &R, board: &mut BoardLink, answered: u32)
+fn say_bye<R: Wait>(rt: &R, board: &mut BoardLink<128>, answered: u32)
     requires { OwesAnswers 0 answered board.old }
 {
     let mut polls = 0_u32;
@@ -394,7 +394,7 @@ fn say_bye<R: Wait>(rt: &R, board: &mut BoardLink, answered: u32)
 }
 
 /// A board that runs alone.
-fn run_board<R: Wait>(rt: &R, mut board: BoardLink) -> (BoardLink, Counts)
+fn run_board<R: Wait>(rt: &R, mut board: BoardLink<128>) -> (BoardLink<128>, Counts)
     requires { OwesAnswers 0 0 board }
 {
     let counts = answer_all(rt, &mut board);
@@ -410,7 +410,7 @@ fn million_bytes_from_host_to_board(rt: HostRuntime) {
         || -> (HostLink<128>, u32)
             requires { IsOpenBehind 0 host }
         { run_host(&rt, host) },
-        || -> (BoardLink, Counts)
+        || -> (BoardLink<128>, Counts)
             requires { OwesAnswers 0 0 board }
         { run_board(&rt, board) },
     );

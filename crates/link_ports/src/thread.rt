@@ -10,15 +10,15 @@ use stream_host::Host;
 
 /// The host, and its ends of the link and of the flags.
 #[derive(Drop)]
-pub struct HostSide {
+pub struct HostSide<const RX: usize> {
     pub host: Host,
-    pub link: HostLink<128>,
+    pub link: HostLink<RX>,
 }
 
 /// Runs a host until it is done.
-pub fn run_host<R: Wait, J: Source, C: Sink, G: Gate>(
+pub fn run_host<R: Wait, J: Source, C: Sink, G: Gate, const RX: usize>(
     rt: &R,
-    side: &mut HostSide,
+    side: &mut HostSide<RX>,
     job: &mut J,
     console: &mut C,
     gate: &G,

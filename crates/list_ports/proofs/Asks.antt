@@ -1,8 +1,5 @@
 -- What calls make of the reports that are asked for.
-use Rattle.std.proofs.Common.{◌≡◌, ℕ, ◌+◌, ◌^◌, ◌≤◌, ◌<◌, ◌⊎◌, inl, inr, Bool, true, false, not, cond, ◌&&◌, bit_or, bit_and, nat_eq, List, [], ◌∷◌, refl, sym, ap, ◌∙◌, arith, Some}
-use Rattle.std.specs.Int.{bit_at}
-use Rattle.std.proofs.lemmas.Bool.Decides.{nat_tests}
-use Rattle.std.proofs.lemmas.Nat.Bits.{bit_at_and, bit_at-lt}
+use Rattle.std.proofs.Common.{◌≡◌, ℕ, ◌+◌, ◌^◌, ◌≤◌, ◌<◌, ◌⊎◌, inl, inr, Bool, true, false, not, cond, ◌&&◌, bit_or, nat_eq, List, [], ◌∷◌, refl, sym, ap, ◌∙◌, arith, Some}
 use Rattle.code_table.specs.Tables.{query}
 use Rattle.code_table.specs.declared.flags.Exec.{Exec}
 use Rattle.status_report.specs.declared.Reply.{Reply}
@@ -17,7 +14,6 @@ use Rattle.stream_host.specs.Links.{banners_in}
 use Rattle.stream_host.proofs.Epochs.{no_answer, some_banner, none_banner}
 use Rattle.stream_host.proofs.Queries.{asks, only_query}
 use Rattle.stream_host.proofs.Raised.{banners_first}
-use Rattle.board_rules.specs.Ports.{asks_report}
 use Rattle.list_ports.specs.Asked.{AsksPass, epoch_behind, is_at, report_is_up}
 
 -- ---- moments
@@ -81,42 +77,6 @@ up_by b exec override place is up = by_flag (is_flag report_flag (flags.Exec pla
     by_flag : (t : Bool) → is_flag report_flag (flags.Exec place) ≡ t → (report_is_up exec ≡ true) ⊎ ((nat_eq b query ≡ true) × (not (is_up (flags.Exec place) (exec ∷ override ∷ [])) ≡ true))
     by_flag true e = by_up (report_is_up exec) refl (ap (λ (f : Flag). is_up f (exec ∷ override ∷ [])) (sym (same_flag report_flag (flags.Exec place) e))) (only_query b (ap asks is ∙ e))
     by_flag false e = inl (sym (ap (λ t. cond t true (report_is_up exec)) e) ∙ now)
-
--- ---- a byte is taken
-
-pub asks_byte : (b : ℕ) (up : Bool) (raises words : ℕ → ℕ → ℕ) (told : List Reply) (answers lfs resets : ℕ) (looked : Bool) → AsksPass up raises words told answers lfs resets looked
-    → AsksPass up raises words told answers (cond (nat_eq b 10) 1 0 + lfs) resets (not (nat_eq b 10) && looked)
-asks_byte b up raises words told answers lfs resets looked p = record { each = p.each; before = λ e. by_end (nat_eq b 10) (p.before e); calm = p.calm }
-  where
-    by_end : (t : Bool) → (answers ≡ lfs) ⊎ (looked ≡ false) → (answers ≡ cond t 1 0 + lfs) ⊎ ((not t && looked) ≡ false)
-    by_end true was = inr refl
-    by_end false (inl e) = inl (omega arith)
-    by_end false (inr e) = inr e
-
--- ---- the word of requests is taken
-
-bit_asked : (n : ℕ) → nat_eq (bit_and n 1) 1 ≡ true → nat_eq (bit_at n 0) 1 ≡ true
-bit_asked n e =
-    let b = bit_at_and n 1 0 in let one : bit_and n 1 ≡ 1 = grind (arith, nat_tests, e) in
-    let both : bit_at (bit_and n 1) 0 ≡ 1 = ap (λ k. bit_at k 0) one in let lt = bit_at-lt n 0 in
-    let is : bit_at n 0 ≡ 1 = omega arith in rw is refl
-
--- a word that asks for a report has its flag up
-up_in_word : (word : Exec) → asks_report word ≡ true → report_is_up word.0 ≡ true
-up_in_word word e = bit_asked word.0 e
-
-word_here : (asked up at : Bool) (words raises : ℕ) → (asked ≡ true → up ≡ true) → words + cond (up && at) 1 0 ≤ raises → (cond (asked && at) 1 0 + words) + cond (false && at) 1 0 ≤ raises
-word_here true true at words raises up le = omega arith
-word_here true false at words raises up le = absurd (let e = up refl in cc)
-word_here false up at words raises is le = omega arith
-
-pub asks_word : (word : Exec) (raises words : ℕ → ℕ → ℕ) (told : List Reply) (answers lfs resets more : ℕ) (looked : Bool) → AsksPass (report_is_up word.0) raises words told answers lfs resets looked
-    → AsksPass false raises (λ e k. cond (asks_report word && is_at e k told) 1 0 + words e k) told answers lfs more true
-asks_word word raises words told answers lfs resets more looked p = record {
-  each = λ e k. word_here (asks_report word) (report_is_up word.0) (is_at e k told) (words e k) (raises e k) (up_in_word word) (p.each e k);
-  before = λ e. absurd cc;
-  calm = λ e. absurd cc;
-}
 
 -- ---- a reply is answered
 

@@ -252,24 +252,24 @@ works_follow number before (_ ∷ w) c was = absurd c.0
 follows_none : Follows []
 follows_none = record { looks = tt; banners = omega arith; few = λ e k. omega arith }
 
-closed_follow : (state : State) (es : NewestFirst Closed) → AreClosed state es → Follows (closed_log es)
-closed_follow state [] c = follows_none
-closed_follow state (e ∷ es) c =
+closed_follow : (blocks : ℕ) (state : State) (es : NewestFirst Closed) → AreClosed blocks state es → Follows (closed_log es)
+closed_follow blocks state [] c = follows_none
+closed_follow blocks state (e ∷ es) c =
     let r = c.0.resetting in
     works_follow _ (log_behind (closed_log es) e.journal) e.work r.works
-    (follows_end _ (closed_log es) (opening_behind state es) e.journal r.epoch.conducted r.may (closed_follow state es c.1))
+    (follows_end _ (closed_log es) (opening_behind blocks state es) e.journal r.epoch.conducted r.may (closed_follow blocks state es c.1))
 
 -- what holds of the log of a board's epochs
 pub record Keeps (l : BoardLog) : Type 0 where
   pub looks : LooksFirst l
   pub few : (e k : ℕ) → reports_at e k (told_by l) ≤ words_behind e k l
 
-pub boards_keep : (state : State) (r : Epochs) → AreEpochs state r → Keeps (log_of r)
-boards_keep state (goes es h) are =
-    let was = closed_follow state es are.0 in
-    record { looks = looks_first _ (closed_log es) (opening_behind state es) h are.1.conducted was; few = λ e k. told_few _ (closed_log es) (opening_behind state es) e k h are.1.conducted was }
-boards_keep state (resets es h w) are =
-    let m = works_follow _ (log_behind (closed_log es) h) w are.1.works (follows_end _ (closed_log es) (opening_behind state es) h are.1.epoch.conducted are.1.may (closed_follow state es are.0)) in
+pub boards_keep : (blocks : ℕ) (state : State) (r : Epochs) → AreEpochs blocks state r → Keeps (log_of r)
+boards_keep blocks state (goes es h) are =
+    let was = closed_follow blocks state es are.0 in
+    record { looks = looks_first _ (closed_log es) (opening_behind blocks state es) h are.1.conducted was; few = λ e k. told_few _ (closed_log es) (opening_behind blocks state es) e k h are.1.conducted was }
+boards_keep blocks state (resets es h w) are =
+    let m = works_follow _ (log_behind (closed_log es) h) w are.1.works (follows_end _ (closed_log es) (opening_behind blocks state es) h are.1.epoch.conducted are.1.may (closed_follow blocks state es are.0)) in
     record { looks = m.looks; few = m.few }
 
 -- ---- what was got is a front of it

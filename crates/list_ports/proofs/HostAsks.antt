@@ -25,17 +25,17 @@ use Rattle.stream_host.proofs.Raised.{IsMarked, banners_first, banners_low, free
 use Rattle.stream_host.proofs.Cutting.{all_now}
 use Rattle.stream_host.proofs.Epochs.{IsSteady, IsPending, Stands, begins_at, both_true, some_banner, none_banner, marks_between, earlier_in, answers_split, begins_none, epoch_is}
 use Rattle.list_ports.specs.PerLine.{resets_with, lines_with, resets_behind, lines_behind, queries_at, queries_in}
-use Rattle.list_ports.specs.Asked.{IsQuiet, AsksBetween, epoch_behind, is_at, raised_behind}
+use Rattle.list_ports.specs.Asked.{AsksBetween, epoch_behind, is_at, raised_behind, AwaitsNoReply}
 
 -- ---- a `?` is raised while all that was sent has its reply
 
 -- it is next of those that are due
-query_next : (b : ℕ) (h : Journal) → Conducted h → MayRaise b h → b ≡ query → due_of h ≡ b ∷ drop 1 (due_of h)
-query_next b h c may q = by_polls (nat_eq (polls_of h) empty_polls) refl
+query_next : (room : ℕ) (b : ℕ) (h : Journal) → Conducted room h → MayRaise b h → b ≡ query → due_of h ≡ b ∷ drop 1 (due_of h)
+query_next room b h c may q = by_polls (nat_eq (polls_of h) empty_polls) refl
   where
     by_polls : (t : Bool) → nat_eq (polls_of h) empty_polls ≡ t → due_of h ≡ b ∷ drop 1 (due_of h)
     by_polls true e = absurd (let r = may.resumes (is_enough (polls_of h) e) in omega arith)
-    by_polls false e = may.next (is_fewer (polls_of h) (few_polls h c) e)
+    by_polls false e = may.next (is_fewer (polls_of h) (few_polls room h c) e)
 
 -- a mark without its Banner awaits it
 lacks_one : (marks resets banners : ℕ) → marks ≡ resets → 0 < marks → banners ≤ marks → (nat_lt 0 resets && nat_le banners resets) ≡ true
@@ -46,13 +46,13 @@ lacks_one marks resets banners same some late = by_tests (nat_lt 0 resets) (nat_
     by_tests true false e f = absurd (grind (arith, nat_tests))
     by_tests false u e f = absurd (grind (arith, nat_tests))
 
-module _ (b : ℕ) (h : Journal) (c : Conducted h) (may : MayRaise b h) (q : b ≡ query) where
+module _ (room : ℕ) (b : ℕ) (h : Journal) (c : Conducted room h) (may : MayRaise b h) (q : b ≡ query) where
   due_next : due_of h ≡ b ∷ drop 1 (due_of h)
-  due_next = query_next b h c may q
+  due_next = query_next room b h c may q
 
   -- each mark is that of a reset that was raised
   raised_all : length (marks_of h) ≡ resets_of h
-  raised_all = by_marks (marks_are h c)
+  raised_all = by_marks (marks_are room h c)
     where
       by_marks : IsMarked (length (marks_of h)) (resets_of h) (due_of h) → length (marks_of h) ≡ resets_of h
       by_marks (inl same) = same
@@ -60,34 +60,34 @@ module _ (b : ℕ) (h : Journal) (c : Conducted h) (may : MayRaise b h) (q : b �
 
   not_pending : IsPending (marks_of h) (banners_of h) (to_store h) (stored_of h) → ⊥
   not_pending p =
-      let w = waiting_is h c (lacks_one (length (marks_of h)) (resets_of h) (banners_of h) raised_all p.some p.late) in
+      let w = waiting_is room h c (lacks_one (length (marks_of h)) (resets_of h) (banners_of h) raised_all p.some p.late) in
       absurd (let e = sym w.none_due ∙ due_next in cc)
 
   -- so each mark has its Banner, and each reset has begun an epoch
   steady : IsSteady (marks_of h) (banners_of h)
-  steady = by_stands (epoch_is h c).stands
+  steady = by_stands (epoch_is room h c).stands
     where
-      by_stands : Stands (marks_of h) (banners_of h) (to_store h) (stored_of h) (epoch_is h c).from → IsSteady (marks_of h) (banners_of h)
+      by_stands : Stands (marks_of h) (banners_of h) (to_store h) (stored_of h) (epoch_is room h c).from → IsSteady (marks_of h) (banners_of h)
       by_stands (inr p) = absurd (not_pending p.0)
       by_stands (inl s) = s.0
 
   resets_begun : IsSteady (marks_of h) (banners_of h) → resets_of h ≡ epoch_behind (latest_got (port_log h))
-  resets_begun (inl none) = let r = raised_all in let l = banners_low h c in omega arith
+  resets_begun (inl none) = let r = raised_all in let l = banners_low room h c in omega arith
   resets_begun (inr all) = let r = raised_all in omega arith
 
-  is_quiet : IsQuiet (port_log h)
-  is_quiet = by_stands (epoch_is h c).stands
+  is_quiet : AwaitsNoReply (port_log h)
+  is_quiet = by_stands (epoch_is room h c).stands
     where
-      by_stands : Stands (marks_of h) (banners_of h) (to_store h) (stored_of h) (epoch_is h c).from → IsQuiet (port_log h)
+      by_stands : Stands (marks_of h) (banners_of h) (to_store h) (stored_of h) (epoch_is room h c).from → AwaitsNoReply (port_log h)
       by_stands (inr p) = absurd (not_pending p.0)
       by_stands (inl s) = record { marks = s.0; resets = (let r = resets_begun s.0 in omega arith); lines = lines s.1 }
         where
-          lines : (epoch_is h c).from ≡ latest (marks_of h) → lfs_in (drop (latest (marks_of h)) (stored_of h)) ≡ answers_behind_mark (latest_got (port_log h))
+          lines : (epoch_is room h c).from ≡ latest (marks_of h) → lfs_in (drop (latest (marks_of h)) (stored_of h)) ≡ answers_behind_mark (latest_got (port_log h))
           lines at =
-              let e = epoch_is h c in
+              let e = epoch_is room h c in
               let link = ap lfs_in e.link in
-              let two = lfs_on (drop (epoch_is h c).from (stored_of h)) (to_store h) in
-              let none = ap lfs_in (free_by h b c due_next) in
+              let two = lfs_on (drop (epoch_is room h c).from (stored_of h)) (to_store h) in
+              let none = ap lfs_in (free_by room h b c due_next) in
               let sent = lfs_linked (drop (earlier_in (port_log h)) (live_of h)) in
               let long = length-drop (earlier_in (port_log h)) (live_of h) in
               let low = e.low in
@@ -95,18 +95,15 @@ module _ (b : ℕ) (h : Journal) (c : Conducted h) (may : MayRaise b h) (q : b �
               let all = may.after (ap waits_for_lines q) in
               let here = ap (λ n. lfs_in (drop n (stored_of h))) at in omega arith
 
-pub asks_between : (h : Journal) → Conducted h → AsksBetween (port_log h)
-asks_between [] c = tt
-asks_between (at_port (dropped b) ∷ h) c = absurd c.0
-asks_between (at_port (raised b down) ∷ h) c = ((λ q. is_quiet b h c.1 c.0 q), asks_between h c.1)
-asks_between (at_port _ ∷ h) c = asks_between h c.1
-asks_between (_ ∷ h) c = asks_between h c.1
+pub asks_between : (room : ℕ) (h : Journal) → Conducted room h → AsksBetween (port_log h)
+asks_between room [] c = tt
+asks_between room (at_port (dropped b) ∷ h) c = absurd c.0
+asks_between room (at_port (raised b down) ∷ h) c = ((λ q. is_quiet room b h c.1 c.0 q), asks_between room h c.1)
+asks_between room (at_port _ ∷ h) c = asks_between room h c.1
+asks_between room (_ ∷ h) c = asks_between room h c.1
 
 is_same : (m n : ℕ) → nat_eq m n ≡ true → m ≡ n
 is_same m n e = grind (arith, nat_tests)
-
-same_is : (m n : ℕ) → m ≡ n → nat_eq m n ≡ true
-same_is m n e = grind (arith, nat_tests)
 
 -- what is due, and what is due behind a raise; a resume of the host's own leaves it
 due_by : (p : ℕ → Bool) → p resume ≡ false → (b : ℕ) (resumes : Bool) (due : List ℕ) → (resumes ≡ true → b ≡ resume) → (resumes ≡ false → due ≡ b ∷ drop 1 due)
@@ -293,16 +290,16 @@ scanned_resets b h false e none was =
     let g = ap (λ (d : List ℕ). count_by is_reset (d ++ more_served (raw_of h) b)) none in omega arith
 
 -- those scanned are raised, or due
-resets_are : (h : Journal) → Conducted h → resets_there (cut_of h) (raw_of h) ≡ resets_of h + count_by is_reset (due_of h)
-resets_are [] c = none_there
-resets_are (at_port (dropped b) ∷ h) c = absurd c.0
-resets_are (at_port (raised b down) ∷ h) c =
-    let d = due_by is_reset refl b (nat_eq (polls_of h) empty_polls) (due_of h) (λ e. c.0.resumes (is_enough (polls_of h) e)) (λ e. c.0.next (is_fewer (polls_of h) (few_polls h c.1) e)) in
-    let o = one_reset (is_reset b) (resets_of h) in let i = resets_are h c.1 in omega arith
-resets_are (at_port _ ∷ h) c = resets_are h c.1
-resets_are (scanned b ∷ h) c = scanned_resets b h (nat_eq b 10) refl c.0.none_due (resets_are h c.1)
-resets_are (line_over ∷ h) c = resets_line (cut_of h) (raw_of h) ∙ resets_are h c.1
-resets_are (_ ∷ h) c = resets_are h c.1
+resets_are : (room : ℕ) (h : Journal) → Conducted room h → resets_there (cut_of h) (raw_of h) ≡ resets_of h + count_by is_reset (due_of h)
+resets_are room [] c = none_there
+resets_are room (at_port (dropped b) ∷ h) c = absurd c.0
+resets_are room (at_port (raised b down) ∷ h) c =
+    let d = due_by is_reset refl b (nat_eq (polls_of h) empty_polls) (due_of h) (λ e. c.0.resumes (is_enough (polls_of h) e)) (λ e. c.0.next (is_fewer (polls_of h) (few_polls room h c.1) e)) in
+    let o = one_reset (is_reset b) (resets_of h) in let i = resets_are room h c.1 in omega arith
+resets_are room (at_port _ ∷ h) c = resets_are room h c.1
+resets_are room (scanned b ∷ h) c = scanned_resets b h (nat_eq b 10) refl c.0.none_due (resets_are room h c.1)
+resets_are room (line_over ∷ h) c = resets_line (cut_of h) (raw_of h) ∙ resets_are room h c.1
+resets_are room (_ ∷ h) c = resets_are room h c.1
 
 -- Where a journal stands, by how many marks, resets and Banners there were, how many resets are due, and how many lines of its epoch were
 -- scanned: the text has so many lines since its last reset, none while that waits for its Banner.
@@ -314,8 +311,8 @@ record Placed (marks resets banners due now there : ℕ) : Type 0 where
 abbrev PlacedIn : Journal → Type 0
 PlacedIn h = Placed (length (marks_of h)) (resets_of h) (banners_of h) (count_by is_reset (due_of h)) (length (lines_now h)) (lines_there (cut_of h) (raw_of h))
 
-placed_marked : (h : Journal) → Conducted h → MayMark h → PlacedIn h → PlacedIn (at_port marked ∷ h)
-placed_marked h c may was = record {
+placed_marked : (room : ℕ) (h : Journal) → Conducted room h → MayMark h → PlacedIn h → PlacedIn (at_port marked ∷ h)
+placed_marked room h c may was = record {
   due_is = was.due_is;
   late = λ some few. was.due_is (let e = ap (count_by is_reset) may.next in let s = sum_by-cons (λ x. cond (is_reset x) 1 0) 0x18 (drop 1 (due_of h)) in omega arith);
   steady = λ s d. absurd (never s);
@@ -323,34 +320,34 @@ placed_marked h c may was = record {
   where
     never : (length (marks_of (at_port marked ∷ h)) ≡ 0) ⊎ (banners_of (at_port marked ∷ h) ≡ length (marks_of (at_port marked ∷ h)) + 1) → ⊥
     never (inl none) = omega arith
-    never (inr all) = let l = banners_low h c in omega arith
+    never (inr all) = let l = banners_low room h c in omega arith
 
-placed_raised : (b : ℕ) (down : Bool) (h : Journal) → Conducted h → MayRaise b h → PlacedIn h → PlacedIn (at_port (raised b down) ∷ h)
-placed_raised b down h c may was = record {
+placed_raised : (room : ℕ) (b : ℕ) (down : Bool) (h : Journal) → Conducted room h → MayRaise b h → PlacedIn h → PlacedIn (at_port (raised b down) ∷ h)
+placed_raised room b down h c may was = record {
   due_is = λ some. was.due_is (let d = less in omega arith);
   late = was.late;
   steady = λ s d. by_reset (is_reset b) refl less s d;
 }
   where
     less : count_by is_reset (due_of h) ≡ cond (is_reset b) 1 0 + count_by is_reset (due_of (at_port (raised b down) ∷ h))
-    less = due_by is_reset refl b (nat_eq (polls_of h) empty_polls) (due_of h) (λ e. may.resumes (is_enough (polls_of h) e)) (λ e. may.next (is_fewer (polls_of h) (few_polls h c) e))
+    less = due_by is_reset refl b (nat_eq (polls_of h) empty_polls) (due_of h) (λ e. may.resumes (is_enough (polls_of h) e)) (λ e. may.next (is_fewer (polls_of h) (few_polls room h c) e))
 
     by_reset : (t : Bool) → is_reset b ≡ t → count_by is_reset (due_of h) ≡ cond t 1 0 + count_by is_reset (due_of (at_port (raised b down) ∷ h))
         → (length (marks_of h) ≡ 0) ⊎ (banners_of h ≡ length (marks_of h) + 1) → (count_by is_reset (due_of (at_port (raised b down) ∷ h)) ≡ 0) ⊎ (length (marks_of h) ≡ cond t (resets_of h + 1) (resets_of h) + 1)
         → lines_there (cut_of h) (raw_of h) ≡ length (lines_now h)
-    by_reset true is e s d = was.steady s (inr (let m = may.behind_mark is in let w = (marks_between h c).1 in omega arith))
+    by_reset true is e s d = was.steady s (inr (let m = may.behind_mark is in let w = (marks_between room h c).1 in omega arith))
     by_reset false is e s (inl none) = was.steady s (inl (omega arith))
     by_reset false is e s (inr one) = was.steady s (inr one)
 
-placed_got : (r : Reply) (h : Journal) (t : Bool) → Conducted (at_port (got r) ∷ h) → begins r (port_log h) ≡ t → PlacedIn h
+placed_got : (room : ℕ) (r : Reply) (h : Journal) (t : Bool) → Conducted room (at_port (got r) ∷ h) → begins r (port_log h) ≡ t → PlacedIn h
     → Placed (length (marks_of h)) (resets_of h) (banners_of (at_port (got r) ∷ h)) (count_by is_reset (due_of h)) (length (cond t [] (lines_now h))) (lines_there (cut_of h) (raw_of h))
-placed_got r h true c is was = record { due_is = was.due_is; late = λ some few. none; steady = λ s d. none }
+placed_got room r h true c is was = record { due_is = was.due_is; late = λ some few. none; steady = λ s d. none }
   where
     none : lines_there (cut_of h) (raw_of h) ≡ 0
     none =
-        let b = (begins_at r h _ c is (epoch_is h c.1).stands).steady in
+        let b = (begins_at room r h _ c is (epoch_is room h c.1).stands).steady in
         let s = some_banner (latest_got (port_log h)) (both_true (is_banner r) (has_banner (latest_got (port_log h))) is).1 in was.late (omega arith) (omega arith)
-placed_got r h false c is was = record {
+placed_got room r h false c is was = record {
   due_is = was.due_is;
   late = λ some few. was.late some (let f = banners_first r (latest_got (port_log h)) in omega arith);
   steady = λ s d. was.steady (by_banner (is_banner r) refl (banners_first r (latest_got (port_log h))) s) d;
@@ -362,9 +359,9 @@ placed_got r h false c is was = record {
     by_banner true b f (inr all) = inl (let z = none_banner (latest_got (port_log h)) (sym (ap (λ t. t && has_banner (latest_got (port_log h))) b) ∙ is) in omega arith)
     by_banner false b f (inr all) = inr (omega arith)
 
-module _ (h : Journal) (c : Conducted h) (calm : awaits_banner h ≡ false) (none : due_of h ≡ []) (was : PlacedIn h) where
+module _ (room : ℕ) (h : Journal) (c : Conducted room h) (calm : awaits_banner h ≡ false) (none : due_of h ≡ []) (was : PlacedIn h) where
   same_marks : length (marks_of h) ≡ resets_of h
-  same_marks = by_marks (marks_are h c)
+  same_marks = by_marks (marks_are room h c)
     where
       by_marks : IsMarked (length (marks_of h)) (resets_of h) (due_of h) → length (marks_of h) ≡ resets_of h
       by_marks (inl same) = same
@@ -405,23 +402,23 @@ module _ (h : Journal) (c : Conducted h) (calm : awaits_banner h ≡ false) (non
         steady = λ s u. (let w = was.steady s (inl none_due) in let o = other.1 in omega arith);
       }
 
-placed_scanned : (b : ℕ) (h : Journal) (t : Bool) → Conducted h → nat_eq b 10 ≡ t → MayScanNext b h → PlacedIn h
+placed_scanned : (room : ℕ) (b : ℕ) (h : Journal) (t : Bool) → Conducted room h → nat_eq b 10 ≡ t → MayScanNext b h → PlacedIn h
     → Placed (length (marks_of h)) (resets_of h) (banners_of h) (count_by is_reset (due_of h ++ more_served (raw_of h) b)) (length (cond t (lines_now h ++ raw_of h ∷ []) (lines_now h)))
     (lines_there (cond t (cut_of h ++ raw_of h ∷ []) (cut_of h)) (cond t [] (raw_of h ++ b ∷ [])))
-placed_scanned b h true c e may was =
-    placed_line h c may.epoch may.none_due was (due_of h ++ more_served (raw_of h) b) (ap (λ (d : List ℕ). d ++ more_served (raw_of h) b) may.none_due ∙ none_at_lf (raw_of h) b e)
-placed_scanned b h false c e may was = placed_byte h c may.epoch may.none_due was b
+placed_scanned room b h true c e may was =
+    placed_line room h c may.epoch may.none_due was (due_of h ++ more_served (raw_of h) b) (ap (λ (d : List ℕ). d ++ more_served (raw_of h) b) may.none_due ∙ none_at_lf (raw_of h) b e)
+placed_scanned room b h false c e may was = placed_byte room h c may.epoch may.none_due was b
 
-placed_is : (h : Journal) → Conducted h → PlacedIn h
-placed_is [] c = record { due_is = λ some. absurd (omega arith); late = λ some few. absurd (omega arith); steady = λ s d. none_lines }
-placed_is (at_port (dropped b) ∷ h) c = absurd c.0
-placed_is (at_port marked ∷ h) c = placed_marked h c.1 c.0 (placed_is h c.1)
-placed_is (at_port (raised b down) ∷ h) c = placed_raised b down h c.1 c.0 (placed_is h c.1)
-placed_is (at_port (got r) ∷ h) c = placed_got r h (begins r (port_log h)) c refl (placed_is h c.1)
-placed_is (at_port _ ∷ h) c = placed_is h c.1
-placed_is (scanned b ∷ h) c = placed_scanned b h (nat_eq b 10) c.1 refl c.0 (placed_is h c.1)
-placed_is (line_over ∷ h) c = placed_line h c.1 c.0.epoch c.0.none_due (placed_is h c.1) (due_of h) c.0.none_due
-placed_is (_ ∷ h) c = placed_is h c.1
+placed_is : (room : ℕ) (h : Journal) → Conducted room h → PlacedIn h
+placed_is room [] c = record { due_is = λ some. absurd (omega arith); late = λ some few. absurd (omega arith); steady = λ s d. none_lines }
+placed_is room (at_port (dropped b) ∷ h) c = absurd c.0
+placed_is room (at_port marked ∷ h) c = placed_marked room h c.1 c.0 (placed_is room h c.1)
+placed_is room (at_port (raised b down) ∷ h) c = placed_raised room b down h c.1 c.0 (placed_is room h c.1)
+placed_is room (at_port (got r) ∷ h) c = placed_got room r h (begins r (port_log h)) c refl (placed_is room h c.1)
+placed_is room (at_port _ ∷ h) c = placed_is room h c.1
+placed_is room (scanned b ∷ h) c = placed_scanned room b h (nat_eq b 10) c.1 refl c.0 (placed_is room h c.1)
+placed_is room (line_over ∷ h) c = placed_line room h c.1 c.0.epoch c.0.none_due (placed_is room h c.1) (due_of h) c.0.none_due
+placed_is room (_ ∷ h) c = placed_is room h c.1
 
 -- behind as many answers as it got in it
 pub now_answered : (h : Journal) → answers_behind_mark (latest_got (port_log h)) ≡ answers_in (got_now h)
@@ -451,22 +448,22 @@ none_yet e k = let n = no_due (nat_eq (resets_there [] []) e && nat_eq (lines_th
 
 -- ---- a `?` is raised where the text has come to
 
-module _ (b : ℕ) (h : Journal) (c : Conducted h) (may : MayRaise b h) (q : b ≡ query) where
+module _ (room : ℕ) (b : ℕ) (h : Journal) (c : Conducted room h) (may : MayRaise b h) (q : b ≡ query) where
   no_reset_due : count_by is_reset (due_of h) ≡ 0
   no_reset_due =
-      let next = due_next b h c may q in
+      let next = due_next room b h c may q in
       let e = ap (count_by is_reset) next in
       let s = sum_by-cons (λ x. cond (is_reset x) 1 0) b (drop 1 (due_of h)) in
-      let n = ap (count_by is_reset) (one_due h b c next) in
+      let n = ap (count_by is_reset) (one_due room h b c next) in
       let o = ap (λ x. cond {A = ℕ} (is_reset x) 1 0) q in omega arith
 
   resets_same : epoch_behind (latest_got (port_log h)) ≡ resets_there (cut_of h) (raw_of h)
-  resets_same = let r = resets_begun b h c may q (steady b h c may q) in let a = resets_are h c in let n = no_reset_due in omega arith
+  resets_same = let r = resets_begun room b h c may q (steady room b h c may q) in let a = resets_are room h c in let n = no_reset_due in omega arith
 
   lines_same : answers_behind_mark (latest_got (port_log h)) ≡ lines_there (cut_of h) (raw_of h)
   lines_same =
-      let p = (placed_is h c).steady (steady b h c may q) (inl no_reset_due) in
-      let a = all_now h c (may.after (ap waits_for_lines q)) in
+      let p = (placed_is room h c).steady (steady room b h c may q) (inl no_reset_due) in
+      let a = all_now room h c (may.after (ap waits_for_lines q)) in
       let n = now_answered h in omega arith
 
   place_is : (e k : ℕ) → is_at e k (latest_got (port_log h)) ≡ (nat_eq (resets_there (cut_of h) (raw_of h)) e && nat_eq (lines_there (cut_of h) (raw_of h)) k)
@@ -475,13 +472,13 @@ module _ (b : ℕ) (h : Journal) (c : Conducted h) (may : MayRaise b h) (q : b �
 InLines : (e k : ℕ) → Journal → Type 0
 InLines e k h = AreIn e k (raised_behind e k (port_log h)) (due_of h) (cut_of h) (raw_of h)
 
-raised_in : (e k b : ℕ) (down : Bool) (h : Journal) → Conducted h → MayRaise b h → InLines e k h → InLines e k (at_port (raised b down) ∷ h)
+raised_in : (room : ℕ) (e k b : ℕ) (down : Bool) (h : Journal) → Conducted room h → MayRaise b h → InLines e k h → InLines e k (at_port (raised b down) ∷ h)
 unfolding InLines AreIn
-raised_in e k b down h c may was =
+raised_in room e k b down h c may was =
     one_raised down (nat_eq b query) (is_at e k (latest_got (port_log h))) (nat_eq (resets_there (cut_of h) (raw_of h)) e && nat_eq (lines_there (cut_of h) (raw_of h)) k)
     (raised_behind e k (port_log h)) (count_by is_query (due_of h)) _ _
-    (due_by is_query refl b (nat_eq (polls_of h) empty_polls) (due_of h) (λ x. may.resumes (is_enough (polls_of h) x)) (λ x. may.next (is_fewer (polls_of h) (few_polls h c) x)))
-    (λ t u. sym (place_is b h c may (is_same b query t) e k) ∙ u) was
+    (due_by is_query refl b (nat_eq (polls_of h) empty_polls) (due_of h) (λ x. may.resumes (is_enough (polls_of h) x)) (λ x. may.next (is_fewer (polls_of h) (few_polls room h c) x)))
+    (λ t u. sym (place_is room b h c may (is_same b query t) e k) ∙ u) was
 
 scanned_in : (e k b : ℕ) (h : Journal) (t : Bool) → nat_eq b 10 ≡ t → MayScanNext b h → InLines e k h
     → AreIn e k (raised_behind e k (port_log h)) (due_of h ++ more_served (raw_of h) b) (cond t (cut_of h ++ raw_of h ∷ []) (cut_of h)) (cond t [] (raw_of h ++ b ∷ []))
@@ -491,15 +488,15 @@ scanned_in e k b h true is may was =
     (ap (λ (d : List ℕ). d ++ more_served (raw_of h) b) may.none_due ∙ none_at_lf (raw_of h) b is) was
 scanned_in e k b h false is may was = byte_in e k (raised_behind e k (port_log h)) b (due_of h) (cut_of h) (raw_of h) may.none_due was
 
-in_lines : (e k : ℕ) (h : Journal) → Conducted h → InLines e k h
+in_lines : (room : ℕ) (e k : ℕ) (h : Journal) → Conducted room h → InLines e k h
 unfolding InLines
-in_lines e k [] c = none_yet e k
-in_lines e k (at_port (dropped b) ∷ h) c = absurd c.0
-in_lines e k (at_port (raised b down) ∷ h) c = raised_in e k b down h c.1 c.0 (in_lines e k h c.1)
-in_lines e k (at_port _ ∷ h) c = in_lines e k h c.1
-in_lines e k (scanned b ∷ h) c = scanned_in e k b h (nat_eq b 10) refl c.0 (in_lines e k h c.1)
-in_lines e k (line_over ∷ h) c = line_over_in e k (raised_behind e k (port_log h)) (due_of h) (due_of h) (cut_of h) (raw_of h) c.0.none_due c.0.none_due (in_lines e k h c.1)
-in_lines e k (_ ∷ h) c = in_lines e k h c.1
+in_lines room e k [] c = none_yet e k
+in_lines room e k (at_port (dropped b) ∷ h) c = absurd c.0
+in_lines room e k (at_port (raised b down) ∷ h) c = raised_in room e k b down h c.1 c.0 (in_lines room e k h c.1)
+in_lines room e k (at_port _ ∷ h) c = in_lines room e k h c.1
+in_lines room e k (scanned b ∷ h) c = scanned_in e k b h (nat_eq b 10) refl c.0 (in_lines room e k h c.1)
+in_lines room e k (line_over ∷ h) c = line_over_in e k (raised_behind e k (port_log h)) (due_of h) (due_of h) (cut_of h) (raw_of h) c.0.none_due c.0.none_due (in_lines room e k h c.1)
+in_lines room e k (_ ∷ h) c = in_lines room e k h c.1
 
 -- ---- by what was scanned
 
@@ -514,6 +511,6 @@ line_is e k h (inr over) =
     ap (λ (raw : List ℕ). queries_in e k 0 0 (cut_of h ++ raw ∷ [])) over.none ∙ line_more e k (cut_of h) ∙ ap (queries_in e k 0 0) (sym over.whole)
 
 -- in epoch e, behind k answers of it, `?` was raised no more often than it stands there
-pub raised_in_lines : (h : Journal) → Conducted h → (e k : ℕ) → raised_behind e k (port_log h) ≤ queries_in e k 0 0 (lines_of (scanned_of h))
+pub raised_in_lines : (room : ℕ) (h : Journal) → Conducted room h → (e k : ℕ) → raised_behind e k (port_log h) ≤ queries_in e k 0 0 (lines_of (scanned_of h))
 unfolding InLines AreIn
-raised_in_lines h c e k = let i = in_lines e k h c in let l = line_is e k h (cut_is h c) in omega arith
+raised_in_lines room h c e k = let i = in_lines room e k h c in let l = line_is e k h (cut_is room h c) in omega arith

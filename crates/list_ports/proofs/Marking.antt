@@ -12,11 +12,11 @@ use Rattle.status_report.specs.declared.Reply.TheVariants as replies
 use Rattle.status_report.specs.Answering.{lfs_in, is_answer, answers_in, is_banner}
 use Rattle.serial_ring.specs.declared.view.LinkStep.{LinkStep}
 use Rattle.serial_ring.specs.declared.view.LinkStep.TheVariants.{Took, Marked, Answered}
-use Rattle.serial_ring.specs.Marks.{Mark, IsMark, last_of}
+use Rattle.serial_ring.specs.Marks.{Mark, last_of}
 use Rattle.serial_ring.specs.Lists.{since, answers_behind_mark}
 use Rattle.serial_ring.specs.Logs as link
 use Rattle.serial_ring.specs.Logs.{AnswersWell, MayAnswer, greeted_in, next_mark, answers_since, lfs_since}
-use Rattle.serial_ring.proofs.Marking.{latest_is, more_marks, past_below}
+use Rattle.serial_ring.proofs.Marking.{more_marks, past_below}
 use Rattle.serial_ring.proofs.Logs.{counts, greeted_on, well_on, taken_on, answers_stored}
 use Rattle.stream_host.specs.Links.{behind_lf, banners_in, AreGreetings}
 use Rattle.stream_host.specs.Ports.{AreGreeted, SeemsFull, AnswersLines}
@@ -165,8 +165,8 @@ module _ (ws : List ℕ) (closed shut_is over : Bool) (waiting : List Reply) (co
   whole : drop mark_bytes (stored_in host) ≡ drop mark_bytes (board.taken_in l) ++ ws
   whole = ap (drop mark_bytes) p.fifo ∙ drop_on mark_bytes (board.taken_in l) ws reached
 
-  pub seems_full : 128 ≤ length ws → SeemsFull host
-  seems_full many = record {
+  pub seems_full : (room : ℕ) → room ≤ length ws → SeemsFull room host
+  seems_full room many = record {
     greeted = greeted_in at_got.seen;
     are = seen_are;
     full = (let b = behind_taken (answers_behind_mark (latest_got host)) (drop mark_bytes (board.taken_in l)) ws few_behind in let e = ap (λ z. length (behind_lf (answers_behind_mark (latest_got host)) z)) whole in omega arith);
@@ -195,15 +195,6 @@ module _ (count : ℕ) (mark : Mark) (waiting : List Reply) (bytes marks : List 
   pub mark_stored : MarksPass count (mark.0 + 1, count) waiting bytes (length bytes ∷ marks) at_banners steps
   mark_stored = let n = m.number_is in
       record { count_is = m.count_is; number_is = omega arith; bytes_is = m.count_is; within = omega arith; rising = (m.within, m.rising); loads = more_marks (length bytes) marks (link.marked_in steps) m.loads; well = m.well; greeted = m.greeted }
-
-  pub mark_loaded : MarksPass count mark waiting bytes marks at_banners (Marked mark.0 mark.1 ∷ steps)
-  mark_loaded = record { count_is = m.count_is; number_is = m.number_is; bytes_is = m.bytes_is; within = m.within; rising = m.rising; loads = (is, m.loads); well = m.well; greeted = m.greeted }
-    where
-      is : IsMark marks mark
-      is = subst (λ (z : Mark). IsMark marks z) (λ i. (sym m.number_is i, sym m.bytes_is i)) (latest_is marks)
-
-  pub byte_taken : (b : ℕ) → MarksPass count mark waiting bytes marks at_banners (Took b ∷ steps)
-  byte_taken b = record { count_is = m.count_is; number_is = m.number_is; bytes_is = m.bytes_is; within = m.within; rising = m.rising; loads = m.loads; well = m.well; greeted = m.greeted }
 
   -- a Banner more waits
   pub reply_answered : (r : Reply) → MayAnswer steps r → MarksPass count mark (waiting ++ r ∷ []) bytes marks at_banners (Answered r ∷ steps)

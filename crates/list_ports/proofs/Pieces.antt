@@ -1,5 +1,5 @@
 -- What each call makes of the pieces, the stops and the halts, and how many pieces are unfinished.
-use Rattle.std.proofs.Common.{◌≡◌, ℕ, suc, ◌+◌, ◌-◌, ◌<◌, ◌≤◌, ◌^◌, ◌⊎◌, inl, inr, Bool, true, false, cond, nat_lt, List, [], ◌∷◌, ◌++◌, length, drop, reverse, refl, sym, ap, ◌∙◌, subst, arith, append_assoc}
+use Rattle.std.proofs.Common.{◌≡◌, ℕ, suc, ◌+◌, ◌-◌, ◌<◌, ◌≤◌, ◌⊎◌, inl, inr, Bool, true, false, cond, nat_lt, List, [], ◌∷◌, ◌++◌, length, drop, reverse, refl, sym, ap, ◌∙◌, subst, arith, append_assoc}
 use Rattle.std.proofs.lemmas.Bool.Decides.{nat_tests}
 use Rattle.std.proofs.lemmas.List.{reverse-append, reverse-reverse, length-reverse}
 use Rattle.std.proofs.lemmas.Grind.{reverse_onto}
@@ -11,7 +11,7 @@ use Rattle.step_line.specs.Ordering.{InTurn, ComesNext, has_ended}
 use Rattle.step_line.specs.Finishing.{tick_count, ticks_together, unfinished, most_unfinished}
 use Rattle.step_line.proofs.Finished.{together, together_both, together_on, all_done, fewer_later}
 use Rattle.motion_ring.specs.declared.lists.Sent.{Sent}
-use Rattle.motion_ring.specs.Sides.{MayPublish, with_piece, with_stop, with_halt, ticks_at, ticks_published, unfinished_in}
+use Rattle.motion_ring.specs.Sides.{MayPublish, with_piece, with_stop, ticks_at, ticks_published, unfinished_in}
 use Rattle.motion_ring.specs.Sides.{published_in as pieces_sent}
 use Rattle.motion_ring.proofs.Ticks.{has_tick, of_suffix, together_reversed}
 use Rattle.list_ports.specs.Joining.{PiecesPass, IsGoing, HasHalted, one_if_some}
@@ -82,10 +82,6 @@ one_got p ws before = ap (λ (l : List Piece). l ++ before) (reversed p ws) ∙ 
 -- ---- where no halt is to be found
 
 module _ (ws : List Piece) (left done : ℕ) (stop : Bool) (s : Sent) (since : NewestFirst Piece) (halts : NewestFirst (ℕ × ℕ)) where
-  pub is_going : s.waits ≡ stop → IsGoing ws left done stop s since halts ⊎ HasHalted ws left done stop s since halts → IsGoing ws left done stop s since halts
-  is_going same (inl g) = g
-  is_going same (inr h) = absurd (let e = sym h.waits_is ∙ (same ∙ h.stop_is) in cc)
-
   pub runs_on : s.waits ≡ false → IsGoing ws left done stop s since halts ⊎ HasHalted ws left done stop s since halts → IsGoing ws left done stop s since halts
   runs_on none (inl g) = g
   runs_on none (inr h) = absurd (let e = sym h.waits_is ∙ none in cc)
@@ -101,10 +97,6 @@ module _ (ws : List Piece) (left done : ℕ) (stop : Bool) (s : Sent) (since : N
   pub many_wait : most_unfinished ≤ length ws + one_if_some left → IsGoing ws left done stop s since halts ⊎ HasHalted ws left done stop s since halts → IsGoing ws left done stop s since halts
   many_wait many (inl g) = g
   many_wait many (inr h) = absurd (let w = ap length h.none_waits in let l = ap one_if_some h.none_left in omega arith)
-
-  pub is_there : s.waits ≡ true → stop ≡ false → IsGoing ws left done stop s since halts ⊎ HasHalted ws left done stop s since halts → HasHalted ws left done stop s since halts
-  is_there waits none (inl g) = absurd (let e = sym waits ∙ (g.waits_is ∙ none) in cc)
-  is_there waits none (inr h) = h
 
   module _ (g : IsGoing ws left done stop s since halts) where
     in_order : reverse s.since ≡ reverse since ++ ws
@@ -139,9 +131,6 @@ module _ (ws : List Piece) (left done : ℕ) (stop : Bool) (s : Sent) (since : N
 -- ---- the calls
 
 module _ (ws : List Piece) (left done : ℕ) (stop : Bool) (s : Sent) (known : ℕ) (passed since : NewestFirst Piece) (c u : ℕ) (halts : NewestFirst (ℕ × ℕ)) (f : PiecesPass ws left done stop s known passed since c u halts) where
-  pub few_done : done < 2 ^ 62
-  few_done = let q = f.short in omega arith
-
   pub piece_published : (p : Piece) → MayPublish s p → length ws + one_if_some left < most_unfinished → PiecesPass (ws ++ p ∷ []) left done stop (with_piece s p) known passed since c u halts
   piece_published p may room =
       let g = runs_on ws left done stop s since halts may.running f.phase in
@@ -210,25 +199,6 @@ module _ (ws : List Piece) (left done : ℕ) (stop : Bool) (s : Sent) (known : �
         left_is = refl;
         known_is = f.known_is;
         phase = inr (record { waits_is = g.waits_is ∙ is; stop_is = refl; none_waits = refl; none_left = refl; none_since = refl; halts_are = λ i. (length (f.fifo i), f.done_is i) ∷ g.halts_are i });
-      }
-
-  -- the board finds that halt: all pieces are finished
-  pub halt_found : s.waits ≡ true → stop ≡ false → PiecesPass ws left done stop (with_halt s done) done passed since c u halts
-  halt_found waits none =
-      let h = is_there ws left done stop s since halts waits none f.phase in
-      let z = h.none_left in
-      let t = ap ticks_together h.none_since in
-      let d = ap (λ (l : List Piece). ticks_together (drop 1 l)) h.none_since in
-      record {
-        fifo = f.fifo;
-        turns = f.turns;
-        short = f.short;
-        within = omega arith;
-        few = omega arith;
-        done_is = f.done_is;
-        left_is = f.left_is;
-        known_is = omega arith;
-        phase = inl (record { waits_is = sym none; since_is = λ i. reverse (sym h.none_waits i) ++ sym h.none_since i; ticks = omega arith; past = omega arith; halts_are = h.halts_are });
       }
 
 module _ (p : Piece) (ws : List Piece) (left done : ℕ) (stop : Bool) (s : Sent) (known : ℕ) (passed since : NewestFirst Piece) (c u : ℕ) (halts : NewestFirst (ℕ × ℕ)) (f : PiecesPass (p ∷ ws) left done stop s known passed since c u halts) where

@@ -33,7 +33,7 @@ use Rattle.board_rules.specs.Ports.{BoardLog, taken_in, answered_in, link_steps,
 use Rattle.board_rules.specs.Ports.PortStep.{took_exec}
 use Rattle.board_rules.specs.Takes.{takes_in}
 use Rattle.board_rules.proofs.LinkSteps.{taken_back, same_taken}
-use Rattle.list_ports.specs.Asked.{IsQuiet, resets_taken, told_by}
+use Rattle.list_ports.specs.Asked.{AwaitsNoReply, resets_taken, told_by}
 use Rattle.list_ports.specs.Joining.{RepliesPass, MarksPass}
 use Rattle.list_ports.proofs.Asks.{AllAnswered}
 use Rattle.list_ports.proofs.Marking.{answered_is, greeted_count, same_banners, drop_on, since_drops, same_lines}
@@ -130,7 +130,7 @@ banners_on : (rs ss : List Reply) → banners_in (rs ++ ss) ≡ banners_in rs + 
 banners_on rs ss = sum_by-append (λ (r : Reply). cond (is_banner r) 1 0) rs ss
 
 module _ (ws : List ℕ) (waiting : List Reply) (count : ℕ) (mark : Mark) (host : HostLog) (l : BoardLog) (fifo : stored_in host ≡ taken_in l ++ ws)
-    (q : RepliesPass waiting (answered_in l) (got_in host) (taken_in l)) (m : MarksPass count mark waiting (stored_in host) (marks_in host) (marks_at_banners host) (link_steps l)) (quiet : IsQuiet host) where
+    (q : RepliesPass waiting (answered_in l) (got_in host) (taken_in l)) (m : MarksPass count mark waiting (stored_in host) (marks_in host) (marks_at_banners host) (link_steps l)) (quiet : AwaitsNoReply host) where
   told_is : told_by l ≡ reverse waiting ++ latest_got host
   told_is = answered_is waiting host l q
 

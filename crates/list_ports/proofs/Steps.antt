@@ -1,17 +1,15 @@
 -- What calls of a port make of the lists and the logs, where a search does not find it.
-use Rattle.std.proofs.Common.{◌≡◌, ℕ, ◌+◌, ◌-◌, ◌<◌, ◌≤◌, ◌^◌, ◌⊎◌, inl, Bool, true, false, not, nat_eq, List, [], ◌∷◌, ◌++◌, length, map, take, drop, reverse, refl, sym, ap, ◌∙◌, subst, arith, append_assoc, length-append, Some}
+use Rattle.std.proofs.Common.{◌≡◌, ℕ, ◌+◌, ◌-◌, ◌<◌, ◌≤◌, ◌^◌, ◌⊎◌, inl, Bool, true, false, not, nat_eq, List, [], ◌∷◌, ◌++◌, length, take, drop, reverse, refl, sym, ap, ◌∙◌, subst, arith, append_assoc, length-append, Some}
 use Rattle.std.proofs.lemmas.Bool.Decides.{nat_tests}
-use Rattle.std.proofs.lemmas.List.{reverse-append, reverse-reverse, take-append-drop}
+use Rattle.std.proofs.lemmas.List.{take-append-drop}
 use Rattle.std.specs.declared.option.Option.{Option}
 use Rattle.step_line.specs.declared.Piece.{Piece}
 use Rattle.step_line.specs.Ordering.{ComesNext}
-use Rattle.step_line.specs.Finishing.{tick_count, ticks_together, unfinished, most_unfinished}
-use Rattle.motion_ring.specs.declared.lists.Sent.{Sent}
-use Rattle.motion_ring.specs.Sides.{ticks_at, unfinished_in}
-use Rattle.board_rules.specs.Ports.{taken_in, link_steps, has_closed_in, answered_in, published_in, known_in, sent_in, unstopped, asks_report, said, IsMarkedPast, MayAnswer, MayPublish, MayStop, MayAskHalt, MayBeDone, HasFewReports, LacksPieceRoom}
+use Rattle.step_line.specs.Finishing.{tick_count, unfinished, most_unfinished}
+use Rattle.board_rules.specs.Ports.{taken_in, link_steps, has_closed_in, answered_in, known_in, sent_in, asks_report, said, IsMarkedPast, MayAnswer, MayPublish, MayStop, MayBeDone, HasFewReports, LacksPieceRoom}
 use Rattle.board_rules.specs.Ports.{BoardLog}
-use Rattle.board_rules.specs.Ports.PortStep.{took_exec, published, no_piece_room, loaded, stored_stop, found_halt}
-use Rattle.board_rules.proofs.Unstopped.{NeverStops, sent_alone, published_back}
+use Rattle.board_rules.specs.Ports.PortStep.{took_exec, published, no_piece_room, loaded, stored_stop}
+use Rattle.board_rules.proofs.Unstopped.{NeverStops}
 use Rattle.realtime_flags.specs.declared.words.Flag.{Flag}
 use Rattle.realtime_flags.specs.declared.words.Flag.TheVariants as flags
 use Rattle.realtime_flags.specs.Bits.{is_flag, is_up, report_flag, raises_of, IsNamed}
@@ -21,7 +19,6 @@ use Rattle.pulse_engine.specs.Logs.PieceEvent.{asked as stop_asked, ticked, halt
 use Rattle.pulse_engine.specs.Logs.PieceEvent.{got as piece_came}
 use Rattle.status_report.specs.declared.Reply.{Reply}
 use Rattle.status_report.specs.declared.Reply.TheVariants as replies
-use Rattle.status_report.specs.Answering.{receive_room}
 use Rattle.stream_host.specs.Ports.{TakesByte, TakesRaise, SeemsFull, AnswersLines, PortsAgree}
 use Rattle.code_table.specs.Tables.{query}
 use Rattle.stream_host.specs.Links.{banners_in}
@@ -32,8 +29,7 @@ use Rattle.board_rules.proofs.LinkSteps.{taken_back, same_taken}
 use Rattle.stream_host.specs.Steps.{HostLog}
 use Rattle.stream_host.specs.Steps.PortStep.{stored, dropped, marked, raised, got}
 use Rattle.list_ports.specs.Asked.{AsksBetween, LooksFirst, AsksPass, report_is_up, raised_behind, words_behind, told_by, resets_taken, has_looked}
-use Rattle.pulse_engine.proofs.Whole.{all_since}
-use Rattle.list_ports.specs.Joining.{Listed, FlagsPass, MarksPass, RepliesPass, IsGoing, Joined, with_flag, numbers_of, one_if_some}
+use Rattle.list_ports.specs.Joining.{Listed, FlagsPass, MarksPass, RepliesPass, Joined, with_flag, one_if_some}
 use Rattle.stream_host.specs.Raises.{raised_to, raises_in}
 use Rattle.board_rules.specs.Takes.{takes_in}
 use Rattle.list_ports.proofs.Asks as reports
@@ -47,10 +43,10 @@ use Rattle.list_ports.proofs.Raising as words
 module _ (l : Listed) (host : HostLog) (board : BoardLog) (pulse : PieceLog) (j : Joined l host board pulse) where
   -- ---- the host
 
-  pub byte_dropped : (b : ℕ) → receive_room ≤ length l.bytes → Joined l (dropped b ∷ host) board pulse × SeemsFull host
-  byte_dropped b many = (
+  pub byte_dropped : (room b : ℕ) → room ≤ length l.bytes → Joined l (dropped b ∷ host) board pulse × SeemsFull room host
+  byte_dropped room b many = (
     record { bytes = j.bytes; replies = j.replies; marks = j.marks; in_time = j.in_time; flags = j.flags; pieces = j.pieces; stops = j.stops; asks = j.asks },
-    marks.seems_full l.bytes l.closed (is_shut_in host) (has_closed_in board) l.replies l.stored l.mark host board j.bytes j.replies j.marks many,
+    marks.seems_full l.bytes l.closed (is_shut_in host) (has_closed_in board) l.replies l.stored l.mark host board j.bytes j.replies j.marks room many,
   )
 
   pub byte_stored : (b : ℕ) → TakesByte host → Joined (record l { bytes = l.bytes ++ b ∷ []; stored = l.stored + 1 }) (stored b ∷ host) board pulse
@@ -243,21 +239,6 @@ module _ (l : Listed) (host : HostLog) (board : BoardLog) (pulse : PieceLog) (j 
     asks = j.asks;
   }
 
-  pub halt_found : MayAskHalt board → l.stop ≡ false → Joined l host (found_halt l.done ∷ board) pulse × MayBeDone l.done board
-  halt_found waits none = (
-    record {
-      bytes = j.bytes;
-      replies = j.replies;
-      marks = j.marks;
-      in_time = j.in_time;
-      flags = j.flags;
-      pieces = pieces.halt_found l.pieces l.left l.done l.stop (sent_in board) (known_in board) (pieces_of pulse) (got_since pulse) (counted pulse) (uncounted pulse) (halts_of pulse) j.pieces waits none;
-      stops = j.stops;
-      asks = j.asks;
-    },
-    may_be_done,
-  )
-
 -- ---- the pulse
 
 module _ (l : Listed) (host : HostLog) (board : BoardLog) (pulse : PieceLog) (j : Joined l host board pulse) where
@@ -317,9 +298,6 @@ module _ (l : Listed) (host : HostLog) (board : BoardLog) (pulse : PieceLog) (j 
   pub few_done : l.done < 2 ^ 62
   few_done = let q = j.pieces.short in omega arith
 
-  pub some_left : HasTick pulse → 0 < l.left
-  some_left more = let e = j.pieces.left_is in omega arith
-
   -- ---- both
 
   -- what host and board have done agrees
@@ -342,31 +320,3 @@ module _ (l : Listed) (host : HostLog) (board : BoardLog) (pulse : PieceLog) (j 
     in_time = j.in_time;
     are = marks.are_greeted l.bytes l.closed (is_shut_in host) (has_closed_in board) l.replies l.stored l.mark host board j.bytes j.replies j.marks;
   }
-
-  -- what was published is what was got or dropped and what waits
-  pub pieces_front : published_in board ≡ reverse (pieces_of pulse) ++ l.pieces
-  pieces_front =
-      published_back board ∙ ap reverse j.pieces.fifo ∙ reverse-append (reverse l.pieces) (pieces_of pulse) ∙ ap (λ (ps : List Piece). reverse (pieces_of pulse) ++ ps) (reverse-reverse l.pieces)
-
-  -- where no stop was stored the pulse never halted, and all that it got is counted since the beginning
-  module _ (none : NeverStops board) where
-    alone : sent_in board ≡ unstopped (reverse (published_in board))
-    alone = sent_alone board none
-
-    going : IsGoing l.pieces l.left l.done l.stop (sent_in board) (got_since pulse) (halts_of pulse)
-    going = pieces.runs_on l.pieces l.left l.done l.stop (sent_in board) (got_since pulse) (halts_of pulse) (ap (λ (s : Sent). s.waits) alone) j.pieces.phase
-
-    pub never_halts : halts_of pulse ≡ []
-    never_halts = sym going.halts_are ∙ ap (λ (s : Sent). map numbers_of s.halts) alone
-
-    pub all_counted : counted pulse + uncounted pulse ≡ ticks_together (pieces_of pulse)
-    all_counted =
-        let t = going.ticks in let d = j.pieces.done_is in let u = j.pieces.left_is in
-        let b = ap (λ (s : Sent). ticks_at s.halts) alone in
-        let a = ap ticks_together (all_since pulse never_halts) in omega arith
-
-    pub few_unfinished : unfinished (published_in board) (counted pulse) ≤ most_unfinished
-    few_unfinished =
-        let all : l.done - 0 ≡ counted pulse = (let d = j.pieces.done_is in omega arith) in
-        let e = ap (λ (s : Sent). unfinished_in s l.done) alone ∙ (λ i. unfinished (reverse-reverse (published_in board) i) (all i)) in
-        let f = j.pieces.few in omega arith

@@ -29,7 +29,7 @@ is_at e k replies = nat_eq (epoch_behind replies) e && nat_eq (answers_behind_ma
 
 -- Nothing that was sent waits for a reply: of each mark, and of each reset, the Banner was got, and each line that was stored to its end
 -- behind the last mark has its answer.
-pub record IsQuiet (h : HostLog) : Type 0 where
+pub record AwaitsNoReply (h : HostLog) : Type 0 where
   pub marks : (length (marks_in h) ≡ 0) ⊎ (banners_in (latest_got h) ≡ length (marks_in h) + 1)
   pub resets : resets_in h ≤ epoch_behind (latest_got h)
   pub lines : lfs_in (drop (latest (marks_in h)) (stored_in h)) ≡ answers_behind_mark (latest_got h)
@@ -37,7 +37,7 @@ pub record IsQuiet (h : HostLog) : Type 0 where
 -- `?` is raised only then
 abbrev pub AsksBetween : HostLog → Type 0
 AsksBetween [] = Unit {0}
-AsksBetween (raised b down ∷ h) = (b ≡ query → IsQuiet h) × AsksBetween h
+AsksBetween (raised b down ∷ h) = (b ≡ query → AwaitsNoReply h) × AsksBetween h
 AsksBetween (_ ∷ h) = AsksBetween h
 
 -- how often `?` was raised in epoch e behind k answers of it, and found its flag down

@@ -21,12 +21,12 @@ use Rattle.motion_ring.specs.Sides.{ticks_at, ticks_published, unfinished_in}
 use Rattle.motion_ring.specs.Sides.{published_in as pieces_sent}
 use Rattle.motion_ring.specs.Ticks.{slots}
 use Rattle.board_rules.specs.Ports.{taken_in, link_steps, has_closed_in, answered_in, sent_in, known_in}
-use Rattle.status_report.specs.Answering.{reply_room, receive_room, lfs_in, answers_in}
+use Rattle.status_report.specs.Answering.{reply_room, lfs_in, answers_in}
 use Rattle.board_rules.specs.Ports.{BoardLog}
 use Rattle.pulse_engine.specs.Logs.{PieceLog, pieces_of, got_since, counted, uncounted, saw_stop, halts_of}
 use Rattle.serial_ring.specs.declared.view.LinkStep.{LinkStep}
 use Rattle.serial_ring.specs.Marks.{Mark, AreMarks, AreRising, latest}
-use Rattle.serial_ring.specs.Lists.{AreAtMost}
+use Rattle.serial_ring.specs.Lists.{IsRoom, AreAtMost}
 use Rattle.serial_ring.specs.Logs.{marked_in, greeted_in, taken_at_banners, answers_since, lfs_since, AnswersWell}
 use Rattle.stream_host.specs.Links.{banners_in, AreGreetings}
 use Rattle.stream_host.specs.Steps.{stored_in, stored_at_banners, got_in, marks_in, marks_at_banners, is_shut_in}
@@ -49,9 +49,10 @@ pub record Listed : Type 0 where
   pub done : ℕ
   pub stop : Bool
 
--- there is room for 128 bytes, 16 replies and six pieces, and the replies that wait have a text each
-pub record AreSized (bytes replies pieces : ℕ) (waiting : List Reply) : Type 0 where
-  pub bytes_are : bytes ≡ receive_room
+-- there is room for so many bytes, 16 replies and six pieces, and the replies that wait have a text each
+pub record AreSized (room bytes replies pieces : ℕ) (waiting : List Reply) : Type 0 where
+  pub sized : IsRoom room
+  pub bytes_are : bytes ≡ room
   pub replies_are : replies ≡ reply_room
   pub pieces_are : pieces ≡ slots
   pub texts : All IsReply waiting

@@ -2,16 +2,17 @@
 
 ghost use Rattle.std.specs.Prelude.{◌≡◌, ℕ, ◌+◌, [], ◌∷◌, ◌≤◌, true, length, OnOk, OnErr, IfErr};
 ghost use Rattle.std.specs.List.{slice_get};
-ghost use Rattle.status_report.specs.Answering.{receive_room, reply_room};
-ghost use Rattle.board_rules.specs.Ports.{BoardLog, said, MayAnswer, IsMarkedPast, HasTakenFew, HasFewReports, LacksReplyRoom, asks_report};
-ghost use Rattle.board_rules.specs.Ports.PortStep.{took, found_empty, found_closed, found_free, no_reply_room, took_exec, took_ovr};
+ghost use Rattle.status_report.specs.Answering.{reply_room};
+ghost use Rattle.step_line.specs.Finishing.{most_unfinished};
+ghost use Rattle.board_rules.specs.Ports.{BoardLog, said, MayAnswer, MayBeDone, MayPublish, IsMarkedPast, HasTakenFew, HasFewReports, LacksPieceRoom, LacksReplyRoom, asks_report};
+ghost use Rattle.board_rules.specs.Ports.PortStep.{took, found_empty, found_closed, found_free, no_reply_room, took_exec, took_ovr, published, no_piece_room, loaded};
 ghost use Rattle.stream_host.specs.Steps.{HostLog};
 ghost use Rattle.pulse_engine.specs.Logs.{PieceLog};
-ghost use Rattle.list_ports.specs.Joining.{Joined};
+ghost use Rattle.list_ports.specs.Joining.{Joined, one_if_some};
 ghost use Rattle.list_ports.specs.Finding.{byte_found};
 
 use crate::Lists;
-use crate::lists::{MOST_UNFINISHED, RECEIVE_ROOM};
+use crate::lists::MOST_UNFINISHED;
 use bitflags::Flags;
 use board_rules::BoardPort;
 use code_table::{Exec, Ovr};
@@ -19,9 +20,11 @@ use serial_ring::ByteIn;
 use status_report::Reply;
 use step_line::Piece;
 
-impl BoardPort for Lists {
+impl<const RX: usize> BoardPort for Lists<RX> {
     /// What the host and the pulse have done.
     ghost Rest = { HostLog × PieceLog };
+
+    ghost room = { RX };
 
     ghost stands = { λ lists far l. Joined lists far.0 l far.1 };
 
@@ -47,13 +50,13 @@ impl BoardPort for Lists {
         self.mark
     }
 
-    /// All the room there is: what waits and it are 128 bytes.
+    /// All the room there is: what waits and it are `RX` bytes.
     fn free(&mut self) -> u8
-        ensures room { result ≤ receive_room }
+        ensures room { result ≤ RX }
         ensures free { (far : HostLog × PieceLog) (l : BoardLog) → Joined self.old far.0 l far.1 → Joined self.new far.0 (found_free result ∷ l) far.1 }
-        ensures whole { result + length self.old.bytes ≡ receive_room }
+        ensures whole { result + length self.old.bytes ≡ RX }
     {
-        (RECEIVE_ROOM - self.bytes.len()) as u8
+        (RX - self.bytes.len()) as u8
     }
 
     /// Answers, or hands the reply back where 16 wait.
@@ -90,14 +93,25 @@ impl BoardPort for Lists {
 
     /// Publishes a piece, or hands it back where five are unfinished: those that wait, and the one that was got last
     /// where ticks of it are left.
-    fn publish(&mut self, p: Piece) -> Result<(), Piece> {
+    fn publish(&mut self, p: Piece) -> Result<(), Piece>
+        requires { (far : HostLog × PieceLog) × (l : BoardLog) × Joined self.old far.0 l far.1 × MayPublish l p }
+        ensures ok { OnOk result ((far : HostLog × PieceLog) (l : BoardLog) → Joined self.old far.0 l far.1 → MayPublish l p → Joined self.new far.0 (published p ∷ l) far.1) }
+        ensures full { OnErr result ((far : HostLog × PieceLog) (l : BoardLog) → Joined self.old far.0 l far.1 → (done : ℕ) × Joined self.new far.0 (no_piece_room done ∷ l) far.1 × LacksPieceRoom done l) }
+        ensures back { IfErr result (λ handed. handed ≡ p) }
+        ensures cause { OnErr result (most_unfinished ≤ length self.old.pieces + one_if_some self.old.left) }
+    {
         if self.unfinished() >= MOST_UNFINISHED {
             return Err(p);
         }
         self.pieces.try_push_back(p)
     }
 
-    fn done(&mut self) -> u64 {
+    /// All the ticks that are done.
+    fn done(&mut self) -> u64
+        ensures done { (far : HostLog × PieceLog) (l : BoardLog) → Joined self.old far.0 l far.1 → Joined self.new far.0 (loaded result ∷ l) far.1 }
+        ensures known { (far : HostLog × PieceLog) (l : BoardLog) → Joined self.old far.0 l far.1 → MayBeDone result l }
+        ensures found { result ≡ self.old.done }
+    {
         self.done
     }
 

@@ -9,7 +9,7 @@ use bitflags::Flags;
 use code_table::{Exec, Ovr};
 use realtime_flags::Flag;
 
-impl Lists {
+impl<const RX: usize> Lists<RX> {
     /// Raises a flag in its word.
     pub(crate) fn raise_flag(&mut self, flag: Flag)
         requires named { IsNamed flag }

@@ -1,12 +1,12 @@
 //! The lists as the port of a host.
 
-ghost use Rattle.std.specs.Prelude.{◌≡◌, [], ◌∷◌, IfSome, IfNone};
+ghost use Rattle.std.specs.Prelude.{◌≡◌, [], ◌∷◌, ◌≤◌, length, IfSome, IfNone};
 ghost use Rattle.std.specs.List.{slice_get};
 ghost use Rattle.status_report.specs.Replies.{IsReply};
 ghost use Rattle.board_rules.specs.Ports.{BoardLog};
-ghost use Rattle.stream_host.specs.Ports.{AnswersLines};
+ghost use Rattle.stream_host.specs.Ports.{AnswersLines, SeemsFull, TakesByte};
 ghost use Rattle.stream_host.specs.Steps.{HostLog};
-ghost use Rattle.stream_host.specs.Steps.PortStep.{got, no_reply};
+ghost use Rattle.stream_host.specs.Steps.PortStep.{stored, dropped, got, no_reply};
 ghost use Rattle.pulse_engine.specs.Logs.{PieceLog};
 ghost use Rattle.list_ports.specs.Joining.{Joined};
 
@@ -16,14 +16,21 @@ use serial_ring::Stored;
 use status_report::Reply;
 use stream_host::HostPort;
 
-impl HostPort for Lists {
+impl<const RX: usize> HostPort for Lists<RX> {
     /// What the board and the pulse have done.
     ghost Rest = { BoardLog × PieceLog };
 
+    ghost room = { RX };
+
     ghost stands = { λ lists far h. Joined lists h far.0 far.1 };
 
-    /// Stores a byte, or drops it where 128 wait.
-    fn store(&mut self, byte: u8) -> Stored {
+    /// Stores a byte, or drops it where `RX` wait.
+    fn store(&mut self, byte: u8) -> Stored
+        requires { (far : BoardLog × PieceLog) × (h : HostLog) × Joined self.old h far.0 far.1 × TakesByte h }
+        ensures stored { result ≡ Stored.Stored → (far : BoardLog × PieceLog) (h : HostLog) → Joined self.old h far.0 far.1 → TakesByte h → Joined self.new (stored byte ∷ h) far.0 far.1 }
+        ensures dropped { result ≡ Stored.Dropped → (far : BoardLog × PieceLog) (h : HostLog) → Joined self.old h far.0 far.1 → TakesByte h → Joined self.new (dropped byte ∷ h) far.0 far.1 × SeemsFull RX h }
+        ensures cause { result ≡ Stored.Dropped → RX ≤ length self.old.bytes }
+    {
         if self.bytes.try_push_back(byte).is_err() {
             return Stored::Dropped;
         }

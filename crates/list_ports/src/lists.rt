@@ -1,7 +1,8 @@
 //! The lists between a host, a board and a pulse.
 
 ghost use Rattle.std.specs.Prelude.{◌≡◌, ◌≤◌, ◌+◌, ◌↔◌, true, false, [], length, IfOk};
-ghost use Rattle.status_report.specs.Answering.{receive_room, reply_room};
+ghost use Rattle.serial_ring.specs.Lists.{IsRoom};
+ghost use Rattle.status_report.specs.Answering.{reply_room};
 ghost use Rattle.step_line.specs.Finishing.{tick_count};
 ghost use Rattle.list_ports.specs.Joining.{Joined, one_if_some};
 
@@ -13,9 +14,6 @@ use std::alloc::{AllocError, Global};
 use std::marker::Model;
 use step_line::Piece;
 
-/// How many bytes may wait.
-pub(crate) const RECEIVE_ROOM: usize = 128;
-
 /// How many replies may wait.
 const REPLY_ROOM: usize = 16;
 
@@ -26,9 +24,9 @@ const PIECE_ROOM: usize = 6;
 pub(crate) const MOST_UNFINISHED: usize = 5;
 
 /// What is on its way between a host, a board and a pulse: bytes, replies, flags and pieces, how many ticks are done, and
-/// whether a stop waits for its halt. Each of the three has them as its port. All room is taken once, by `new`.
+/// whether a stop waits for its halt. Each of the three has them as its port. `RX` bytes may wait. All room is taken once, by `new`.
 #[derive(Drop)]
-pub struct Lists {
+pub struct Lists<const RX: usize> {
     pub(crate) bytes: HeapCircularBuffer<u8>,
     pub(crate) closed: bool,
     /// How many bytes were stored.
@@ -46,14 +44,14 @@ pub struct Lists {
     pub(crate) stop: bool,
 }
 
-impl Model for Lists {
+impl<const RX: usize> Model for Lists<RX> {
     ghost use Rattle.list_ports.specs.Joining.{Listed, AreSized};
 
     ghost Value = { Listed };
 
     ghost view = { λ l. record { bytes = l.bytes.items; closed = l.closed; stored = l.stored; mark = l.mark; replies = l.replies.items; exec = l.exec.0; override = l.overrides.0; pieces = l.pieces.items; left = l.left; done = l.done; stop = l.stop } };
 
-    ghost invariant = { λ l. AreSized l.bytes.capacity l.replies.capacity l.pieces.capacity l.replies.items };
+    ghost invariant = { λ l. AreSized RX l.bytes.capacity l.replies.capacity l.pieces.capacity l.replies.items };
 }
 
 /// How many ticks a piece has.
@@ -67,13 +65,14 @@ pub(crate) fn ticks(piece: &Piece) -> u32
     }
 }
 
-impl Lists {
+impl<const RX: usize> Lists<RX> {
     /// Lists in which nothing is on its way, and the link is open.
-    pub fn new(alloc: Global) -> Result<Lists, AllocError>
+    pub fn new(alloc: Global) -> Result<Lists<RX>, AllocError>
+        requires { IsRoom RX }
         ensures { IfOk result (λ lists. Joined lists [] [] []) }
     {
         Ok(Lists {
-            bytes: HeapCircularBuffer::with_capacity(alloc, RECEIVE_ROOM)?,
+            bytes: HeapCircularBuffer::with_capacity(alloc, RX)?,
             closed: false,
             stored: 0,
             mark: (0, 0),
@@ -87,9 +86,9 @@ impl Lists {
         })
     }
 
-    /// At most 128 bytes and 16 replies wait.
+    /// At most `RX` bytes and 16 replies wait.
     pub fn have_room(&self)
-        ensures bytes { length self.now.bytes ≤ receive_room }
+        ensures bytes { length self.now.bytes ≤ RX }
         ensures replies { length self.now.replies ≤ reply_room }
     {
         let _bytes = self.bytes.len();

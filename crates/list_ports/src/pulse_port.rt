@@ -16,7 +16,7 @@ use crate::lists::ticks;
 use pulse_engine::PulsePort;
 use step_line::Piece;
 
-impl PulsePort for Lists {
+impl<const RX: usize> PulsePort for Lists<RX> {
     /// What the host and the board have done.
     ghost Rest = { HostLog × BoardLog };
 

@@ -12,14 +12,14 @@ use std::process::Abort;
 use step_line::{Mark, Piece};
 
 /// Lists in which nothing is on its way.
-fn fresh<R: Abort>(rt: &R, alloc: Global) -> Lists
+fn fresh<R: Abort>(rt: &R, alloc: Global) -> Lists<128>
     ensures { Joined result [] [] [] }
 {
     Lists::new(alloc).expect(rt, "memory")
 }
 
 /// Publishes a mark behind so many ticks. Whether there was room.
-fn publish(lists: &mut Lists, ticks: u32) -> bool
+fn publish(lists: &mut Lists<128>, ticks: u32) -> bool
     requires { HasPublished ticks lists.old }
     ensures { result ≡ true → HasPublished (ticks + 1) lists.new }
 {
@@ -30,7 +30,7 @@ fn publish(lists: &mut Lists, ticks: u32) -> bool
 }
 
 /// Publishes a mark behind so many ticks, and tells the pulse to stop behind it. Whether there was room.
-fn publish_and_stop(lists: &mut Lists, ticks: u32) -> bool
+fn publish_and_stop(lists: &mut Lists<128>, ticks: u32) -> bool
     requires { HasPublished ticks lists.old }
     ensures { result ≡ true → AwaitsHalt (ticks + 1) lists.new }
 {
@@ -44,7 +44,7 @@ fn publish_and_stop(lists: &mut Lists, ticks: u32) -> bool
 }
 
 /// Gets a mark, and counts its tick. Whether one was there.
-fn trace(lists: &mut Lists, ticks: u32) -> bool
+fn trace(lists: &mut Lists<128>, ticks: u32) -> bool
     requires { HasPublished ticks lists.old }
     ensures { result ≡ true → HasPublished ticks lists.new }
 {
@@ -59,7 +59,7 @@ fn trace(lists: &mut Lists, ticks: u32) -> bool
 }
 
 /// Halts, if a stop waits. Whether one did.
-fn halt(lists: &mut Lists, ticks: u32) -> bool
+fn halt(lists: &mut Lists<128>, ticks: u32) -> bool
     requires { AwaitsHalt ticks lists.old }
     ensures { result ≡ true → AwaitsHalt ticks lists.new }
 {
@@ -71,7 +71,7 @@ fn halt(lists: &mut Lists, ticks: u32) -> bool
 }
 
 /// Looks for the halt of the stop that waits.
-fn look(lists: &mut Lists, ticks: u32) -> Option<u64>
+fn look(lists: &mut Lists<128>, ticks: u32) -> Option<u64>
     requires { AwaitsHalt ticks lists.old }
     ensures some { OnSome result (HasPublished ticks lists.new) }
     ensures none { IfNone result (AwaitsHalt ticks lists.new) }
@@ -80,7 +80,7 @@ fn look(lists: &mut Lists, ticks: u32) -> Option<u64>
 }
 
 /// Publishes marks behind so many ticks until there is no room, and counts them, up to six.
-fn fill(lists: &mut Lists, ticks: u32) -> u32
+fn fill(lists: &mut Lists<128>, ticks: u32) -> u32
     requires few { ticks < 1000 }
     requires published { HasPublished ticks lists.old }
 {

@@ -19,20 +19,15 @@ use Rattle.step_record.specs.Taking.Event.{took, none as no_record}
 -- how often it was looked for a piece
 abbrev pub looks_in : PieceLog → ℕ
 looks_in [] = 0
-looks_in (asked b ∷ h) = looks_in h
 looks_in (got_piece p ∷ h) = looks_in h + 1
 looks_in (no_piece ∷ h) = looks_in h + 1
-looks_in (ticked ∷ h) = looks_in h
-looks_in (halted ps ∷ h) = looks_in h
+looks_in (_ ∷ h) = looks_in h
 
 -- how often it was asked for a stop
 abbrev pub asks_in : PieceLog → ℕ
 asks_in [] = 0
 asks_in (asked b ∷ h) = asks_in h + 1
-asks_in (got_piece p ∷ h) = asks_in h
-asks_in (no_piece ∷ h) = asks_in h
-asks_in (ticked ∷ h) = asks_in h
-asks_in (halted ps ∷ h) = asks_in h
+asks_in (_ ∷ h) = asks_in h
 
 -- none is got only where the head, as it was loaded last, showed that all are got
 abbrev pub SawPieces : PieceLog → (shown passed : ℕ) → Type 0

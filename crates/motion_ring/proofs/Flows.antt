@@ -56,10 +56,6 @@ ended_before (pieces.Segment s ∷ fresh) behind lt e = refl
 ended_before (pieces.Mark m ∷ fresh) behind lt e = refl
 ended_before (pieces.End ∷ fresh) behind lt e = e
 
-none_else : (l : List Piece) → (l ≡ [] → ⊥) → 0 < length l
-none_else [] n = absurd (n refl)
-none_else (p ∷ l) n = omega arith
-
 module _ (homes : Homes) (sent : Sent) (taken : Taken) (dropping : List Piece) (finished : ℕ) (filling busy : Bool) (f : Flows homes sent taken dropping finished filling busy) where
   pub long : length (published_in sent) ≡ length f.rest + (length dropping + length (passed_in taken))
   long = ap length f.fifo ∙ (let a = length-append f.rest (dropping ++ passed_in taken) in let b = length-append dropping (passed_in taken) in omega arith)

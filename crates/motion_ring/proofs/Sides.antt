@@ -6,11 +6,10 @@ use Rattle.step_line.specs.declared.Piece.TheVariants as pieces
 use Rattle.step_line.specs.Ordering.{has_ended}
 use Rattle.step_line.specs.Finishing.{tick_count, ticks_together}
 use Rattle.step_line.proofs.Finished.{together}
-use Rattle.motion_ring.specs.declared.lists.Halt.{Halt}
 use Rattle.motion_ring.specs.declared.lists.Taken.{Taken}
 use Rattle.motion_ring.specs.declared.lists.Passed.{Passed}
 use Rattle.motion_ring.specs.declared.lists.Passed.TheVariants.{Whole, Cut, Dropped}
-use Rattle.motion_ring.specs.Sides.{ticks_at, piece_of, ticks_passed, all_passed, AreFates, passed_in, fate, fates, halted_with, HaltsAt, unless_none, some_stops, some_halts}
+use Rattle.motion_ring.specs.Sides.{piece_of, ticks_passed, all_passed, AreFates, passed_in, fate, fates, halted_with, unless_none, some_stops, some_halts}
 
 pub some_kept : {A : Type 0} (n : ℕ) (a : A) (l : List A) → 0 < n → unless_none n a l ≡ a ∷ l
 some_kept zero a l lt = absurd (omega arith)
@@ -98,11 +97,6 @@ fates_cuts (p ∷ ps) (suc left) past le cuts = (omega arith, whole_cuts ps past
 pub halted_cuts : (dropped fresh : List Piece) (left : ℕ) (past : List Passed) → HasLeft fresh left → AreFates past → AreFates (map Dropped dropped ++ (fates fresh left ++ past))
 halted_cuts [] fresh left past le cuts = fates_cuts fresh left past le cuts
 halted_cuts (p ∷ dropped) fresh left past le cuts = halted_cuts dropped fresh left past le cuts
-
--- what the halts say of what was passed
-pub marked_ticks : (halts : List Halt) (past : List Passed) → HaltsAt halts past → all_passed past ≡ ticks_at halts
-marked_ticks [] past none = ap all_passed none
-marked_ticks (h ∷ hs) past m = m.4
 
 -- the last of some pieces
 pub last_of : (ps : List Piece) → 0 < length ps → (front : List Piece) × (p : Piece) × (ps ≡ front ++ p ∷ [])

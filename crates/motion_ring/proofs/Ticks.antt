@@ -65,10 +65,6 @@ pub few_pieces : (h : List Piece) → InTurn h → has_ended h ≡ false → len
 few_pieces [] turns going = omega arith
 few_pieces (p ∷ h) turns going = let e = together p h in let t = has_tick h p turns.0 going in let f = few_pieces h turns.1 turns.0.going in omega arith
 
-pub pieces_few : (h : List Piece) → InTurn h → length h ≤ ticks_together h + 1
-pieces_few [] turns = omega arith
-pieces_few (p ∷ h) turns = let e = together p h in let f = few_pieces h turns.1 turns.0.going in omega arith
-
 reverse_on : (h : List Piece) (p : Piece) → reverse (p ∷ h) ≡ reverse h ++ p ∷ []
 reverse_on h p = reverse_onto h p []
 

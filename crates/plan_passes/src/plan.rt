@@ -137,7 +137,7 @@ fn goes_on(b: &Block, pace: Pace, exit: u64) -> bool
 }
 
 impl<const N: usize> Plan<N> {
-    ghost use Rattle.std.specs.Prelude.{◌≡◌, ◌≤◌, ◌<◌, ◌+◌, ◌↔◌, [], length, get_or};
+    ghost use Rattle.std.specs.Prelude.{◌≡◌, ◌≤◌, ◌<◌, ◌+◌, ◌-◌, ◌↔◌, [], length, true, get_or};
     ghost use Rattle.std.specs.Prelude.{IsOk, OnOk, OnErr, IfErr, IfSome, IsNone};
     ghost use Rattle.units.specs.Limits.{IsRate};
     ghost use Rattle.line_geom.specs.Geometry.{IsGeomOf};
@@ -173,6 +173,21 @@ impl<const N: usize> Plan<N> {
         ensures { result ≡ length self.now.blocks }
     {
         self.ring.len()
+    }
+
+    /// Whether no other block has room.
+    pub fn is_full(&self) -> bool
+        ensures { (result ≡ true) ↔ (N - 1 ≤ length self.now.blocks) }
+    {
+        self.ring.len() + 1 >= N
+    }
+
+    /// For how many blocks more there is room.
+    pub fn free(&self) -> usize
+        ensures free { result + length self.now.blocks ≡ N - 1 }
+        ensures few { result < 64 }
+    {
+        N - (self.ring.len() + 1)
     }
 
     /// The block that is run, or None exactly if there is none.

@@ -1,18 +1,17 @@
 -- How segments join on.
-use Rattle.std.proofs.Common.{◌≡◌, ◌+◌, ◌<◌, ◌⊎◌, inl, inr, List, [], ◌∷◌, ◌++◌, Bool, true, false, cond, nat_eq, drop, sym, subst, ◌∙◌, arith}
+use Rattle.std.proofs.Common.{◌+◌, ◌⊎◌, inl, inr, List, [], ◌∷◌, ◌++◌, Bool, true, false, cond, nat_eq, sym, ◌∙◌, arith}
 use Rattle.std.specs.List.{All}
 use Rattle.std.proofs.lemmas.List.Elements.{All-push, All-head, All-tail}
-use Rattle.std.proofs.lemmas.Bool.Decides.{nat_tests}
 use Rattle.step_line.specs.declared.Segment.{Segment}
 use Rattle.step_line.specs.declared.Piece.{Piece}
 use Rattle.step_line.specs.declared.Piece.TheVariants as pieces
-use Rattle.step_line.specs.Pieces.{GoesOn, JoinsOn}
+use Rattle.step_line.specs.Pieces.{JoinsOn}
 use Rattle.line_geom.specs.declared.Block.{Block}
 use Rattle.plan_rules.specs.Blocks.{left_of}
-use Rattle.plan_rules.specs.Plans.{Planned, IsTail}
-use Rattle.plan_rules.specs.Segments.{moved, advanced}
+use Rattle.plan_rules.specs.Plans.{Planned}
+use Rattle.plan_rules.specs.Segments.{moved}
 use Rattle.plan_rules.specs.declared.Mode.{Mode}
-use Rattle.plan_rules.specs.Taking.{IsTaken, IsNext, IsTakenOf}
+use Rattle.plan_rules.specs.Taking.{IsTaken, IsTakenOf}
 use Rattle.plan_rules.specs.Joining.{IsFresh, IsCutAt, IsCutBehind, BlocksJoin}
 
 -- a fresh block behind the others
@@ -56,22 +55,3 @@ joins_behind before p mode (b ∷ bs) s joins taken = at (nat_eq s.n (left_of b)
   at : (t : Bool) → BlocksJoin (pieces.Segment s ∷ before) (cond t bs (record b { prepared = b.prepared + s.n } ∷ bs))
   at true = join_fresh (pieces.Segment s ∷ before) bs joins.1
   at false = (inr (cut_at p b mode s taken), joins.1)
-
--- a segment of the same block goes on where the one before it ends
-next_goes_on : (p q : Planned) (b : Block) (bs : List Block) (mode again : Mode) (s t : Segment) → IsTaken p b mode s
-    → s.n < left_of b → IsTakenOf q (moved s.n (b ∷ bs)) again t → GoesOn s t
-next_goes_on p q b bs mode again s t taken some next =
-    let b' : Block = record b { prepared = b.prepared + s.n } in
-    let test : nat_eq s.n (left_of b) ≡ false = grind (arith, nat_tests) in
-    let taken' : IsTaken q b' again t = subst (λ e. IsTakenOf q (cond e bs (b' ∷ bs)) again t) test next in
-    let cut = cut_at p b mode s taken in
-    record { line = taken'.line ∙ cut.line; mv = taken'.mv ∙ cut.mv; first = taken'.first ∙ cut.prepared }
-
-pub goes_on : (p : Planned) (b : Block) (mode again : Mode) (s t : Segment) → IsTail p b → IsNext p mode s → s.n < left_of b
-    → IsNext (advanced p s.n s.w_out) again t → GoesOn s t
-goes_on p b mode again s t tail next some then =
-    let bs = drop 1 p.blocks in
-    let taken : IsTaken p b mode s = subst (λ bs. IsTakenOf p bs mode s) tail.stands next in
-    let q = advanced p s.n s.w_out in
-    let then' = subst (λ bs. IsTakenOf q (moved s.n bs) again t) tail.stands then in
-    next_goes_on p q b bs mode again s t taken some then'

@@ -130,14 +130,6 @@ module _ {X : Type 0} (N k f : ℕ) (xs : List X) (is : IsRing N k f xs) where
       let some = is.some in
       grind (arith, next, old, free)
 
-  pub none_of : (f + 1) % N ≡ k → N ≤ length (between N k f xs) + 1
-  none_of full =
-      let next = wraps N (f + 1) (omega (arith, is.free)) in
-      let old = stretch_is N k f is.first is.free in
-      let long = length-between in
-      let some = is.some in
-      grind (arith, next, old, full)
-
   pub between_drop : 0 < length (between N k f xs) → between N ((k + 1) % N) f xs ≡ drop 1 (between N k f xs)
   between_drop some =
       let long = length-between in

@@ -24,3 +24,8 @@ pub record IsRing {X : Type 0} (N k f : ℕ) (xs : List X) : Type 0 where
   pub first : k < N
   pub free : f < N
   pub slots : length xs ≡ N
+
+-- two places among the first N of 64 slots
+pub record HasRing {X : Type 0} (N k f : ℕ) (xs : List X) : Type 0 where
+  pub all : length xs ≡ 64
+  pub ring : IsRing N k f (take N xs)

@@ -30,25 +30,25 @@ const UNUSED: Block = Block {
     entry: Cap::Free,
 };
 
-/// At most N - 1 blocks, in order: N slots, with the places of the tail and of the next block. Where the two are one,
-/// no block stands, so one slot is always free.
+/// At most N - 1 blocks, in order: the first N of 64 slots, with the places of the tail and of the next block. Where the two are
+/// one, no block stands, so one slot is always free. The size of a ring is the same whatever N is.
 #[derive(Drop)]
 pub struct Ring<const N: usize> {
-    slots: ArrayVec<Block, N>,
+    slots: ArrayVec<Block, 64>,
     tail: usize,
     free: usize,
 }
 
 impl<const N: usize> Model for Ring<N> {
-    ghost use Rattle.std.specs.Prelude.{List};
+    ghost use Rattle.std.specs.Prelude.{List, take};
     ghost use Rattle.line_geom.specs.declared.Block.{Block};
-    ghost use Rattle.planner_ring.specs.Windows.{between, IsRing};
+    ghost use Rattle.planner_ring.specs.Windows.{between, HasRing};
 
     ghost Value = { List Block };
 
-    ghost view = { λ r. between N r.tail r.free r.slots.items };
+    ghost view = { λ r. between N r.tail r.free (take N r.slots.items) };
 
-    ghost invariant = { λ r. IsRing N r.tail r.free r.slots.items };
+    ghost invariant = { λ r. HasRing N r.tail r.free r.slots.items };
 }
 
 /// The place of the tail, or `none` where no block stands: where it is the place of the next block too.
@@ -71,7 +71,7 @@ impl<const N: usize> Ring<N> {
         ensures { result ≡ [] }
     {
         Ring {
-            slots: ArrayVec::from([UNUSED; N]),
+            slots: ArrayVec::from([UNUSED; 64]),
             tail: 0,
             free: 0,
         }
@@ -117,7 +117,7 @@ impl<const N: usize> Ring<N> {
         ensures none { IsNone result ↔ (self.now ≡ []) }
         ensures some { IfSome result (λ b. self.now ≡ b.now ∷ drop 1 self.now) }
     {
-        let first = first_place(self.tail, self.free, N);
+        let first = first_place(self.tail, self.free, 64);
         self.slots.as_slice().get(first)
     }
 
@@ -128,7 +128,7 @@ impl<const N: usize> Ring<N> {
         ensures none { IsNone result ↔ (self.old ≡ []) }
         ensures some { IfSome result (λ b. self.old ≡ b.now ∷ drop 1 self.old) }
     {
-        let place = first_place(self.tail, self.free, N);
+        let place = first_place(self.tail, self.free, 64);
         self.slots.get_mut(place)
     }
 

@@ -16,7 +16,7 @@ use Rattle.plan_rules.specs.Plans.{Planned}
 use Rattle.plan_rules.specs.Segments.{advanced}
 use Rattle.planner_runs.specs.declared.Action.{Action}
 use Rattle.planner_runs.specs.declared.Action.TheVariants.{Add, Take, Override, Mark, Rest, Clear, Reset}
-use Rattle.planner_runs.specs.Runs.{Plans, IsPlannerRun, fresh_plan, with_move, cleared, most_blocks, all_asked, all_records, ticks_asked, ticks_left, IsAtRest, IsStart, NeverClears, DisturbedOnlyBy}
+use Rattle.planner_runs.specs.Runs.{Plans, IsPlannerRun, fresh_plan, with_move, cleared, all_asked, all_records, ticks_asked, ticks_left, IsAtRest, IsStart, NeverClears, DisturbedOnlyBy}
 use Rattle.planner_runs.specs.Driven.{IsDriven, IsParted}
 use Rattle.planner_runs.proofs.Runs.{in_parts, fresh_starts, clears_behind, disturbed_keeps}
 use Rattle.planner_runs.proofs.Ticks.{all_ticks, ticks_from_start}
@@ -67,9 +67,9 @@ run_has_no_end most p last rest ps run = absurd run
 
 -- ---- the whole
 
-pub driven : (held changed : Bool) (actions : List Action) (given : List Piece) (last : Planned) → IsPlannerRun actions given last → DisturbedOnlyBy held changed actions
-    → IsAtRest last → IsDriven held changed (all_asked actions) (all_records given ++ kinds.End ∷ [])
-driven held changed actions given last run disturbed rest =
+pub driven : (most : ℕ) (held changed : Bool) (actions : List Action) (given : List Piece) (last : Planned) → IsPlannerRun most actions given last → DisturbedOnlyBy held changed actions
+    → IsAtRest last → IsDriven most held changed (all_asked actions) (all_records given ++ kinds.End ∷ [])
+driven most held changed actions given last run disturbed rest =
     let never = disturbed_keeps held changed actions disturbed in
     record {
       actions = actions;
@@ -80,12 +80,12 @@ driven held changed actions given last run disturbed rest =
       asks = refl;
       stops = rest;
       recorded = refl;
-      ended = record { front = all_records given; last = refl; once = run_has_no_end most_blocks fresh_plan last actions given run };
+      ended = record { front = all_records given; last = refl; once = run_has_no_end most fresh_plan last actions given run };
       ticks = filter-append is_tick (all_records given) (kinds.End ∷ [])
           ∙ append-nil (ticks_among (all_records given))
           ∙ ticks_of_pieces given
-          ∙ sym (all_ticks most_blocks fresh_plan last actions given fresh_starts never run rest.blocks);
-      heads = closed_heads_are_legal most_blocks fresh_plan last actions given fresh_starts never run rest.blocks;
+          ∙ sym (all_ticks most fresh_plan last actions given fresh_starts never run rest.blocks);
+      heads = closed_heads_are_legal most fresh_plan last actions given fresh_starts never run rest.blocks;
     }
 
 -- ---- a run that is stopped

@@ -1,5 +1,5 @@
 -- Planner runs, one behind another.
-use Rattle.std.proofs.Common.{◌≡◌, ℕ, Bool, true, nat_eq, false, inl, inr, ◌-◌, List, [], ◌∷◌, ◌++◌, length, get_or, refl, sym, ap, ◌∙◌, subst, arith, append-nil}
+use Rattle.std.proofs.Common.{◌≡◌, ℕ, ◌≤◌, Bool, true, nat_eq, false, inl, inr, ◌-◌, List, [], ◌∷◌, ◌++◌, length, length-append, get_or, refl, sym, ap, ◌∙◌, subst, arith, append-nil}
 use Rattle.std.proofs.lemmas.List.{get_or_default}
 use Rattle.std.proofs.lemmas.Grind.{flat_map-append}
 use Rattle.step_line.specs.declared.Piece.{Piece}
@@ -18,7 +18,7 @@ use Rattle.overrides.specs.declared.Overrides.{Overrides}
 use Rattle.overrides.specs.Percents.{IsOverrides}
 use Rattle.plan_rules.specs.Plans.{Planned, IsReached, entry_at, entered, added}
 use Rattle.plan_rules.specs.Segments.{IsSegment, IsSegmentOf, advanced}
-use Rattle.plan_rules.proofs.Reached.{plan_of, fresh_block, added_reached, reached_replanned, reached_cleared, reached_moved}
+use Rattle.plan_rules.proofs.Reached.{plan_of, fresh_block, length-moved, added_reached, reached_replanned, reached_cleared, reached_moved}
 use Rattle.plan_rules.specs.Taking.{IsNext, IsTakenOf}
 use Rattle.plan_rules.specs.declared.Mode.{Mode}
 use Rattle.plan_rules.specs.declared.Mode.TheVariants.{Go, Hold}
@@ -185,6 +185,22 @@ reached_by most p last (Take mode ∷ rest) (pieces.Segment s ∷ ps) is run =
     reached_by most (advanced p s.n s.w_out) last rest ps (reached_by_segment p mode s is run.0) run.1
 reached_by most p last (Mark m ∷ rest) (pieces.Mark g ∷ ps) is run = reached_by most p last rest ps is run.3
 reached_by most p last rest ps is run = absurd run
+
+-- no plan of a run has more blocks than it may have
+pub few_blocks : (most : ℕ) (p last : Planned) (actions : List Action) (given : List Piece) → length p.blocks ≤ most → Plans most p actions given last → length last.blocks ≤ most
+few_blocks most p last [] [] few run = subst (λ (q : Planned). length q.blocks ≤ most) (sym run) few
+few_blocks most p last (Add m ∷ rest) ps few run =
+    let room = run.0.room in let more = length-append p.blocks (entered p.blocks (block_of m) m.deviation ∷ []) in
+    few_blocks most (with_move p m) last rest ps (omega (arith, room, more)) run.1
+few_blocks most p last (Override o ∷ rest) ps few run = few_blocks most (record p { overrides = o }) last rest ps few run.1
+few_blocks most p last (Rest ∷ rest) ps few run = few_blocks most p last rest ps few run.1
+few_blocks most p last (Clear ∷ rest) ps few run = few_blocks most (cleared p) last rest ps (omega arith) run.1
+few_blocks most p last (Reset ∷ rest) ps few run = subst (λ (q : Planned). length q.blocks ≤ most) (sym run.2) (omega arith)
+few_blocks most p last (Take mode ∷ rest) (pieces.Segment s ∷ ps) few run =
+    let less = length-moved s.n p.blocks in
+    few_blocks most (advanced p s.n s.w_out) last rest ps (omega (arith, few, less)) run.1
+few_blocks most p last (Mark m ∷ rest) (pieces.Mark g ∷ ps) few run = few_blocks most p last rest ps few run.3
+few_blocks most p last rest ps few run = absurd run
 
 -- ---- where runs begin
 

@@ -11,15 +11,15 @@ use Rattle.legal_heads.specs.Speeds.{HasLegalHeads}
 use Rattle.planner_runs.specs.declared.Action.{Action}
 use Rattle.planner_runs.specs.Runs.{Plans, IsStart, IsAtRest, IsPlannerRun, DisturbedOnlyBy, all_asked, all_records, moves_added}
 
--- What a whole run records of what it was asked for: the pieces of a planner run to which these moves, marks and rests
--- are given, in this order; and after them the end, when the machine stands. Nothing else disturbs the run than a hold,
+-- What a whole run, of a plan of at most so many blocks, records of what it was asked for: the pieces of a planner run to
+-- which these moves, marks and rests are given, in this order; and after them the end, when the machine stands. Nothing else disturbs the run than a hold,
 -- if there was one, and a change of overrides, if one was asked for; if none was, they are 100 percent throughout.
 -- Neither changes an event or a mark.
-pub record IsDriven (held changed : Bool) (asked : List Asked) (records : List Record) : Type 0 where
+pub record IsDriven (most : ℕ) (held changed : Bool) (asked : List Asked) (records : List Record) : Type 0 where
   pub actions : List Action
   pub given : List Piece
   pub last : Planned
-  pub run : IsPlannerRun actions given last
+  pub run : IsPlannerRun most actions given last
   pub disturbed : DisturbedOnlyBy held changed actions
   pub asks : all_asked actions ≡ asked
   -- nothing is left to run

@@ -4,16 +4,15 @@ use Rattle.line_geom.specs.declared.Block.{Block}
 use Rattle.feed_hold.specs.declared.Motion.{Motion}
 use Rattle.feed_hold.specs.Motions.{is_going, is_stopping}
 use Rattle.plan_rules.specs.Plans.{Planned}
-use Rattle.planner_runs.specs.Runs.{most_blocks}
 
 -- a block is in the plan
 abbrev pub has_blocks : List Block → Bool
 has_blocks [] = false
 has_blocks (b ∷ blocks) = true
 
--- no move can be added
-abbrev pub is_full : Planned → Bool
-is_full p = nat_le most_blocks (length p.blocks)
+-- no move can be added to a plan of at most so many blocks
+abbrev pub is_full : ℕ → Planned → Bool
+is_full most p = nat_le most (length p.blocks)
 
 -- it moves, and slows down to a stop
 abbrev pub is_slowing : Motion → ℕ → Bool

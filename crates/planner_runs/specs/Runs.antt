@@ -47,7 +47,7 @@ abbrev pub marks_cut : Piece → Bool
 marks_cut (pieces.Mark (marks.Cut k)) = true
 marks_cut p = false
 
--- the controller's plan has at most so many blocks
+-- a controller's plan of the standard size has at most so many blocks
 abbrev pub most_blocks : ℕ
 most_blocks = 15
 
@@ -90,9 +90,9 @@ pub record IsStart (p : Planned) : Type 0 where
   pub rest : IsAtRest p
   pub overrides : IsOverrides p.overrides
 
--- a planner run: from the fresh plan on
-abbrev pub IsPlannerRun : List Action → List Piece → Planned → Type 0
-IsPlannerRun actions given last = Plans most_blocks fresh_plan actions given last
+-- a planner run, of a plan of at most so many blocks: from the fresh plan on
+abbrev pub IsPlannerRun : ℕ → List Action → List Piece → Planned → Type 0
+IsPlannerRun most actions given last = Plans most fresh_plan actions given last
 
 -- what is asked for by what is done to a plan, in order
 abbrev pub asked_by : Action → List Asked

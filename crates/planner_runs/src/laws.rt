@@ -1,6 +1,6 @@
 //! What holds of every planner run, and of every part of one that begins when nothing is left to run.
 
-ghost use Rattle.std.specs.Prelude.{◌≡◌, ◌∷◌, ◌++◌, ℕ, Bool, true, false, List, [], reverse};
+ghost use Rattle.std.specs.Prelude.{◌≡◌, ◌≤◌, ◌∷◌, ◌++◌, ℕ, Bool, true, false, List, [], length, reverse};
 ghost use Rattle.std.specs.List.{flat_map};
 ghost use Rattle.step_line.specs.declared.Mark.{Mark as AnyMark};
 ghost use Rattle.step_line.specs.declared.Mark.TheVariants.{Cut};
@@ -68,7 +68,8 @@ pub fn planner_runs_go_on()
 {}
 
 /// A run, or a part of one, begins with the fresh plan, or when nothing is left to run of one that began so. Each plan
-/// of it can be slowed down to each corner ahead, and if no block is left the machine stands.
+/// of it can be slowed down to each corner ahead, and if no block is left the machine stands. None has more blocks than
+/// the plan may have.
 pub fn planner_runs_begin_at_rest()
     ensures fresh { IsStart fresh_plan }
     ensures reached { (most : ℕ) (from last : Planned) (actions : List AnyAction) (given : List AnyPiece) → IsStart from →
@@ -77,6 +78,8 @@ pub fn planner_runs_begin_at_rest()
         Plans most from actions given last → last.blocks ≡ [] → IsStart last }
     ensures cleared { (most : ℕ) (from last : Planned) (actions : List AnyAction) (given : List AnyPiece) → IsStart from →
         Plans most from actions given last → IsStart (cleared last) }
+    ensures few { (most : ℕ) (from last : Planned) (actions : List AnyAction) (given : List AnyPiece) → length from.blocks ≤ most →
+        Plans most from actions given last → length last.blocks ≤ most }
 {}
 
 /// What each action adds to a run that was not reset. A move is added as its block, whose entry cap is set then.
@@ -161,6 +164,6 @@ pub fn overrides_are_asked_for()
 /// A planner run that only holds and changes of overrides disturb, and that ends with nothing left to run, is
 /// `IsDriven` of what it asks for.
 pub fn planner_runs_are_driven()
-    ensures { (held changed : Bool) (actions : List AnyAction) (given : List AnyPiece) (last : Planned) → IsPlannerRun actions given last →
-        DisturbedOnlyBy held changed actions → IsAtRest last → IsDriven held changed (all_asked actions) (all_records given ++ kinds.End ∷ []) }
+    ensures { (most : ℕ) (held changed : Bool) (actions : List AnyAction) (given : List AnyPiece) (last : Planned) → IsPlannerRun most actions given last →
+        DisturbedOnlyBy held changed actions → IsAtRest last → IsDriven most held changed (all_asked actions) (all_records given ++ kinds.End ∷ []) }
 {}

@@ -13,7 +13,7 @@ use Rattle.step_line.specs.Tracing.{Trace}
 use Rattle.step_line.specs.Ordering.{ComesNext}
 use Rattle.pulse_engine.specs.Logs.{PieceLog, RecordLog, got_since, counted, records_put, ticks_in, IsCounted, HasTick, IsEndOf, IsRecorded}
 use Rattle.step_line.specs.Records.{is_tick, is_end}
-use Rattle.pulse_engine.specs.Logs.PieceEvent.{asked, got, none, ticked, halted}
+use Rattle.pulse_engine.specs.Logs.PieceEvent.{asked, got, ticked, halted}
 use Rattle.pulse_engine.specs.Logs.RecordEvent.{put}
 use Rattle.pulse_engine.specs.Steps.{Pulsing, IsFirst, pulsing, coming, gone, reached_after}
 use Rattle.pulse_engine.specs.Turns.{PulseFits, PulseTurned, PulseWorked, Reaches}
@@ -37,10 +37,6 @@ reaches_piece ps t pieces.End = tt
 -- whether a stop waits is no matter
 pub fits_asked : (p : Pulsing) (b : Bool) (h : PieceLog) (k : RecordLog) → PulseFits p h k → PulseFits p (asked b ∷ h) k
 fits_asked p b h k f = record { turns = f.turns; records = f.records; waits = f.waits; ticks = f.ticks; left = f.left; reach = f.reach; end = f.end; last = f.last }
-
--- there was no piece
-pub fits_none : (p : Pulsing) (h : PieceLog) (k : RecordLog) → PulseFits p h k → PulseFits p (none ∷ h) k
-fits_none p h k f = record { turns = f.turns; records = f.records; waits = f.waits; ticks = f.ticks; left = f.left; reach = f.reach; end = f.end; last = f.last }
 
 recorded_as : (h : PieceLog) (rs ss : List Record) → rs ≡ ss → IsRecorded h rs → IsRecorded h ss
 recorded_as h rs ss e i = subst (IsRecorded h) e i

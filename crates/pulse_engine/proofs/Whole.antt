@@ -19,7 +19,7 @@ use Rattle.step_line.specs.Records.{IsRecord}
 use Rattle.step_line.proofs.Order.{in_parts, is_event}
 use Rattle.step_line.specs.Ordering.{InTurn, recorded}
 use Rattle.pulse_engine.specs.Logs.{PieceLog, RecordLog, pieces_of, got_since, halts_of, records_put, ticks_in, counted, uncounted, end_is_put, IsEndOf, IsRecorded}
-use Rattle.pulse_engine.specs.Logs.PieceEvent.{asked, got, none as no_piece, ticked, halted}
+use Rattle.pulse_engine.specs.Logs.PieceEvent.{got, halted}
 use Rattle.pulse_engine.specs.Logs.RecordEvent.{put, full}
 use Rattle.pulse_engine.specs.Steps.{Pulsing}
 use Rattle.pulse_engine.specs.Turns.{PulseFits}
@@ -57,20 +57,9 @@ goes_on s u g =
 -- where it never halted, what is recorded is that of all pieces
 pub never_halted : (h : PieceLog) (rs : List Record) → halts_of h ≡ [] → IsRecorded h rs → rs ≡ recorded (pieces_of h)
 never_halted [] rs empty i = i
-never_halted (asked b ∷ h) rs empty i = never_halted h rs empty i
 never_halted (got p ∷ h) rs empty i = i.2 ∙ ap (λ qs. qs ++ records_of p) (never_halted h i.0 empty i.1)
-never_halted (no_piece ∷ h) rs empty i = never_halted h rs empty i
-never_halted (ticked ∷ h) rs empty i = never_halted h rs empty i
 never_halted (halted ps ∷ h) rs empty i = absurd cc
-
--- and all pieces were got since then
-pub all_since : (h : PieceLog) → halts_of h ≡ [] → got_since h ≡ pieces_of h
-all_since [] empty = refl
-all_since (asked b ∷ h) empty = all_since h empty
-all_since (got p ∷ h) empty = ap (λ ps. p ∷ ps) (all_since h empty)
-all_since (no_piece ∷ h) empty = all_since h empty
-all_since (ticked ∷ h) empty = all_since h empty
-all_since (halted ps ∷ h) empty = absurd cc
+never_halted (_ ∷ h) rs empty i = never_halted h rs empty i
 
 put_last : (k : RecordLog) → end_is_put k ≡ true → (rest : List Record) × (records_put k ≡ rest ++ kinds.End ∷ [])
 put_last [] e = absurd cc

@@ -22,29 +22,22 @@ PieceLog = NewestFirst PieceEvent
 -- the pieces that were got or dropped
 abbrev pub pieces_of : PieceLog → NewestFirst Piece
 pieces_of [] = []
-pieces_of (asked b ∷ h) = pieces_of h
 pieces_of (got p ∷ h) = p ∷ pieces_of h
-pieces_of (none ∷ h) = pieces_of h
-pieces_of (ticked ∷ h) = pieces_of h
 pieces_of (halted ps ∷ h) = ps ++ pieces_of h
+pieces_of (_ ∷ h) = pieces_of h
 
 -- the pieces that were got since the last halt
 abbrev pub got_since : PieceLog → NewestFirst Piece
 got_since [] = []
-got_since (asked b ∷ h) = got_since h
 got_since (got p ∷ h) = p ∷ got_since h
-got_since (none ∷ h) = got_since h
-got_since (ticked ∷ h) = got_since h
 got_since (halted ps ∷ h) = []
+got_since (_ ∷ h) = got_since h
 
 -- how many ticks were counted
 abbrev pub counted : PieceLog → ℕ
 counted [] = 0
-counted (asked b ∷ h) = counted h
-counted (got p ∷ h) = counted h
-counted (none ∷ h) = counted h
 counted (ticked ∷ h) = counted h + 1
-counted (halted ps ∷ h) = counted h
+counted (_ ∷ h) = counted h
 
 -- how many ticks of the piece that was got last are not counted; a piece that a halt cut has no further tick to count
 abbrev pub uncounted : PieceLog → ℕ
@@ -58,20 +51,15 @@ uncounted (halted ps ∷ h) = 0
 -- the halts: how many pieces were got or dropped up to each, and how many ticks were counted
 abbrev pub halts_of : PieceLog → NewestFirst (ℕ × ℕ)
 halts_of [] = []
-halts_of (asked b ∷ h) = halts_of h
-halts_of (got p ∷ h) = halts_of h
-halts_of (none ∷ h) = halts_of h
-halts_of (ticked ∷ h) = halts_of h
 halts_of (halted ps ∷ h) = (length (ps ++ pieces_of h), counted h) ∷ halts_of h
+halts_of (_ ∷ h) = halts_of h
 
 -- whether a stop waited when it was asked last, and it has not halted since
 abbrev pub saw_stop : PieceLog → Bool
 saw_stop [] = false
 saw_stop (asked b ∷ h) = b
-saw_stop (got p ∷ h) = saw_stop h
-saw_stop (none ∷ h) = saw_stop h
-saw_stop (ticked ∷ h) = saw_stop h
 saw_stop (halted ps ∷ h) = false
+saw_stop (_ ∷ h) = saw_stop h
 
 -- each tick of the pieces that were got is counted
 abbrev pub IsCounted : PieceLog → Type 0
@@ -99,11 +87,9 @@ IsEndOf (p ∷ before) end = (front : List Record) × (records_of p ≡ front ++
 -- is left of them is lost, and all before it stands, which has the ticks that were counted by then.
 abbrev pub IsRecorded : PieceLog → List Record → Type 0
 IsRecorded [] rs = rs ≡ []
-IsRecorded (asked b ∷ h) rs = IsRecorded h rs
 IsRecorded (got p ∷ h) rs = (before : List Record) × IsRecorded h before × (rs ≡ before ++ records_of p)
-IsRecorded (none ∷ h) rs = IsRecorded h rs
-IsRecorded (ticked ∷ h) rs = IsRecorded h rs
 IsRecorded (halted ps ∷ h) rs = (lost : List Record) × IsEndOf (got_since h) lost × IsRecorded h (rs ++ lost) × (ticks_in rs ≡ counted h)
+IsRecorded (_ ∷ h) rs = IsRecorded h rs
 
 -- a record was put; there was no room for it
 pub data RecordEvent : Type 0 where

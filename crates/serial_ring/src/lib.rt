@@ -22,3 +22,6 @@ pub use ends::{BoardEnd, HostEnd};
 pub use joined::{join_link, link};
 pub use marks::mark_is_read_back;
 pub use view::{ByteIn, Link, LinkSight, LinkStep, Stored};
+
+/// How many bytes may be unread on a link, where nothing else is asked for: as many as the receive buffer of Grbl holds.
+pub const RECEIVE_ROOM: usize = 128;

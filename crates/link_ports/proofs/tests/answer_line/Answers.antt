@@ -8,7 +8,7 @@ use Rattle.link_ports.proofs.tests.answer_line.Goals as goal
 
 pub answer-requires : goal.answer-requires
 answer-requires c = let q = c.requires in let w = c.ranges.answered.fits in
-    ((_, _, _), q.log, (refl, refl, refl, q.did, q.sees), record { line = λ e. (let f = q.owes in omega arith); banner = λ e. absurd cc; text = tt; few = (let f = q.few in let m = same_answered q.log in omega arith) })
+    (omega arith, ((_, _, _), q.log, (refl, refl, refl, q.did, q.sees), record { line = λ e. (let f = q.owes in omega arith); banner = λ e. absurd cc; text = tt; few = (let f = q.few in let m = same_answered q.log in omega arith) }))
 
 pub returns-clause-ok : goal.returns-clause-ok
 returns-clause-ok c = let q = c.requires in let w = c.ranges.answered.fits in on_ok_weaker c.answer.result

@@ -4,7 +4,7 @@ use Rattle.link_ports.proofs.Standing.{some_then, none_then}
 use Rattle.link_ports.proofs.tests.look.Goals as goal
 
 pub halted-requires : goal.halted-requires
-halted-requires c = let q = c.requires in ((_, _, _), q.log, (refl, refl, refl, q.did, q.sees), q.waits)
+halted-requires c = let q = c.requires in (omega arith, ((_, _, _), q.log, (refl, refl, refl, q.did, q.sees), q.waits))
 
 pub returns-clause-some : goal.returns-clause-some
 returns-clause-some c = let q = c.requires in some_then c.halted.result c.halted.ensures.some

@@ -9,7 +9,7 @@ use Rattle.link_ports.proofs.tests.publish.Goals as goal
 
 pub publish-requires : goal.publish-requires
 publish-requires c = let q = c.requires in let w = c.ranges.ticks.fits in
-    ((_, _, _), q.log, (refl, refl, refl, q.did, q.sees), record { running = q.running; going = q.going; follows = omega arith; few = (let f = q.few in omega arith); room = (let m = q.many in omega arith) })
+    (omega arith, ((_, _, _), q.log, (refl, refl, refl, q.did, q.sees), record { running = q.running; going = q.going; follows = omega arith; few = (let f = q.few in omega arith); room = (let m = q.many in omega arith) }))
 
 pub returns-clause-ok : goal.returns-clause-ok
 returns-clause-ok c = let q = c.requires in let w = c.ranges.ticks.fits in on_ok_weaker c.publish.result

@@ -8,12 +8,12 @@ use Rattle.link_ports.proofs.tests.publish_and_stop.Goals as goal
 
 pub publish-requires : goal.publish-requires
 publish-requires c = let q = c.requires in let w = c.ranges.ticks.fits in
-    ((_, _, _), q.log, (refl, refl, refl, q.did, q.sees), record { running = q.running; going = q.going; follows = omega arith; few = (let f = q.few in omega arith); room = (let m = q.many in omega arith) })
+    (omega arith, ((_, _, _), q.log, (refl, refl, refl, q.did, q.sees), record { running = q.running; going = q.going; follows = omega arith; few = (let f = q.few in omega arith); room = (let m = q.many in omega arith) }))
 
 pub stop-requires : goal.stop-requires
 stop-requires c = let q = c.requires in let w = c.ranges.ticks.fits in
     let t = c.in-Ok.ensures.ok (_, _, _) q.log (refl, refl, refl, q.did, q.sees) (record { running = q.running; going = q.going; follows = omega arith; few = (let f = q.few in omega arith); room = (let m = q.many in omega arith) }) in
-    ((_, _, _), published (Mark (Dwell 1)) ∷ q.log, t, record { running = q.running; since_last = inr (omega arith) })
+    (omega arith, ((_, _, _), published (Mark (Dwell 1)) ∷ q.log, t, record { running = q.running; since_last = inr (omega arith) }))
 
 pub returns-in-Ok : goal.returns-in-Ok
 returns-in-Ok c = λ is. let q = c.requires in let w = c.ranges.ticks.fits in

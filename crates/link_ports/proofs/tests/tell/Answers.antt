@@ -8,7 +8,7 @@ use Rattle.link_ports.proofs.tests.tell.Goals as goal
 
 pub answer-requires : goal.answer-requires
 answer-requires c = let q = c.requires.owes in let o = c.requires.other in let w = c.ranges.answered.fits in
-    ((_, _, _), q.log, (refl, refl, refl, q.did, q.sees), record { line = λ e. absurd (let is = o.1 in cc); banner = λ e. absurd (let no = o.2 in cc); text = o.0; few = (let f = q.few in let m = same_answered q.log in omega arith) })
+    (omega arith, ((_, _, _), q.log, (refl, refl, refl, q.did, q.sees), record { line = λ e. absurd (let is = o.1 in cc); banner = λ e. absurd (let no = o.2 in cc); text = o.0; few = (let f = q.few in let m = same_answered q.log in omega arith) }))
 
 pub returns-clause-ok : goal.returns-clause-ok
 returns-clause-ok c = let q = c.requires.owes in let o = c.requires.other in let w = c.ranges.answered.fits in on_ok_weaker c.answer.result

@@ -1,9 +1,9 @@
-use Rattle.std.proofs.Common.{◌∷◌, true, refl}
+use Rattle.std.proofs.Common.{◌∷◌, true, refl, arith}
 use Rattle.pulse_engine.specs.Logs.PieceEvent.{asked, halted}
 use Rattle.list_ports.proofs.tests.halt.Goals as goal
 
 pub halt-requires : goal.halt-requires
-halt-requires c = let q = c.requires in ((q.host, q.board), asked true ∷ q.pulse, c.stopped.ensures.waits c.if-stopped.true (q.host, q.board) q.pulse q.joined, refl)
+halt-requires c = let q = c.requires in (omega arith, ((q.host, q.board), asked true ∷ q.pulse, c.stopped.ensures.waits c.if-stopped.true (q.host, q.board) q.pulse q.joined, refl))
 
 pub returns-then-stopped : goal.returns-then-stopped
 returns-then-stopped c = λ is. let q = c.requires in

@@ -1,10 +1,10 @@
-use Rattle.std.proofs.Common.{◌∷◌}
+use Rattle.std.proofs.Common.{◌∷◌, arith}
 use Rattle.board_rules.specs.Ports.PortStep.{found_no_halt}
 use Rattle.list_ports.proofs.Standing.{some_then, none_then, found_then}
 use Rattle.list_ports.proofs.tests.look.Goals as goal
 
 pub halted-requires : goal.halted-requires
-halted-requires c = let q = c.requires in ((q.host, q.pulse), q.board, q.joined, q.waits)
+halted-requires c = let q = c.requires in (omega arith, ((q.host, q.pulse), q.board, q.joined, q.waits))
 
 pub returns-clause-some : goal.returns-clause-some
 returns-clause-some c = let q = c.requires in some_then c.halted.result c.halted.ensures.some

@@ -3,7 +3,7 @@ use Rattle.board_machine.proofs.Machining.{put}
 use Rattle.board_machine.proofs.machine.Machine.add.Goals as goal
 
 pub add-requires : goal.add-requires
-add-requires c = (
+add-requires g c = (
   omega arith,
   (
     c.requires.planned.rate,
@@ -15,4 +15,4 @@ add-requires c = (
 )
 
 pub returns : goal.returns
-returns c p now hand given r = put c.args.self.now c.args.m.now c.in-Some.geom _ p now hand given c.requires.planned c.requires.room c.in-Some.ensures.fields c.requires.same c.in-Ok.ensures.ok r
+returns g c p now hand given r = put c.args.self.now c.args.m.now c.in-Some.geom _ p now hand given c.requires.planned c.requires.room c.in-Some.ensures.fields c.requires.same c.in-Ok.ensures.ok r

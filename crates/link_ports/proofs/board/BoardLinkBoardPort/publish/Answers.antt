@@ -6,10 +6,10 @@ use Rattle.link_ports.proofs.Boarding.{may_publish, piece_refused, lacks_piece_r
 use Rattle.link_ports.proofs.board.BoardLinkBoardPort.publish.Goals as goal
 
 pub publish-requires : goal.publish-requires
-publish-requires c = let q = c.requires in may_publish _ _ _ [] _ none_sent _ 0 q.1 q.2.3 c.args.p q.3
+publish-requires g c = let q = c.requires in may_publish _ _ _ [] _ none_sent _ 0 q.1 q.2.3 c.args.p q.3
 
 pub returns-clause-full : goal.returns-clause-full
-returns-clause-full c = let e = c.publish.ensures in on_err_weaker c.publish.result
+returns-clause-full g c = let e = c.publish.ensures in on_err_weaker c.publish.result
     (λ told rest l s. (
       known_by c.publish.new.self,
       (

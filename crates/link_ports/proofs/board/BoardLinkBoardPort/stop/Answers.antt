@@ -4,10 +4,10 @@ use Rattle.link_ports.proofs.Boarding.{may_stop, stop_told}
 use Rattle.link_ports.proofs.board.BoardLinkBoardPort.stop.Goals as goal
 
 pub stop-requires : goal.stop-requires
-stop-requires c = let q = c.requires in may_stop _ _ _ [] _ none_sent _ 0 q.1 q.2.3 q.3
+stop-requires g c = let q = c.requires in may_stop _ _ _ [] _ none_sent _ 0 q.1 q.2.3 q.3
 
 pub returns : goal.returns
-returns c rest l s may =
+returns g c rest l s may =
     let e = c.stop.ensures in (
       s.0,
       s.1,

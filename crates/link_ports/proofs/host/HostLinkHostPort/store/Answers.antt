@@ -30,5 +30,5 @@ returns-clause-dropped g c is rest h s t =
           saw = tt;
         },
       ),
-      seems_full _ [] _ [] _ false _ [] _ [] _ [] _ [] h s.2 g.row.RX _ c.args.self.now.end.roomy.0 full (c.store.ensures.unread told.1),
+      seems_full _ [] _ [] _ false _ [] _ [] _ [] _ [] h s.2 g.row.RX _ full (c.store.ensures.unread told.1),
     )

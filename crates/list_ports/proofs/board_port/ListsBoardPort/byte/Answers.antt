@@ -5,7 +5,7 @@ use Rattle.list_ports.proofs.board_port.ListsBoardPort.byte.Goals.{in-Some, in-N
 use Rattle.list_ports.proofs.board_port.ListsBoardPort.byte.Goals as goal
 
 pub returns-clause-marked : goal.returns-clause-marked
-returns-clause-marked c far l joined past =
+returns-clause-marked g c far l joined past =
     let v = sym c.self.view_is in
     let some = byte_waits _ _ _ _ (rw v at joined) past in
     elim c.match-pop_front.branch [

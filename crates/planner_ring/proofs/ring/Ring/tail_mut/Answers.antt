@@ -8,7 +8,7 @@ returns g c =
     let r = c.self.inside in
     let place = c.first_place-place.result in
     let is = c.first_place-place.ensures in
-    let asked : ((r.tail ≡ r.free) × (place ≡ g.row.N)) ⊎ ((r.tail ≢ r.free) × (place ≡ r.tail)) =
+    let asked : ((r.tail ≡ r.free) × (place ≡ 64)) ⊎ ((r.tail ≢ r.free) × (place ≡ r.tail)) =
     elim (cases_eq r.tail r.free) [ inl same ↦ inl (same, is.none same) | inr apart ↦ inr (apart, is.some apart) ] in (
       lent_back g.row.N r.tail r.free place r.slots.items c.args.self.now c.self.invariant c.self.view_is asked c.get_mut.result c.get_mut.ensures.variant,
       record {
