@@ -94,15 +94,15 @@ not_none : (xs : List ℕ) (n : ℕ) → xs ++ n ∷ [] ≡ [] → ⊥
 not_none [] n e = absurd cc
 not_none (x ∷ xs) n e = absurd cc
 
-got_totals : (r : Reply) (h : Journal) → Conducted h → Totals (answers_before (latest_got (port_log h))) (ended_of h)
+got_totals : (room : ℕ) (r : Reply) (h : Journal) → Conducted room h → Totals (answers_before (latest_got (port_log h))) (ended_of h)
     → Totals (answers_before (r ∷ latest_got (port_log h))) (cond (begins r (port_log h)) (epoch_now h ∷ ended_of h) (ended_of h))
-got_totals r h c t = by_banner (is_banner r) (has_banner (latest_got (port_log h))) refl t
+got_totals room r h c t = by_banner (is_banner r) (has_banner (latest_got (port_log h))) refl t
   where
     rs : List Reply
     rs = latest_got (port_log h)
 
     now : answers_in rs ≡ answers_in (replies_in (epoch_now h ∷ ended_of h))
-    now = sym (answers_got (port_log h)) ∙ ap answers_in (epochs_are h c).replies_are
+    now = sym (answers_got (port_log h)) ∙ ap answers_in (epochs_are room h c).replies_are
 
     by_banner : (b has : Bool) → has_banner rs ≡ has → Totals (answers_before rs) (ended_of h)
         → Totals (cond b (answers_in rs ∷ answers_before rs) (answers_before rs)) (cond (b && has) (epoch_now h ∷ ended_of h) (ended_of h))
@@ -112,11 +112,11 @@ got_totals r h c t = by_banner (is_banner r) (has_banner (latest_got (port_log h
     by_banner true false is (no_banner empty ended) = banners (answers_in rs) (ap (λ (ns : List ℕ). answers_in rs ∷ ns) empty ∙ ap (λ (es : List Epoch). totals es ++ answers_in rs ∷ []) (sym ended))
     by_banner true false is (banners first e) = absurd (not_none (totals (ended_of h)) first (sym e ∙ banner_none rs is))
 
-pub totals_are : (h : Journal) → Conducted h → Totals (answers_before (latest_got (port_log h))) (ended_of h)
-totals_are [] c = no_banner refl refl
-totals_are (at_port (got r) ∷ h) c = got_totals r h c.1 (totals_are h c.1)
-totals_are (at_port _ ∷ h) c = totals_are h c.1
-totals_are (_ ∷ h) c = totals_are h c.1
+pub totals_are : (room : ℕ) (h : Journal) → Conducted room h → Totals (answers_before (latest_got (port_log h))) (ended_of h)
+totals_are room [] c = no_banner refl refl
+totals_are room (at_port (got r) ∷ h) c = got_totals room r h c.1 (totals_are room h c.1)
+totals_are room (at_port _ ∷ h) c = totals_are room h c.1
+totals_are room (_ ∷ h) c = totals_are room h c.1
 
 -- ---- of both
 

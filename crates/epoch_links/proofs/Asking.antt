@@ -38,8 +38,8 @@ asked_before [] before = omega arith
 asked_before (took_exec word ∷ l) before = let i = asked_before l before in let m = some_more (asks_reset word) (resets_asked (l ++ before)) in omega (arith, i, m)
 asked_before (_ ∷ l) before = asked_before l before
 
-pub all_asked : (state : State) (es : NewestFirst Closed) → AreClosed state es → length es ≤ resets_asked (closed_log es)
-all_asked state [] c = omega arith
-all_asked state (e ∷ es) c =
-    let i = all_asked state es c.1 in let own = was_asked e.journal c.0.resetting.may.asked in
+pub all_asked : (blocks : ℕ) (state : State) (es : NewestFirst Closed) → AreClosed blocks state es → length es ≤ resets_asked (closed_log es)
+all_asked blocks state [] c = omega arith
+all_asked blocks state (e ∷ es) c =
+    let i = all_asked blocks state es c.1 in let own = was_asked e.journal c.0.resetting.may.asked in
     let on = asked_on (known_in (closed_log es)) (port_log e.journal) (closed_log es) in let more = asked_before (port_log e.work) (log_behind (closed_log es) e.journal) in omega (arith, i, own, on, more)

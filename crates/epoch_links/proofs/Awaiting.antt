@@ -65,13 +65,13 @@ greets_one marks at_got now same at s = by_more s.more s.marks_are
         }
     by_more (m ∷ x ∷ xs) is = absurd (let l = long in let e = ap length is in let a = length-append xs s.greeted in omega arith)
 
-got_banner : (r : Reply) (h : Journal) → Conducted (at_port (got r) ∷ h) → is_banner r ≡ true → HasShown (marks_of h) (stored_at_banners (port_log h))
+got_banner : (room : ℕ) (r : Reply) (h : Journal) → Conducted room (at_port (got r) ∷ h) → is_banner r ≡ true → HasShown (marks_of h) (stored_at_banners (port_log h))
     → HasShown (marks_of h) (length (stored_of h) ∷ stored_at_banners (port_log h))
-got_banner r h c is (inl none) =
+got_banner room r h c is (inl none) =
     inr (record { more = marks_of h; greeted = []; first = length (stored_of h); marks_are = sym (append-nil (marks_of h)); got_are = ap (λ (ns : List ℕ). length (stored_of h) ∷ ns) none })
-got_banner r h c is (inr s) =
-    let e = epoch_is h c.1 in
-    let b = begins_at r h e.from c (ap (λ (t : Bool). t && has_banner (latest_got (port_log h))) is ∙ had (has_banner (latest_got (port_log h))) refl) e.stands in
+got_banner room r h c is (inr s) =
+    let e = epoch_is room h c.1 in
+    let b = begins_at room r h e.from c (ap (λ (t : Bool). t && has_banner (latest_got (port_log h))) is ∙ had (has_banner (latest_got (port_log h))) refl) e.stands in
     inr (greets_one (marks_of h) (stored_at_banners (port_log h)) (length (stored_of h)) (one_each (port_log h) ∙ b.steady) b.at_end s)
   where
     had : (t : Bool) → has_banner (latest_got (port_log h)) ≡ t → t ≡ true
@@ -80,17 +80,17 @@ got_banner r h c is (inr s) =
         let n = none_banner (latest_got (port_log h)) f in let o = one_each (port_log h) in
         let l = ap length s.got_are ∙ length-append s.greeted (s.first ∷ []) in omega arith)
 
-got_shown : (r : Reply) (h : Journal) → Conducted (at_port (got r) ∷ h) → (t : Bool) → is_banner r ≡ t → HasShown (marks_of h) (stored_at_banners (port_log h))
+got_shown : (room : ℕ) (r : Reply) (h : Journal) → Conducted room (at_port (got r) ∷ h) → (t : Bool) → is_banner r ≡ t → HasShown (marks_of h) (stored_at_banners (port_log h))
     → HasShown (marks_of h) (cond t (length (stored_of h) ∷ stored_at_banners (port_log h)) (stored_at_banners (port_log h)))
-got_shown r h c true is s = got_banner r h c is s
-got_shown r h c false is s = s
+got_shown room r h c true is s = got_banner room r h c is s
+got_shown room r h c false is s = s
 
-shown_is : (h : Journal) → Conducted h → HasShown (marks_of h) (stored_at_banners (port_log h))
-shown_is [] c = inl refl
-shown_is (at_port (got r) ∷ h) c = got_shown r h c (is_banner r) refl (shown_is h c.1)
-shown_is (at_port marked ∷ h) c = one_more (length (stored_of h)) (marks_of h) (stored_at_banners (port_log h)) (shown_is h c.1)
-shown_is (at_port _ ∷ h) c = shown_is h c.1
-shown_is (_ ∷ h) c = shown_is h c.1
+shown_is : (room : ℕ) (h : Journal) → Conducted room h → HasShown (marks_of h) (stored_at_banners (port_log h))
+shown_is room [] c = inl refl
+shown_is room (at_port (got r) ∷ h) c = got_shown room r h c (is_banner r) refl (shown_is room h c.1)
+shown_is room (at_port marked ∷ h) c = one_more (length (stored_of h)) (marks_of h) (stored_at_banners (port_log h)) (shown_is room h c.1)
+shown_is room (at_port _ ∷ h) c = shown_is room h c.1
+shown_is room (_ ∷ h) c = shown_is room h c.1
 
 -- ---- so it awaits one of each
 
@@ -124,12 +124,12 @@ marks_by marks more greeted left bytes banners from is many (inr p) =
     one (inr some) (inl few) e = let l = p.0.late in omega arith
     one (inr some) (inr few) e = let l = p.0.late in omega arith
 
-pub awaits : (h : Journal) → Conducted h → AwaitsBanners (stored_of h) (marks_of h) (stored_at_banners (port_log h))
-awaits h c = by_shown (shown_is h c)
+pub awaits : (room : ℕ) (h : Journal) → Conducted room h → AwaitsBanners (stored_of h) (marks_of h) (stored_at_banners (port_log h))
+awaits room h c = by_shown (shown_is room h c)
   where
     by_shown : HasShown (marks_of h) (stored_at_banners (port_log h)) → AwaitsBanners (stored_of h) (marks_of h) (stored_at_banners (port_log h))
     by_shown (inl none) =
-        let e = epoch_is h c in
+        let e = epoch_is room h c in
         let zero_got : banners_of h ≡ 0 = sym (one_each (port_log h)) ∙ ap length none in record {
           rising = (rising_is (port_log h)).0;
           greeted = [];
@@ -137,7 +137,7 @@ awaits h c = by_shown (shown_is h c)
           got = inl (none, refl);
         }
     by_shown (inr s) =
-        let e = epoch_is h c in
+        let e = epoch_is room h c in
         let many : banners_of h ≡ length s.greeted + 1 = sym (one_each (port_log h)) ∙ ap length s.got_are ∙ length-append s.greeted (s.first ∷ []) in record {
           rising = (rising_is (port_log h)).0;
           greeted = s.greeted;
@@ -151,17 +151,17 @@ steady_got h (inl none) = λ some. absurd (omega arith)
 steady_got h (inr all) = λ some. let o = one_each (port_log h) in omega arith
 
 -- a host that has closed its link, and got no alarm of a limit, has got all
-pub all_got : (h : Journal) → Conducted h → is_shut h ≡ true → has_limit h ≡ false → HasBanners (marks_of h) (stored_at_banners (port_log h))
-all_got h c closed calm = by_stands (epoch_is h c).stands
+pub all_got : (room : ℕ) (h : Journal) → Conducted room h → is_shut h ≡ true → has_limit h ≡ false → HasBanners (marks_of h) (stored_at_banners (port_log h))
+all_got room h c closed calm = by_stands (epoch_is room h c).stands
   where
-    by_stands : Stands (marks_of h) (banners_of h) (to_store h) (stored_of h) (epoch_is h c).from → HasBanners (marks_of h) (stored_at_banners (port_log h))
+    by_stands : Stands (marks_of h) (banners_of h) (to_store h) (stored_of h) (epoch_is room h c).from → HasBanners (marks_of h) (stored_at_banners (port_log h))
     by_stands (inl s) = steady_got h s.0
-    by_stands (inr p) = pending_busy h c (calm_shut h c closed calm) (none_due_shut h c closed calm) p.0
+    by_stands (inr p) = pending_busy room h c (calm_shut room h c closed calm) (none_due_shut room h c closed calm) p.0
 
 -- a host has got all, or it awaits one, and has stored and marked all that came of what it has scanned
-pub got_or_all : (h : Journal) → Conducted h → HasBanners (marks_of h) (stored_at_banners (port_log h)) ⊎ IsAllOf (sent_of (cut_of h) (raw_of h)) (stored_of h) (marks_of h)
-got_or_all h c = by_stands (epoch_is h c).stands
+pub got_or_all : (room : ℕ) (h : Journal) → Conducted room h → HasBanners (marks_of h) (stored_at_banners (port_log h)) ⊎ IsAllOf (sent_of (cut_of h) (raw_of h)) (stored_of h) (marks_of h)
+got_or_all room h c = by_stands (epoch_is room h c).stands
   where
-    by_stands : Stands (marks_of h) (banners_of h) (to_store h) (stored_of h) (epoch_is h c).from → HasBanners (marks_of h) (stored_at_banners (port_log h)) ⊎ IsAllOf (sent_of (cut_of h) (raw_of h)) (stored_of h) (marks_of h)
+    by_stands : Stands (marks_of h) (banners_of h) (to_store h) (stored_of h) (epoch_is room h c).from → HasBanners (marks_of h) (stored_at_banners (port_log h)) ⊎ IsAllOf (sent_of (cut_of h) (raw_of h)) (stored_of h) (marks_of h)
     by_stands (inl s) = inl (steady_got h s.0)
-    by_stands (inr p) = inr (pending_all h c p.0)
+    by_stands (inr p) = inr (pending_all room h c p.0)

@@ -7,7 +7,7 @@ use Rattle.run_rules.specs.Lines.{HasNoLf, ended, whole_lines, onto_line}
 use Rattle.run_texts.specs.Sent.{Sent}
 use Rattle.run_texts.specs.Sent.Sent.{a_text, a_stop}
 use Rattle.stream_host.proofs.Links.{all_push}
-use Rattle.stream_host.proofs.Pieces.{wholes_on}
+use Rattle.run_rules.proofs.Cutting.{wholes_on}
 use Rattle.step_line.specs.Logs.{NewestFirst}
 use Rattle.board_epochs.specs.Epochs.{Closed}
 use Rattle.epoch_links.specs.Taken.{taken_closed, taken_before}

@@ -5,7 +5,7 @@ use Rattle.std.proofs.lemmas.Grind.{flat_map-append}
 use Rattle.std.proofs.lemmas.List.{append_cancel_left, drop-map, map-append}
 use Rattle.run_rules.specs.Lines.{ended, whole_lines}
 use Rattle.run_rules.specs.declared.State.{State}
-use Rattle.status_report.specs.Answering.{receive_room, answers_in}
+use Rattle.status_report.specs.Answering.{answers_in}
 use Rattle.status_report.proofs.Answered.{answers_on}
 use Rattle.step_line.specs.Logs.{NewestFirst}
 use Rattle.stream_host.specs.Epochs.{Epoch, AreEnds, IsOver, lines_in, replies_in}
@@ -48,9 +48,9 @@ drop_fewer (l ∷ ls) (suc few) zero le = absurd (omega arith)
 drop_fewer (l ∷ ls) (suc few) (suc many) le = drop_fewer ls few many (omega arith)
 
 -- an epoch whose bytes are of lines of which fewer are without an answer at the other end
-pub few_dropped : (e : Closed) (lines : List (List ℕ)) (told : ℕ) → taken_closed e ≡ on_link lines → told ≤ answers_in (answered_of e.journal) → length (on_link (drop told lines)) ≤ receive_room
-    → length (ended (dropped_by e)) ≤ receive_room
-few_dropped e lines told same few small =
+pub few_dropped : (room : ℕ) (e : Closed) (lines : List (List ℕ)) (told : ℕ) → taken_closed e ≡ on_link lines → told ≤ answers_in (answered_of e.journal) → length (on_link (drop told lines)) ≤ room
+    → length (ended (dropped_by e)) ≤ room
+few_dropped room e lines told same few small =
     let n = answers_in (answered_of e.journal) in
     let are : dropped_by e ≡ map sent_text (drop n lines) = ap (λ (bytes : List ℕ). drop n (whole_lines bytes)) same ∙ ap (drop n) (lines_back lines) ∙ drop-map sent_text n lines in
     let long = ap (λ (ls : List (List ℕ)). length (ended ls)) are in
@@ -66,12 +66,12 @@ no_answers number before (at_port e ∷ w) c = no_answers number before w c.2
 no_answers number before (turned t ∷ w) c = no_answers number before w c.2
 no_answers number before (_ ∷ w) c = absurd c.0
 
-pub told_more : (state : State) (e : Closed) (es : NewestFirst Closed) → AreClosed state (e ∷ es) → answers_given (link_steps (closed_log (e ∷ es))) ≡ answers_given (link_steps (closed_log es)) + answers_in (answered_of e.journal)
-told_more state e es c =
+pub told_more : (blocks : ℕ) (state : State) (e : Closed) (es : NewestFirst Closed) → AreClosed blocks state (e ∷ es) → answers_given (link_steps (closed_log (e ∷ es))) ≡ answers_given (link_steps (closed_log es)) + answers_in (answered_of e.journal)
+told_more blocks state e es c =
     let a = ap answers_given (closed_steps e es) in
     let b = linked_answers (link_steps (port_log e.work)) (link_steps (port_log e.journal) ++ link_steps (closed_log es)) in
     let d = linked_answers (link_steps (port_log e.journal)) (link_steps (closed_log es)) in
-    let n = no_answers (last_line (opening_behind state es) e.journal) (log_behind (closed_log es) e.journal) e.work c.0.resetting.works in
+    let n = no_answers (last_line (opening_behind blocks state es) e.journal) (log_behind (closed_log es) e.journal) e.work c.0.resetting.works in
     let s = same_answers (port_log e.journal) in omega (arith, a, b, d, n, s)
 
 pub bytes_more : (e : Closed) (es : NewestFirst Closed) → taken_in (closed_log (e ∷ es)) ≡ taken_in (closed_log es) ++ taken_closed e
@@ -104,13 +104,13 @@ own_bytes hosts lines e es s are =
     append_cancel_left (on_link (lines_in hosts)) (taken_closed e) (on_link lines)
     (ap (λ (bytes : List ℕ). bytes ++ taken_closed e) (sym (same_bytes hosts es s)) ∙ sym (bytes_more e es) ∙ are ∙ link_append (lines_in hosts) lines)
 
-pub each_few : (state : State) (hosts : List Epoch) (es : NewestFirst Closed) → AreClosed state es → AreSame hosts es → AllByRecursion IsOver hosts → DropFew es
-each_few state [] [] c s over = tt
-each_few state [] (e ∷ es) c s over = absurd s
-each_few state (host ∷ hosts) [] c s over = absurd s
-each_few state (host ∷ hosts) (e ∷ es) c s over =
-    let told = told_more state e es c in let before = same_told hosts es s.2 in let both = answers_on (replies_in hosts) host.got in let now = s.1 in
-    (few_dropped e host.lines (answers_in host.got) (own_bytes hosts host.lines e es s.2 s.0) (omega (arith, told, before, both, now)) over.0.small, each_few state hosts es c.1 s.2 over.1)
+pub each_few : (room blocks : ℕ) (state : State) (hosts : List Epoch) (es : NewestFirst Closed) → AreClosed blocks state es → AreSame hosts es → AllByRecursion (IsOver room) hosts → DropFew room es
+each_few room blocks state [] [] c s over = tt
+each_few room blocks state [] (e ∷ es) c s over = absurd s
+each_few room blocks state (host ∷ hosts) [] c s over = absurd s
+each_few room blocks state (host ∷ hosts) (e ∷ es) c s over =
+    let told = told_more blocks state e es c in let before = same_told hosts es s.2 in let both = answers_on (replies_in hosts) host.got in let now = s.1 in
+    (few_dropped room e host.lines (answers_in host.got) (own_bytes hosts host.lines e es s.2 s.0) (omega (arith, told, before, both, now)) over.0.small, each_few room blocks state hosts es c.1 s.2 over.1)
 
 -- by where they end
 pub same_by : (all : List ℕ) (hosts : List Epoch) (es : NewestFirst Closed) (marks behind rest : List ℕ) → AreEnds marks hosts → counts_of bytes_taken es ≡ marks → counts_of answers_given es ≡ totals hosts

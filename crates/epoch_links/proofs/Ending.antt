@@ -64,37 +64,37 @@ last_loaded [] some = absurd (omega arith)
 last_loaded (m ∷ ms) some = inl refl
 
 -- the mark of the Banner that was answered last is that of the reset before it
-worked_last : (state : State) (es : NewestFirst Closed) → AreClosed state es → (next_mark (link_steps (closed_log es))).0 ≡ (last_of (worked_of es)).0
-worked_last state [] c = refl
-worked_last state (e ∷ es) c = by_marks (marked_behind state (e ∷ es) c)
+worked_last : (blocks : ℕ) (state : State) (es : NewestFirst Closed) → AreClosed blocks state es → (next_mark (link_steps (closed_log es))).0 ≡ (last_of (worked_of es)).0
+worked_last blocks state [] c = refl
+worked_last blocks state (e ∷ es) c = by_marks (marked_behind blocks state (e ∷ es) c)
   where
     by_marks : AsMarked (closed_log (e ∷ es)) (length (e ∷ es)) → (next_mark (link_steps (closed_log (e ∷ es)))).0 ≡ (loaded_mark (closed_log (e ∷ es))).0
     by_marks (inl none) = absurd (let z = none.0 in omega arith)
     by_marks (inr m) = ap (λ (t : Bool). (cond t (loaded_mark (closed_log (e ∷ es))) start).0) m.greeted
 
 -- it is new
-newer : (state : State) (e : Closed) (es : NewestFirst Closed) → AreClosed state (e ∷ es) → (last_of (worked_of es)).0 < (loaded_mark (closed_log (e ∷ es))).0
-newer state e es c =
-    let first = opening_behind state es in
+newer : (blocks : ℕ) (state : State) (e : Closed) (es : NewestFirst Closed) → AreClosed blocks state (e ∷ es) → (last_of (worked_of es)).0 < (loaded_mark (closed_log (e ∷ es))).0
+newer blocks state e es c =
+    let first = opening_behind blocks state es in
     let before = closed_log es in
     let lb = log_behind before e.journal in
     let is = c.0 in
     let h = loaded_there (last_line first e.journal) lb e.work is.resetting.works is.worked.done in
     let was : worked_in lb ≡ (next_mark (link_steps before)).0 = ap (λ (k : Mark). k.0) (worked_then first e.journal before is.resetting.epoch.conducted is.resetting.may) in
-    let last = worked_last state es c.1 in
+    let last = worked_last blocks state es c.1 in
     let later = h.1.later in omega (arith, was, last, later)
 
-reached : (state : State) (e : Closed) (es : NewestFirst Closed) → AreClosed state (e ∷ es) → (loaded_mark (closed_log (e ∷ es))).1 ≤ bytes_taken (link_steps (closed_log (e ∷ es)))
-reached state e es c = by_marks (marked_behind state (e ∷ es) c)
+reached : (blocks : ℕ) (state : State) (e : Closed) (es : NewestFirst Closed) → AreClosed blocks state (e ∷ es) → (loaded_mark (closed_log (e ∷ es))).1 ≤ bytes_taken (link_steps (closed_log (e ∷ es)))
+reached blocks state e es c = by_marks (marked_behind blocks state (e ∷ es) c)
   where
     by_marks : AsMarked (closed_log (e ∷ es)) (length (e ∷ es)) → (loaded_mark (closed_log (e ∷ es))).1 ≤ bytes_taken (link_steps (closed_log (e ∷ es)))
     by_marks (inl none) = absurd (let z = none.0 in omega arith)
     by_marks (inr m) = let a = m.bytes in let b = same_taken (closed_log (e ∷ es)) in omega (arith, a, b)
 
-ended_marks : (state : State) (es : NewestFirst Closed) (more : List LinkStep) (loaded : List Mark) → loaded ≡ marked_in (more ++ link_steps (closed_log es)) → AreClosed state es → AreEnded loaded (worked_of es) (ends_of es)
-ended_marks state [] more loaded are c = tt
-ended_marks state (e ∷ es) more loaded are c =
-    let new = newer state e es c in
+ended_marks : (blocks : ℕ) (state : State) (es : NewestFirst Closed) (more : List LinkStep) (loaded : List Mark) → loaded ≡ marked_in (more ++ link_steps (closed_log es)) → AreClosed blocks state es → AreEnded loaded (worked_of es) (ends_of es)
+ended_marks blocks state [] more loaded are c = tt
+ended_marks blocks state (e ∷ es) more loaded are c =
+    let new = newer blocks state e es c in
     let here = last_loaded (marked_in (link_steps (closed_log (e ∷ es)))) (omega (arith, new)) in
     let own = link_steps (port_log e.work) ++ link_steps (port_log e.journal) in
     let parts : more ++ link_steps (closed_log (e ∷ es)) ≡ (more ++ own) ++ link_steps (closed_log es) =
@@ -102,8 +102,8 @@ ended_marks state (e ∷ es) more loaded are c =
     ∙ sym (append_assoc more own (link_steps (closed_log es))) in (
       subst (λ (ms : List Mark). IsLoaded ms (loaded_mark (closed_log (e ∷ es)))) (sym are) (loaded_more more (link_steps (closed_log (e ∷ es))) (loaded_mark (closed_log (e ∷ es))) here),
       new,
-      reached state e es c,
-      ended_marks state es (more ++ own) loaded (are ∙ ap (λ (ss : List LinkStep). marked_in ss) parts) c.1,
+      reached blocks state e es c,
+      ended_marks blocks state es (more ++ own) loaded (are ∙ ap (λ (ss : List LinkStep). marked_in ss) parts) c.1,
     )
 
 -- ---- all of it
@@ -113,30 +113,30 @@ greets : (es : NewestFirst Closed) (h : Journal) → Greets bytes_taken es h
 greets es h (greeted one e) = inl e
 greets es h (ungreeted none e) = inr e
 
-pub ends_epochs : (state : State) (r : Epochs) → AreEpochs state r → EndsEpochs (taken_by r) (taken_in (log_of r)) (marked_in (link_steps (log_of r))) (taken_at_banners (link_steps (log_of r)))
-ends_epochs state (goes es h) are = record {
+pub ends_epochs : (blocks : ℕ) (state : State) (r : Epochs) → AreEpochs blocks state r → EndsEpochs (taken_by r) (taken_in (log_of r)) (marked_in (link_steps (log_of r))) (taken_at_banners (link_steps (log_of r)))
+ends_epochs blocks state (goes es h) are = record {
   whole = all_bytes (goes es h);
   ends = ends_of es;
   are = ends_are es;
   marks = worked_of es;
-  ended = ended_marks state es (link_steps (port_log h)) (marked_in (link_steps (log_behind (closed_log es) h))) (ap (λ (ss : List LinkStep). marked_in ss) (steps_on (known_in (closed_log es)) (port_log h) (closed_log es))) are.0;
-  greeted = greets es h (open_moments bytes_taken state es h bytes_calm are.0 are.1.conducted);
+  ended = ended_marks blocks state es (link_steps (port_log h)) (marked_in (link_steps (log_behind (closed_log es) h))) (ap (λ (ss : List LinkStep). marked_in ss) (steps_on (known_in (closed_log es)) (port_log h) (closed_log es))) are.0;
+  greeted = greets es h (open_moments bytes_taken blocks state es h bytes_calm are.0 are.1.conducted);
 }
-ends_epochs state (resets es h w) are =
+ends_epochs blocks state (resets es h w) are =
     let lb = log_behind (closed_log es) h in
     let more = link_steps (port_log w) ++ link_steps (port_log h) in
     let steps : link_steps (port_log w ++ lb) ≡ more ++ link_steps (closed_log es) =
     steps_more (port_log w) lb ∙ ap (λ (ss : List LinkStep). link_steps (port_log w) ++ ss) (steps_on (known_in (closed_log es)) (port_log h) (closed_log es))
     ∙ sym (append_assoc (link_steps (port_log w)) (link_steps (port_log h)) (link_steps (closed_log es))) in
     let moments : taken_at_banners (link_steps (port_log w ++ lb)) ≡ taken_at_banners (link_steps lb) =
-    ap taken_at_banners (steps_more (port_log w) lb) ∙ work_moments bytes_taken (last_line (opening_behind state es) h) lb w (link_steps lb) are.1.works in
+    ap taken_at_banners (steps_more (port_log w) lb) ∙ work_moments bytes_taken (last_line (opening_behind blocks state es) h) lb w (link_steps lb) are.1.works in
     record {
       whole = all_bytes (resets es h w);
       ends = ends_of es;
       are = ends_are es;
       marks = worked_of es;
-      ended = ended_marks state es more (marked_in (link_steps (port_log w ++ lb))) (ap (λ (ss : List LinkStep). marked_in ss) steps) are.0;
-      greeted = elim (greets es h (open_moments bytes_taken state es h bytes_calm are.0 are.1.epoch.conducted)) [
+      ended = ended_marks blocks state es more (marked_in (link_steps (port_log w ++ lb))) (ap (λ (ss : List LinkStep). marked_in ss) steps) are.0;
+      greeted = elim (greets es h (open_moments bytes_taken blocks state es h bytes_calm are.0 are.1.epoch.conducted)) [
         | inl all ↦ inl (moments ∙ all)
         | inr but ↦ inr (moments ∙ but)
       ];

@@ -4,7 +4,7 @@ use Rattle.std.specs.List.{AllByRecursion}
 use Rattle.std.proofs.Math.Seq.{drop-append-add}
 use Rattle.run_rules.specs.declared.State.{State}
 use Rattle.serial_ring.specs.Marks.{latest}
-use Rattle.status_report.specs.Answering.{receive_room, answers_in}
+use Rattle.status_report.specs.Answering.{answers_in}
 use Rattle.status_report.proofs.Answered.{answers_on}
 use Rattle.step_line.specs.Logs.{NewestFirst}
 use Rattle.stream_host.specs.Conduct.{Conducted as HostConducted}
@@ -44,7 +44,7 @@ same_end : (all ws xs ys zs : List ℕ) → all ≡ ws ++ xs → all ≡ ys ++ z
 same_end all ws xs ys zs e f same =
     same_rest ws ys xs zs (sym e ∙ f) (let l = ap length e ∙ length-append ws xs in let m = ap length f ∙ length-append ys zs in omega arith)
 
-length-ended : (marks : List ℕ) (ended : List Epoch) → AreEnds marks ended → length marks ≡ length ended
+pub length-ended : (marks : List ℕ) (ended : List Epoch) → AreEnds marks ended → length marks ≡ length ended
 length-ended [] [] are = refl
 length-ended [] (e ∷ es) are = absurd are
 length-ended (m ∷ marks) [] are = absurd are
@@ -84,25 +84,25 @@ counts_behind told counts before moments ended low e more got parts above (banne
 
 -- ---- the host, where its latest mark has no Banner yet
 
-record IsWaiting (h : hosts.Journal) : Type 0 where
+record IsWaiting (room : ℕ) (h : hosts.Journal) : Type 0 where
   whole : hosts.stored_of h ≡ on_link (hosts.cut_of h)
   at_end : latest (hosts.marks_of h) ≡ length (hosts.stored_of h)
-  small : length (on_link (drop (answers_in (got_now h)) (lines_now h))) ≤ receive_room
+  small : length (on_link (drop (answers_in (got_now h)) (lines_now h))) ≤ room
 
-waits : (h : hosts.Journal) → HostConducted h → 0 < length (hosts.marks_of h) → length (ended_of h) + 1 ≡ length (hosts.marks_of h) → IsWaiting h
-waits h c any late = by_stands (epoch_is h c).stands
+waits : (room : ℕ) (h : hosts.Journal) → HostConducted room h → 0 < length (hosts.marks_of h) → length (ended_of h) + 1 ≡ length (hosts.marks_of h) → IsWaiting room h
+waits room h c any late = by_stands (epoch_is room h c).stands
   where
     few : hosts.banners_of h ≤ length (hosts.marks_of h)
-    few = let b = (epochs_are h c).begun in let g = banners_got h in omega arith
+    few = let b = (epochs_are room h c).begun in let g = banners_got h in omega arith
 
-    by_stands : Stands (hosts.marks_of h) (hosts.banners_of h) (hosts.to_store h) (hosts.stored_of h) (epoch_is h c).from → IsWaiting h
+    by_stands : Stands (hosts.marks_of h) (hosts.banners_of h) (hosts.to_store h) (hosts.stored_of h) (epoch_is room h c).from → IsWaiting room h
     by_stands (inl (inl none, from)) = absurd (omega arith)
     by_stands (inl (inr all, from)) = absurd (let f = few in omega arith)
     by_stands (inr p) =
-        let e = epochs_are h c in
+        let e = epochs_are room h c in
         let are : drop (hosts.answered_of h) (hosts.live_of h) ≡ drop (answers_in (got_now h)) (lines_now h) =
         ap (drop (hosts.answered_of h)) e.live_are ∙ ap (λ (n : ℕ). drop n (told_in (ended_of h) ++ lines_now h)) e.count ∙ drop-append-add (told_in (ended_of h)) (lines_now h) (answers_in (got_now h)) in
-        record { whole = whole_by h c p.0.free; at_end = p.0.at_end; small = subst (λ (ls : List (List ℕ)). length (on_link ls) ≤ receive_room) are (few_unanswered h c p.0.free) }
+        record { whole = whole_by room h c p.0.free; at_end = p.0.at_end; small = subst (λ (ls : List (List ℕ)). length (on_link ls) ≤ room) are (few_unanswered room h c p.0.free) }
 
 -- ---- both
 
@@ -115,8 +115,8 @@ pub record Meets (host : hosts.Journal) (es : NewestFirst Closed) : Type 0 where
   pub behind : Behind (answers_in (hosts.got_of host)) (counts_of answers_given es) (ended_of host)
 
 -- the marks that end its epochs
-ending : (h : hosts.Journal) → HostConducted h → (before : List ℕ) × (ends : List ℕ) × (hosts.marks_of h ≡ before ++ ends) × AreEnds ends (ended_of h) × (length before ≤ 1)
-ending h c = by_ends (ends_by h c)
+ending : (room : ℕ) (h : hosts.Journal) → HostConducted room h → (before : List ℕ) × (ends : List ℕ) × (hosts.marks_of h ≡ before ++ ends) × AreEnds ends (ended_of h) × (length before ≤ 1)
+ending room h c = by_ends (ends_by room h c)
   where
     but_first : (marks : List ℕ) → AreEnds (drop 1 marks) (ended_of h) → (before : List ℕ) × (ends : List ℕ) × (marks ≡ before ++ ends) × AreEnds ends (ended_of h) × (length before ≤ 1)
     but_first [] are = ([], [], refl, are, omega arith)
@@ -127,25 +127,25 @@ ending h c = by_ends (ends_by h c)
     by_ends (inl are) = ([], hosts.marks_of h, refl, are, omega arith)
     by_ends (inr are) = but_first (hosts.marks_of h) are
 
-module _ (host : hosts.Journal) (state : State) (hc : HostConducted host) where
+module _ (room : ℕ) (host : hosts.Journal) (blocks : ℕ) (state : State) (hc : HostConducted room host) where
   lines_are : on_link (lines_in (ended_of host)) ++ on_link (lines_now host) ≡ on_link (hosts.cut_of host)
-  lines_are = sym (link_append (lines_in (ended_of host)) (lines_now host)) ∙ ap on_link (sym (epochs_are host hc).lines_are)
+  lines_are = sym (link_append (lines_in (ended_of host)) (lines_now host)) ∙ ap on_link (sym (epochs_are room host hc).lines_are)
 
   front_of : (bytes rest : List ℕ) → hosts.stored_of host ≡ bytes ++ rest → bytes ++ (rest ++ hosts.to_store host) ≡ on_link (hosts.cut_of host)
-  front_of bytes rest e = sym (append_assoc bytes rest (hosts.to_store host)) ∙ ap (λ (t : List ℕ). t ++ hosts.to_store host) (sym e) ∙ stored_is host hc
+  front_of bytes rest e = sym (append_assoc bytes rest (hosts.to_store host)) ∙ ap (λ (t : List ℕ). t ++ hosts.to_store host) (sym e) ∙ stored_is room host hc
 
   -- as many epochs are closed as ended
   same_ends : (es : NewestFirst Closed) → (m : Meets host es) → m.behind.more ≡ [] → AreSame (ended_of host) es
   same_ends es m none =
-      let e = ending host hc in
+      let e = ending room host hc in
       let told : counts_of answers_given es ≡ totals (ended_of host) = m.behind.are ∙ ap (λ (ns : List ℕ). ns ++ totals (ended_of host)) none in
       let long : length (counts_of bytes_taken es) ≡ length e.1 =
       (let a = ap length told in let b = length-counts answers_given es in let d = length-counts bytes_taken es in let f = length-totals (ended_of host) in let g = length-ended e.1 (ended_of host) e.3 in omega arith) in
       let ends = same_end (hosts.marks_of host) m.left (counts_of bytes_taken es) e.0 e.1 m.marks_are e.2 long in
       same_by (on_link (hosts.cut_of host)) (ended_of host) es e.1 (m.rest ++ hosts.to_store host) (on_link (lines_now host)) e.3 ends told (front_of (taken_in (closed_log es)) m.rest m.front) lines_are
 
-  all_ended : (es : NewestFirst Closed) → AreClosed state es → (m : Meets host es) → m.behind.more ≡ [] → DropFew es
-  all_ended es c m none = each_few state (ended_of host) es c (same_ends es m none) (epochs_are host hc).over
+  all_ended : (es : NewestFirst Closed) → AreClosed blocks state es → (m : Meets host es) → m.behind.more ≡ [] → DropFew room es
+  all_ended es c m none = each_few room blocks state (ended_of host) es c (same_ends es m none) (epochs_are room host hc).over
 
   pub meets_same : (es : NewestFirst Closed) → (m : Meets host es) → length (ended_of host) ≡ length es → AreSame (ended_of host) es
   meets_same es m many =
@@ -155,9 +155,9 @@ module _ (host : hosts.Journal) (state : State) (hc : HostConducted host) where
       same_ends es m (none_by_length m.behind.more (omega (arith, many, all, counts, ended)))
 
   -- one more is closed: the latest mark is its own, and has no Banner yet
-  one_closed : (x : ℕ) (e : Closed) (es : NewestFirst Closed) → AreClosed state (e ∷ es) → (m : Meets host (e ∷ es)) → m.behind.more ≡ x ∷ [] → DropFew (e ∷ es)
+  one_closed : (x : ℕ) (e : Closed) (es : NewestFirst Closed) → AreClosed blocks state (e ∷ es) → (m : Meets host (e ∷ es)) → m.behind.more ≡ x ∷ [] → DropFew room (e ∷ es)
   one_closed x e es c m one =
-      let h = ending host hc in
+      let h = ending room host hc in
       let told : answers_given (link_steps (closed_log (e ∷ es))) ∷ counts_of answers_given es ≡ x ∷ totals (ended_of host) = m.behind.are ∙ ap (λ (ns : List ℕ). ns ++ totals (ended_of host)) one in
       let many : length es ≡ length (ended_of host) = (let a = ap length told in let b = length-counts answers_given es in let f = length-totals (ended_of host) in omega arith) in
       let counts = length-counts bytes_taken (e ∷ es) in
@@ -171,34 +171,34 @@ module _ (host : hosts.Journal) (state : State) (hc : HostConducted host) where
       let front = front_of (taken_in (closed_log (e ∷ es))) m.rest m.front in
       let same = same_by (on_link (hosts.cut_of host)) (ended_of host) es h.1 (taken_closed e ++ (m.rest ++ hosts.to_store host)) (on_link (lines_now host)) h.3 earlier (ap (drop 1) told)
       (sym (append_assoc (taken_in (closed_log es)) (taken_closed e) (m.rest ++ hosts.to_store host)) ∙ ap (λ (t : List ℕ). t ++ (m.rest ++ hosts.to_store host)) (sym (bytes_more e es)) ∙ front) lines_are in
-      let w = waits host hc (let a = ap length marks in omega arith) (let a = ap length marks in let d = length-counts bytes_taken es in omega arith) in
+      let w = waits room host hc (let a = ap length marks in omega arith) (let a = ap length marks in let d = length-counts bytes_taken es in omega arith) in
       let at : latest (hosts.marks_of host) ≡ bytes_taken (link_steps (closed_log (e ∷ es))) = ap latest marks in
       let long = ap length m.front ∙ length-append (taken_in (closed_log (e ∷ es))) m.rest in
       let bytes = same_taken (closed_log (e ∷ es)) in
       let end = w.at_end in
       let no_rest : m.rest ≡ [] = none_by_length m.rest (omega arith) in
       let whole : taken_in (closed_log (e ∷ es)) ≡ on_link (lines_in (ended_of host) ++ lines_now host) =
-      sym (m.front ∙ ap (λ (t : List ℕ). taken_in (closed_log (e ∷ es)) ++ t) no_rest ∙ append-nil (taken_in (closed_log (e ∷ es)))) ∙ w.whole ∙ ap on_link (epochs_are host hc).lines_are in
+      sym (m.front ∙ ap (λ (t : List ℕ). taken_in (closed_log (e ∷ es)) ++ t) no_rest ∙ append-nil (taken_in (closed_log (e ∷ es)))) ∙ w.whole ∙ ap on_link (epochs_are room host hc).lines_are in
       let above : answers_in (hosts.got_of host) ≤ x = (subst (AllByRecursion (λ n. answers_in (hosts.got_of host) ≤ n)) one m.behind.above).0 in
-      let got = ap answers_in (epochs_are host hc).replies_are ∙ answers_on (replies_in (ended_of host)) (got_now host) in
-      let more = told_more state e es c in
+      let got = ap answers_in (epochs_are room host hc).replies_are ∙ answers_on (replies_in (ended_of host)) (got_now host) in
+      let more = told_more blocks state e es c in
       let before = same_told (ended_of host) es same in
       let is : answers_given (link_steps (closed_log (e ∷ es))) ≡ x = cc in
       let enough : answers_in (got_now host) ≤ answers_in (answered_of e.journal) = omega (arith, above, got, more, before, is) in (
-        few_dropped e (lines_now host) (answers_in (got_now host)) (own_bytes (ended_of host) (lines_now host) e es same whole) enough w.small,
-        each_few state (ended_of host) es c.1 same (epochs_are host hc).over,
+        few_dropped room e (lines_now host) (answers_in (got_now host)) (own_bytes (ended_of host) (lines_now host) e es same whole) enough w.small,
+        each_few room blocks state (ended_of host) es c.1 same (epochs_are room host hc).over,
       )
 
   -- no more are
-  pub meets_few : (es : NewestFirst Closed) → AreClosed state es → Meets host es → DropFew es
+  pub meets_few : (es : NewestFirst Closed) → AreClosed blocks state es → Meets host es → DropFew room es
   meets_few [] c m = tt
   meets_few (e ∷ es) c m = by_more m.behind.more refl
     where
-      by_more : (more : List ℕ) → m.behind.more ≡ more → DropFew (e ∷ es)
+      by_more : (more : List ℕ) → m.behind.more ≡ more → DropFew room (e ∷ es)
       by_more [] is = all_ended (e ∷ es) c m is
       by_more (x ∷ []) is = one_closed x e es c m is
       by_more (x ∷ y ∷ more) is = absurd (
-          let h = ending host hc in
+          let h = ending room host hc in
           let a = ap length m.behind.are ∙ length-append m.behind.more (totals (ended_of host)) in let b = ap length is in
           let d = length-counts answers_given (e ∷ es) in let k = length-counts bytes_taken (e ∷ es) in let f = length-totals (ended_of host) in
           let g = length-ended h.1 (ended_of host) h.3 in let few = h.4 in

@@ -36,10 +36,10 @@ told_or_dropped (e ∷ earlier) =
     let parts = length-append (told_lines e) (dropped_lines e) in
     omega (arith, more, all, told, both, parts)
 
-pub forgotten_is : (h : Journal) → Conducted h → forgotten_of h ≡ dropped_in (ended_of h)
-forgotten_is h c =
-    let e = epochs_are h c in
-    let all = all_lines h c in
+pub forgotten_is : (room : ℕ) (h : Journal) → Conducted room h → forgotten_of h ≡ dropped_in (ended_of h)
+forgotten_is room h c =
+    let e = epochs_are room h c in
+    let all = all_lines room h c in
     let lines = ap length e.lines_are ∙ length-append (lines_in (ended_of h)) (lines_now h) in
     let live = ap length e.live_are ∙ length-append (told_in (ended_of h)) (lines_now h) in
     let parts = told_or_dropped (ended_of h) in
@@ -53,15 +53,15 @@ one_dropped e host same told =
     ap length (ap (λ (bytes : List ℕ). drop n (whole_lines bytes)) same ∙ ap (drop n) (lines_back host.lines) ∙ drop-map sent_text n host.lines)
     ∙ length-map (drop n host.lines) sent_text ∙ ap (λ (k : ℕ). length (drop k host.lines)) told
 
-pub dropped_same : (state : State) (hosts : List Epoch) (es : NewestFirst Closed) → AreClosed state es → AreSame hosts es → lines_among (map dropped_by es) ≡ dropped_in hosts
-dropped_same state [] [] c s = refl
-dropped_same state [] (e ∷ es) c s = absurd s
-dropped_same state (host ∷ hosts) [] c s = absurd s
-dropped_same state (host ∷ hosts) (e ∷ es) c s =
-    let told = told_more state e es c in
+pub dropped_same : (blocks : ℕ) (state : State) (hosts : List Epoch) (es : NewestFirst Closed) → AreClosed blocks state es → AreSame hosts es → lines_among (map dropped_by es) ≡ dropped_in hosts
+dropped_same blocks state [] [] c s = refl
+dropped_same blocks state [] (e ∷ es) c s = absurd s
+dropped_same blocks state (host ∷ hosts) [] c s = absurd s
+dropped_same blocks state (host ∷ hosts) (e ∷ es) c s =
+    let told = told_more blocks state e es c in
     let before = same_told hosts es s.2 in
     let both = answers_on (replies_in hosts) host.got in
     let now = s.1 in
     let here = one_dropped e host (own_bytes hosts host.lines e es s.2 s.0) (omega (arith, told, before, both, now)) in
-    let more = dropped_same state hosts es c.1 s.2 in
+    let more = dropped_same blocks state hosts es c.1 s.2 in
     omega (arith, here, more)

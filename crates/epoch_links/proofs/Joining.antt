@@ -70,25 +70,25 @@ wholes sent stored marks at_got taken at_answers loaded shut closed p f all k b 
 
 -- ---- of a host's journal and a board's epochs
 
-pub cut_over : (host : HostJournal) (state : State) (r : Epochs) → HostConducted host → AreEpochs state r → AreLinkedOver host r → EndAtMarks (stored_of host) (marks_of host) (taken_by r)
-cut_over host state r c are linked = cut_at_marks _ _ _ _ _ _ _ _ (taken_by r) linked (awaits host c) (ends_epochs state r are)
+pub cut_over : (room : ℕ) (host : HostJournal) (blocks : ℕ) (state : State) (r : Epochs) → HostConducted room host → AreEpochs blocks state r → AreLinkedOver host r → EndAtMarks (stored_of host) (marks_of host) (taken_by r)
+cut_over room host blocks state r c are linked = cut_at_marks _ _ _ _ _ _ _ _ (taken_by r) linked (awaits room host c) (ends_epochs blocks state r are)
 
-pub front_over : (host : HostJournal) (state : State) (r : Epochs) → HostConducted host → AreEpochs state r → AreLinkedOver host r → BeginsWith (sent_of (cut_of host) (raw_of host)) (items_in (taken_by r))
-front_over host state r c are linked = fronts _ _ _ _ _ _ _ _ _ (taken_by r) (sends_front host c) linked (ends_epochs state r are) (cut_over host state r c are linked)
+pub front_over : (room : ℕ) (host : HostJournal) (blocks : ℕ) (state : State) (r : Epochs) → HostConducted room host → AreEpochs blocks state r → AreLinkedOver host r → BeginsWith (sent_of (cut_of host) (raw_of host)) (items_in (taken_by r))
+front_over room host blocks state r c are linked = fronts _ _ _ _ _ _ _ _ _ (taken_by r) (sends_front room host c) linked (ends_epochs blocks state r are) (cut_over room host blocks state r c are linked)
 
 -- a host that has closed its link has raised each reset behind its mark
-all_raised : (host : HostJournal) → HostConducted host → is_shut host ≡ true → has_limit host ≡ false → length (marks_of host) ≡ resets_of host
-all_raised host c closed calm = by_marks (marks_are host c)
+all_raised : (room : ℕ) (host : HostJournal) → HostConducted room host → is_shut host ≡ true → has_limit host ≡ false → length (marks_of host) ≡ resets_of host
+all_raised room host c closed calm = by_marks (marks_are room host c)
   where
     by_marks : IsMarked (length (marks_of host)) (resets_of host) (due_of host) → length (marks_of host) ≡ resets_of host
     by_marks (inl same) = same
-    by_marks (inr more) = absurd (let e = sym (none_due_shut host c closed calm) ∙ more.1 in cc)
+    by_marks (inr more) = absurd (let e = sym (none_due_shut room host c closed calm) ∙ more.1 in cc)
 
-pub whole_over : (host : HostJournal) (state : State) (r : Epochs) → HostConducted host → AreEpochs state r → AreLinkedOver host r → has_limit host ≡ false → has_closed_in (log_of r) ≡ true
+pub whole_over : (room : ℕ) (host : HostJournal) (blocks : ℕ) (state : State) (r : Epochs) → HostConducted room host → AreEpochs blocks state r → AreLinkedOver host r → has_limit host ≡ false → has_closed_in (log_of r) ≡ true
     → (sent_of (cut_of host) (raw_of host) ≡ items_in (taken_by r)) × (length (taken_by r).closed ≡ resets_of host)
-whole_over host state r c are linked calm found =
+whole_over room host blocks state r c are linked calm found =
     let closed : is_shut host ≡ true = linked.closes found in
-    let b = ends_epochs state r are in
-    let each = one_of_each _ _ _ _ _ _ _ _ (taken_by r) linked (awaits host c) b (all_got host c closed calm) in
-    let e = cut_over host state r c are linked in
-    (wholes _ _ _ _ _ _ _ _ _ (taken_by r) (sends_front host c) (sends_all host c closed calm) linked b e found (omega (arith, each)), each ∙ all_raised host c closed calm)
+    let b = ends_epochs blocks state r are in
+    let each = one_of_each _ _ _ _ _ _ _ _ (taken_by r) linked (awaits room host c) b (all_got room host c closed calm) in
+    let e = cut_over room host blocks state r c are linked in
+    (wholes _ _ _ _ _ _ _ _ _ (taken_by r) (sends_front room host c) (sends_all room host c closed calm) linked b e found (omega (arith, each)), each ∙ all_raised room host c closed calm)

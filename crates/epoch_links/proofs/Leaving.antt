@@ -121,5 +121,5 @@ left_behind sent stored marks at_got taken at_answers loaded shut closed p f k w
         inl (none_by_length e.left (omega (arith, n, l, m, c)))
     by_which (inr all) = inr all
 
-pub left_over : (host : HostJournal) (state : State) (r : Epochs) → HostConducted host → AreEpochs state r → AreLinkedOver host r → (b : BeginsWith (sent_of (cut_of host) (raw_of host)) (items_in (taken_by r))) → behind_reset b.rest ≡ []
-left_over host state r c are linked b = left_behind _ _ _ _ _ _ _ _ _ (taken_by r) (sends_front host c) linked (awaits host c) (ends_epochs state r are) (got_or_all host c) b
+pub left_over : (room : ℕ) (host : HostJournal) (blocks : ℕ) (state : State) (r : Epochs) → HostConducted room host → AreEpochs blocks state r → AreLinkedOver host r → (b : BeginsWith (sent_of (cut_of host) (raw_of host)) (items_in (taken_by r))) → behind_reset b.rest ≡ []
+left_over room host blocks state r c are linked b = left_behind _ _ _ _ _ _ _ _ _ (taken_by r) (sends_front room host c) linked (awaits room host c) (ends_epochs blocks state r are) (got_or_all room host c) b

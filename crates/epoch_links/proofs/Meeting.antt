@@ -50,12 +50,12 @@ marks_behind stored marks last es e =
 -- ---- the answers
 
 -- of a log that goes on behind closed epochs, with an epoch that is greeted or not
-told_behind : (host : hosts.Journal) (es : NewestFirst Closed) (h : Journal) (l : BoardLog) (later : List Reply) → HostConducted host → Greets answers_given es h
+told_behind : (room : ℕ) (host : hosts.Journal) (es : NewestFirst Closed) (h : Journal) (l : BoardLog) (later : List Reply) → HostConducted room host → Greets answers_given es h
     → at_banners answers_given (link_steps l) ≡ at_banners answers_given (link_steps (log_behind (closed_log es) h))
     → (banners_in (answered_of h) ≡ 0 → answers_given (link_steps l) ≡ answers_given (link_steps (closed_log es)))
     → link.answered_in (link_steps l) ≡ later ++ hosts.latest_got (hosts.port_log host)
     → Behind (answers_in (hosts.got_of host)) (counts_of answers_given es) (ended_of host)
-told_behind host es h l later c greets moments calm first = by_greets greets
+told_behind room host es h l later c greets moments calm first = by_greets greets
   where
     got : List Reply
     got = hosts.latest_got (hosts.port_log host)
@@ -77,38 +77,38 @@ told_behind host es h l later c greets moments calm first = by_greets greets
 
     by_greets : Greets answers_given es h → Behind told (counts_of answers_given es) (ended_of host)
     by_greets (greeted one e) =
-        counts_behind told (counts_of answers_given es) [] (at_banners answers_given (link_steps l)) (ended_of host) tt (sym (moments ∙ e)) on.more (answers_before got) parts above (totals_are host c)
+        counts_behind told (counts_of answers_given es) [] (at_banners answers_given (link_steps l)) (ended_of host) tt (sym (moments ∙ e)) on.more (answers_before got) parts above (totals_are room host c)
     by_greets (ungreeted none e) =
         let n = answers_given (link_steps (closed_log es)) in
         let all = ap answers_in first ∙ answers_on later got in
         let now = calm none in
         let low : told ≤ n = (let s = same in omega (arith, s, all, now)) in
         counts_behind told (counts_of answers_given es) (n ∷ []) (at_banners answers_given (link_steps l)) (ended_of host) (low, tt)
-        (sym (ap (λ (ns : List ℕ). n ∷ ns) (moments ∙ e) ∙ first_moment answers_given es answers_calm)) on.more (answers_before got) parts above (totals_are host c)
+        (sym (ap (λ (ns : List ℕ). n ∷ ns) (moments ∙ e) ∙ first_moment answers_given es answers_calm)) on.more (answers_before got) parts above (totals_are room host c)
 
 -- ---- both
 
 quiet : (first : Opening) (es : NewestFirst Closed) (h : Journal) → Conducted first h → banners_in (answered_of h) ≡ 0 → answers_given (link_steps (log_behind (closed_log es) h)) ≡ answers_given (link_steps (closed_log es))
 quiet first es h c none = ap answers_given (steps_on (known_in (closed_log es)) (port_log h) (closed_log es)) ∙ answers_calm.stays first h (link_steps (closed_log es)) c none
 
-meets : (host : hosts.Journal) (state : State) (r : Epochs) → HostConducted host → AreEpochs state r → AreLinkedOver host r → AreAnsweredOver host r → Meets host (closed_of r)
-meets host state (goes es h) c are linked answered =
+meets : (room : ℕ) (host : hosts.Journal) (blocks : ℕ) (state : State) (r : Epochs) → HostConducted room host → AreEpochs blocks state r → AreLinkedOver host r → AreAnsweredOver host r → Meets host (closed_of r)
+meets room host blocks state (goes es h) c are linked answered =
     let f = first_got (log_of (goes es h)) (hosts.port_log host) answered in
-    let m = marks_behind (hosts.stored_of host) (hosts.marks_of host) (taken_of h) es (cut_over host state (goes es h) c are linked) in
+    let m = marks_behind (hosts.stored_of host) (hosts.marks_of host) (taken_of h) es (cut_over room host blocks state (goes es h) c are linked) in
     let is = are.1.conducted in
     record {
       rest = taken_of h ++ linked.rest;
       front = linked.front ∙ ap (λ (t : List ℕ). t ++ linked.rest) (taken_on (known_in (closed_log es)) (port_log h) (closed_log es)) ∙ append_assoc (taken_in (closed_log es)) (taken_of h) linked.rest;
       left = m.0;
       marks_are = m.1;
-      behind = told_behind host es h (log_of (goes es h)) f.0 c (open_moments answers_given state es h answers_calm are.0 is) refl (quiet (opening_behind state es) es h is) f.1;
+      behind = told_behind room host es h (log_of (goes es h)) f.0 c (open_moments answers_given blocks state es h answers_calm are.0 is) refl (quiet (opening_behind blocks state es) es h is) f.1;
     }
-meets host state (resets es h w) c are linked answered =
+meets room host blocks state (resets es h w) c are linked answered =
     let lb = log_behind (closed_log es) h in
     let f = first_got (port_log w ++ lb) (hosts.port_log host) answered in
-    let m = marks_behind (hosts.stored_of host) (hosts.marks_of host) (taken_of h ++ taken_in (port_log w)) es (cut_over host state (resets es h w) c are linked) in
+    let m = marks_behind (hosts.stored_of host) (hosts.marks_of host) (taken_of h ++ taken_in (port_log w)) es (cut_over room host blocks state (resets es h w) c are linked) in
     let is = are.1.epoch.conducted in
-    let first = opening_behind state es in
+    let first = opening_behind blocks state es in
     let steps = steps_more (port_log w) lb in
     let more = taken_of h ++ taken_in (port_log w) in
     let bytes : taken_in (port_log w ++ lb) ≡ taken_in (closed_log es) ++ more =
@@ -121,19 +121,19 @@ meets host state (resets es h w) c are linked answered =
       front = linked.front ∙ ap (λ (t : List ℕ). t ++ linked.rest) bytes ∙ append_assoc (taken_in (closed_log es)) more linked.rest;
       left = m.0;
       marks_are = m.1;
-      behind = told_behind host es h (port_log w ++ lb) f.0 c (open_moments answers_given state es h answers_calm are.0 is)
+      behind = told_behind room host es h (port_log w ++ lb) f.0 c (open_moments answers_given blocks state es h answers_calm are.0 is)
           (ap (at_banners answers_given) steps ∙ work_moments answers_given (last_line first h) lb w (link_steps lb) are.1.works) (λ none. same ∙ quiet first es h is none) f.1;
     }
 
-closed_in : (state : State) (r : Epochs) → AreEpochs state r → AreClosed state (closed_of r)
-closed_in state (goes es h) are = are.0
-closed_in state (resets es h w) are = are.0
+closed_in : (blocks : ℕ) (state : State) (r : Epochs) → AreEpochs blocks state r → AreClosed blocks state (closed_of r)
+closed_in blocks state (goes es h) are = are.0
+closed_in blocks state (resets es h w) are = are.0
 
-pub drops_few : (host : hosts.Journal) (state : State) (r : Epochs) → HostConducted host → AreEpochs state r → AreLinkedOver host r → AreAnsweredOver host r → DropFew (closed_of r)
-drops_few host state r c are linked answered = meets_few host state c (closed_of r) (closed_in state r are) (meets host state r c are linked answered)
+pub drops_few : (room : ℕ) (host : hosts.Journal) (blocks : ℕ) (state : State) (r : Epochs) → HostConducted room host → AreEpochs blocks state r → AreLinkedOver host r → AreAnsweredOver host r → DropFew room (closed_of r)
+drops_few room host blocks state r c are linked answered = meets_few room host blocks state c (closed_of r) (closed_in blocks state r are) (meets room host blocks state r c are linked answered)
 
 -- where the host has ended as many epochs, it has forgotten as many lines
-pub forgets_dropped : (host : hosts.Journal) (state : State) (r : Epochs) → HostConducted host → AreEpochs state r → AreLinkedOver host r → AreAnsweredOver host r
+pub forgets_dropped : (room : ℕ) (host : hosts.Journal) (blocks : ℕ) (state : State) (r : Epochs) → HostConducted room host → AreEpochs blocks state r → AreLinkedOver host r → AreAnsweredOver host r
     → length (ended_of host) ≡ length (closed_of r) → hosts.forgotten_of host ≡ lines_among (map dropped_by (closed_of r))
-forgets_dropped host state r c are linked answered many =
-    forgotten_is host c ∙ sym (dropped_same state (ended_of host) (closed_of r) (closed_in state r are) (meets_same host state c (closed_of r) (meets host state r c are linked answered) many))
+forgets_dropped room host blocks state r c are linked answered many =
+    forgotten_is room host c ∙ sym (dropped_same blocks state (ended_of host) (closed_of r) (closed_in blocks state r are) (meets_same room host blocks state c (closed_of r) (meets room host blocks state r c are linked answered) many))

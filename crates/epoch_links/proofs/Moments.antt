@@ -89,23 +89,23 @@ pub first_moment : (count : List LinkStep → ℕ) (es : NewestFirst Closed) →
 first_moment count [] calm = ap (λ (n : ℕ). n ∷ []) calm.starts
 first_moment count (e ∷ es) calm = refl
 
-closed_moments : (count : List LinkStep → ℕ) (state : State) (es : NewestFirst Closed) → IsCalm count → AreClosed state es → at_banners count (link_steps (closed_log es)) ≡ drop 1 (counts_of count es ++ 0 ∷ [])
-closed_moments count state [] calm c = refl
-closed_moments count state (e ∷ es) calm c =
-    let first = opening_behind state es in
+closed_moments : (count : List LinkStep → ℕ) (blocks : ℕ) (state : State) (es : NewestFirst Closed) → IsCalm count → AreClosed blocks state es → at_banners count (link_steps (closed_log es)) ≡ drop 1 (counts_of count es ++ 0 ∷ [])
+closed_moments count blocks state [] calm c = refl
+closed_moments count blocks state (e ∷ es) calm c =
+    let first = opening_behind blocks state es in
     let is = c.0 in
     ap (at_banners count) (closed_steps e es)
     ∙ work_moments count (last_line first e.journal) (log_behind (closed_log es) e.journal) e.work (link_steps (port_log e.journal) ++ link_steps (closed_log es)) is.resetting.works
     ∙ one_moment count calm first e.journal (link_steps (closed_log es)) is.resetting.epoch.conducted (was_greeted first e.journal is.resetting.epoch.conducted is.resetting.may)
-    ∙ ap (λ (ns : List ℕ). count (link_steps (closed_log es)) ∷ ns) (closed_moments count state es calm c.1) ∙ first_moment count es calm
+    ∙ ap (λ (ns : List ℕ). count (link_steps (closed_log es)) ∷ ns) (closed_moments count blocks state es calm c.1) ∙ first_moment count es calm
 
 -- the Banner of the epoch behind them is answered, or not
 pub data Greets (count : List LinkStep → ℕ) (es : NewestFirst Closed) (h : Journal) : Type 0 where
   greeted : banners_in (answered_of h) ≡ 1 → at_banners count (link_steps (log_behind (closed_log es) h)) ≡ counts_of count es ++ 0 ∷ [] → Greets count es h
   ungreeted : banners_in (answered_of h) ≡ 0 → at_banners count (link_steps (log_behind (closed_log es) h)) ≡ drop 1 (counts_of count es ++ 0 ∷ []) → Greets count es h
 
-pub open_moments : (count : List LinkStep → ℕ) (state : State) (es : NewestFirst Closed) (h : Journal) → IsCalm count → AreClosed state es → Conducted (opening_behind state es) h → Greets count es h
-open_moments count state es h calm c is = by_count (banners_in (answered_of h)) refl (let a = banners_are (opening_behind state es) h is in omega arith)
+pub open_moments : (count : List LinkStep → ℕ) (blocks : ℕ) (state : State) (es : NewestFirst Closed) (h : Journal) → IsCalm count → AreClosed blocks state es → Conducted (opening_behind blocks state es) h → Greets count es h
+open_moments count blocks state es h calm c is = by_count (banners_in (answered_of h)) refl (let a = banners_are (opening_behind blocks state es) h is in omega arith)
   where
     steps : at_banners count (link_steps (log_behind (closed_log es) h)) ≡ at_banners count (link_steps (port_log h) ++ link_steps (closed_log es))
     steps = ap (at_banners count) (steps_on (known_in (closed_log es)) (port_log h) (closed_log es))
@@ -115,13 +115,13 @@ open_moments count state es h calm c is = by_count (banners_in (answered_of h)) 
       | inl some ↦ (
           let one : banners_in (answered_of h) ≡ 1 = omega (arith, e, few, some) in
           greeted one (
-          steps ∙ one_moment count calm (opening_behind state es) h (link_steps (closed_log es)) is one
-          ∙ ap (λ (ns : List ℕ). count (link_steps (closed_log es)) ∷ ns) (closed_moments count state es calm c) ∙ first_moment count es calm
+          steps ∙ one_moment count calm (opening_behind blocks state es) h (link_steps (closed_log es)) is one
+          ∙ ap (λ (ns : List ℕ). count (link_steps (closed_log es)) ∷ ns) (closed_moments count blocks state es calm c) ∙ first_moment count es calm
           )
           )
       | inr none ↦ (
           let no : banners_in (answered_of h) ≡ 0 = omega (arith, e, none) in
-          ungreeted no (steps ∙ no_moments count h (link_steps (closed_log es)) no ∙ closed_moments count state es calm c)
+          ungreeted no (steps ∙ no_moments count h (link_steps (closed_log es)) no ∙ closed_moments count blocks state es calm c)
           )
     ]
 

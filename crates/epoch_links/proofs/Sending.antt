@@ -118,11 +118,11 @@ marks_sent : (h : Journal) (left : List ℕ) → reverse (marks_of h) ++ left �
 marks_sent h left are =
     stops_sent 0 (cut_of h) (raw_of h) ∙ ap (λ (k : ℕ). marks_behind 0 (cut_of h) ++ marks_at k (raw_of h)) (let e : 0 + length (on_link (cut_of h)) ≡ length (on_link (cut_of h)) = omega arith in e) ∙ sym are
 
-pub sends_front : (h : Journal) → Conducted h → IsFrontOf (sent_of (cut_of h) (raw_of h)) (stored_of h) (marks_of h)
-sends_front h c = let s = stored_marks h c in record {
+pub sends_front : (room : ℕ) (h : Journal) → Conducted room h → IsFrontOf (sent_of (cut_of h) (raw_of h)) (stored_of h) (marks_of h)
+sends_front room h c = let s = stored_marks room h c in record {
   lines = no_lf (cut_of h) (raw_of h);
   more = to_store h;
-  bytes_are = bytes_sent (cut_of h) (raw_of h) ∙ sym (stored_is h c);
+  bytes_are = bytes_sent (cut_of h) (raw_of h) ∙ sym (stored_is room h c);
   unmarked = s.left;
   marks_are = marks_sent h s.left s.are;
   waits = by_all s.left s.all;
@@ -133,25 +133,25 @@ sends_front h c = let s = stored_marks h c in record {
     by_all left (inr all) = inr (all.0 ∙ ap (λ (bytes : List ℕ). length bytes ∷ []) (sym (bytes_sent (cut_of h) (raw_of h))))
 
 -- where all is stored, and nothing is to be raised
-sends_whole : (h : Journal) → Conducted h → to_store h ≡ [] → due_of h ≡ [] → IsAllOf (sent_of (cut_of h) (raw_of h)) (stored_of h) (marks_of h)
-sends_whole h c free calm =
-    let s = stored_marks h c in
+sends_whole : (room : ℕ) (h : Journal) → Conducted room h → to_store h ≡ [] → due_of h ≡ [] → IsAllOf (sent_of (cut_of h) (raw_of h)) (stored_of h) (marks_of h)
+sends_whole room h c free calm =
+    let s = stored_marks room h c in
     let none = left_none (length (marks_of h)) (raised_resets h) (length (on_link (cut_of h))) (due_of h) s.left calm s.all in
     record {
-      bytes_are = bytes_sent (cut_of h) (raw_of h) ∙ sym (stored_is h c) ∙ ap (λ (t : List ℕ). stored_of h ++ t) free ∙ append-nil (stored_of h);
+      bytes_are = bytes_sent (cut_of h) (raw_of h) ∙ sym (stored_is room h c) ∙ ap (λ (t : List ℕ). stored_of h ++ t) free ∙ append-nil (stored_of h);
       marks_are = marks_sent h s.left s.are ∙ ap (λ (t : List ℕ). reverse (marks_of h) ++ t) none ∙ append-nil (reverse (marks_of h));
     }
 
-pub sends_all : (h : Journal) → Conducted h → is_shut h ≡ true → has_limit h ≡ false → IsAllOf (sent_of (cut_of h) (raw_of h)) (stored_of h) (marks_of h)
-sends_all h c closed calm = sends_whole h c (shut_is h c closed calm).free (none_due_shut h c closed calm)
+pub sends_all : (room : ℕ) (h : Journal) → Conducted room h → is_shut h ≡ true → has_limit h ≡ false → IsAllOf (sent_of (cut_of h) (raw_of h)) (stored_of h) (marks_of h)
+sends_all room h c closed calm = sends_whole room h c (shut_is room h c closed calm).free (none_due_shut room h c closed calm)
 
 -- where the latest mark has no Banner yet, all is stored, and nothing else is to be marked
-pub pending_all : (h : Journal) → Conducted h → IsPending (marks_of h) (banners_of h) (to_store h) (stored_of h) → IsAllOf (sent_of (cut_of h) (raw_of h)) (stored_of h) (marks_of h)
-pending_all h c p = let s = stored_marks h c in by_all s.left s.are s.all
+pub pending_all : (room : ℕ) (h : Journal) → Conducted room h → IsPending (marks_of h) (banners_of h) (to_store h) (stored_of h) → IsAllOf (sent_of (cut_of h) (raw_of h)) (stored_of h) (marks_of h)
+pending_all room h c p = let s = stored_marks room h c in by_all s.left s.are s.all
   where
     all : (left : List ℕ) → reverse (marks_of h) ++ left ≡ marks_behind 0 (cut_of h) ++ marks_at (length (on_link (cut_of h))) (raw_of h) → left ≡ [] → IsAllOf (sent_of (cut_of h) (raw_of h)) (stored_of h) (marks_of h)
     all left are none = record {
-      bytes_are = bytes_sent (cut_of h) (raw_of h) ∙ sym (whole_by h c p.free);
+      bytes_are = bytes_sent (cut_of h) (raw_of h) ∙ sym (whole_by room h c p.free);
       marks_are = marks_sent h left are ∙ ap (λ (t : List ℕ). reverse (marks_of h) ++ t) none ∙ append-nil (reverse (marks_of h));
     }
 
@@ -167,4 +167,4 @@ pending_all h c p = let s = stored_marks h c in by_all s.left s.are s.all
     by_all : (left : List ℕ) → reverse (marks_of h) ++ left ≡ marks_behind 0 (cut_of h) ++ marks_at (length (on_link (cut_of h))) (raw_of h)
         → AllMarked (length (marks_of h)) (raised_resets h) (length (on_link (cut_of h))) (due_of h) left → IsAllOf (sent_of (cut_of h) (raw_of h)) (stored_of h) (marks_of h)
     by_all left are (inl none) = all left are none.0
-    by_all left are (inr one) = absurd (let w = (waiting_is h c (awaits one.2)).none_due in let e = sym w ∙ one.1 in cc)
+    by_all left are (inr one) = absurd (let w = (waiting_is room h c (awaits one.2)).none_due in let e = sym w ∙ one.1 in cc)

@@ -5,7 +5,7 @@ use Rattle.run_rules.specs.Lines.{ended, whole_lines}
 use Rattle.run_texts.specs.Courses.{Passed}
 use Rattle.run_texts.specs.Courses.Passed.{a_line, a_broken, a_cut, a_reset}
 use Rattle.run_texts.specs.Fronts.{BeginsWith}
-use Rattle.status_report.specs.Answering.{receive_room, answers_in}
+use Rattle.status_report.specs.Answering.{answers_in}
 use Rattle.step_line.specs.Logs.{NewestFirst}
 use Rattle.stream_host.specs.Steps as hosts
 use Rattle.board_rules.specs.Ports.{answered_in}
@@ -23,9 +23,9 @@ closed_of (resets es h w) = es
 abbrev pub dropped_by : Closed → List (List ℕ)
 dropped_by e = drop (answers_in (answered_of e.journal)) (whole_lines (taken_closed e))
 
--- those of each take 128 bytes at most, each with its LF
-abbrev pub DropFew : NewestFirst Closed → Type 0
-DropFew es = AllByRecursion (λ e. length (ended (dropped_by e)) ≤ receive_room) es
+-- those of each take no more bytes than the link has room for, each with its LF
+abbrev pub DropFew : (room : ℕ) → NewestFirst Closed → Type 0
+DropFew room es = AllByRecursion (λ e. length (ended (dropped_by e)) ≤ room) es
 
 -- how many lines these are together
 abbrev pub lines_among : List (List (List ℕ)) → ℕ

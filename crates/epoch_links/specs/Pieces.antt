@@ -1,8 +1,9 @@
 -- Bytes in pieces, of which each but the last ends at a reset, and the lines and resets that they hold.
-use Rattle.std.specs.Prelude.{◌≡◌, ◌⊎◌, ℕ, ◌+◌, List, [], ◌∷◌, ◌++◌, length, map, reverse}
+use Rattle.std.specs.Prelude.{◌≡◌, ◌⊎◌, ℕ, ◌+◌, List, [], ◌∷◌, ◌++◌, length, reverse}
 use Rattle.std.specs.List.{concat}
-use Rattle.run_rules.specs.Lines.{HasNoLf, whole_lines}
+use Rattle.run_rules.specs.Lines.{HasNoLf}
 use Rattle.run_texts.specs.Sent.{Sent}
+pub use Rattle.run_texts.specs.Sent.{texts_in}
 use Rattle.run_texts.specs.Sent.Sent.{a_text, a_stop}
 
 -- the pieces that end at a reset, in order, and what stands behind them
@@ -20,10 +21,6 @@ ends_behind n [] = []
 ends_behind n (p ∷ ps) = (n + length p) ∷ ends_behind (n + length p) ps
 
 -- ---- what they hold
-
--- the lines that end among some bytes
-abbrev pub texts_in : List ℕ → List Sent
-texts_in bytes = map a_text (whole_lines bytes)
 
 -- those of pieces, with a reset behind each piece
 abbrev pub items_closed : List (List ℕ) → List Sent

@@ -30,18 +30,18 @@ ghost use Rattle.stream_host.specs.Epochs.{ended_of};
 /// scanned of the next. It awaits a Banner of each mark. If it has closed its link, and no alarm of a limit was got, it has stored and
 /// marked all of them, and has got a Banner of each mark; and so it has stored and marked all while it awaits a Banner.
 pub fn hosts_await_a_banner_of_each_mark()
-    ensures awaits { (h : HostJournal) → HostConducted h → AwaitsBanners (stored_of h) (marks_of h) (stored_at_banners (port_log h)) }
-    ensures front { (h : HostJournal) → HostConducted h → IsFrontOf (sent_of (cut_of h) (raw_of h)) (stored_of h) (marks_of h) }
-    ensures got { (h : HostJournal) → HostConducted h → is_shut h ≡ true → has_limit h ≡ false → HasBanners (marks_of h) (stored_at_banners (port_log h)) }
-    ensures whole { (h : HostJournal) → HostConducted h → is_shut h ≡ true → has_limit h ≡ false → IsAllOf (sent_of (cut_of h) (raw_of h)) (stored_of h) (marks_of h) }
-    ensures waits { (h : HostJournal) → HostConducted h → HasBanners (marks_of h) (stored_at_banners (port_log h)) ⊎ IsAllOf (sent_of (cut_of h) (raw_of h)) (stored_of h) (marks_of h) }
+    ensures awaits { (room : ℕ) (h : HostJournal) → HostConducted room h → AwaitsBanners (stored_of h) (marks_of h) (stored_at_banners (port_log h)) }
+    ensures front { (room : ℕ) (h : HostJournal) → HostConducted room h → IsFrontOf (sent_of (cut_of h) (raw_of h)) (stored_of h) (marks_of h) }
+    ensures got { (room : ℕ) (h : HostJournal) → HostConducted room h → is_shut h ≡ true → has_limit h ≡ false → HasBanners (marks_of h) (stored_at_banners (port_log h)) }
+    ensures whole { (room : ℕ) (h : HostJournal) → HostConducted room h → is_shut h ≡ true → has_limit h ≡ false → IsAllOf (sent_of (cut_of h) (raw_of h)) (stored_of h) (marks_of h) }
+    ensures waits { (room : ℕ) (h : HostJournal) → HostConducted room h → HasBanners (marks_of h) (stored_at_banners (port_log h)) ⊎ IsAllOf (sent_of (cut_of h) (raw_of h)) (stored_of h) (marks_of h) }
 {}
 
 /// A board ends each epoch for a mark that is new behind that of the one before, behind no fewer bytes than the mark has, and answers the
 /// Banner of the next before it takes a byte more. For each it has taken a word of requests that asks for a reset.
 pub fn boards_end_epochs_for_marks()
-    ensures asked { (state : State) (es : NewestFirst Closed) → AreClosed state es → length es ≤ resets_asked (closed_log es) }
-    ensures ends { (state : State) (r : Epochs) → AreEpochs state r → EndsEpochs (taken_by r) (taken_in (log_of r)) (marked_in (link_steps (log_of r))) (taken_at_banners (link_steps (log_of r))) }
+    ensures asked { (blocks : ℕ) (state : State) (es : NewestFirst Closed) → AreClosed blocks state es → length es ≤ resets_asked (closed_log es) }
+    ensures ends { (blocks : ℕ) (state : State) (r : Epochs) → AreEpochs blocks state r → EndsEpochs (taken_by r) (taken_in (log_of r)) (marked_in (link_steps (log_of r))) (taken_at_banners (link_steps (log_of r))) }
 {}
 
 /// Where a host awaits a Banner of each mark, and a board ends an epoch for each Banner but the first, what is taken is cut at the
@@ -55,7 +55,7 @@ pub fn links_are_cut_at_the_same_places()
         AreLinked stored marks at_got shut taken loaded at_answers closed → AwaitsBanners stored marks at_got → EndsEpochs p taken loaded at_answers →
         HasBanners marks at_got → length p.closed ≡ length marks }
     ensures same { (p q : Pieces) → joined p ≡ joined q → ends_behind 0 p.closed ≡ ends_behind 0 q.closed → p ≡ q }
-    ensures run { (host : HostJournal) (state : State) (r : Epochs) → HostConducted host → AreEpochs state r → AreLinkedOver host r → EndAtMarks (stored_of host) (marks_of host) (taken_by r) }
+    ensures run { (room : ℕ) (host : HostJournal) (blocks : ℕ) (state : State) (r : Epochs) → HostConducted room host → AreEpochs blocks state r → AreLinkedOver host r → EndAtMarks (stored_of host) (marks_of host) (taken_by r) }
 {}
 
 /// The lists of the two ends of one link, which are brought together, go together so: a front of the bytes is taken, each mark that was
@@ -86,23 +86,23 @@ pub fn links_carry_lines_and_resets()
     ensures whole { (sent : List Sent) (stored marks at_got taken at_answers : List ℕ) (loaded : List LinkMark) (shut closed : Bool) (p : Pieces) →
         IsFrontOf sent stored marks → IsAllOf sent stored marks → AreLinked stored marks at_got shut taken loaded at_answers closed → EndsEpochs p taken loaded at_answers → EndAtMarks stored marks p →
         closed ≡ true → length marks ≤ length p.closed → sent ≡ items_in p }
-    ensures run { (host : HostJournal) (state : State) (r : Epochs) → HostConducted host → AreEpochs state r → AreLinkedOver host r →
+    ensures run { (room : ℕ) (host : HostJournal) (blocks : ℕ) (state : State) (r : Epochs) → HostConducted room host → AreEpochs blocks state r → AreLinkedOver host r →
         BeginsWith (sent_of (cut_of host) (raw_of host)) (items_in (taken_by r)) }
-    ensures rest { (host : HostJournal) (state : State) (r : Epochs) → HostConducted host → AreEpochs state r → AreLinkedOver host r →
+    ensures rest { (room : ℕ) (host : HostJournal) (blocks : ℕ) (state : State) (r : Epochs) → HostConducted room host → AreEpochs blocks state r → AreLinkedOver host r →
         (b : BeginsWith (sent_of (cut_of host) (raw_of host)) (items_in (taken_by r))) → behind_reset b.rest ≡ [] }
-    ensures finished { (host : HostJournal) (state : State) (r : Epochs) → HostConducted host → AreEpochs state r → AreLinkedOver host r →
+    ensures finished { (room : ℕ) (host : HostJournal) (blocks : ℕ) (state : State) (r : Epochs) → HostConducted room host → AreEpochs blocks state r → AreLinkedOver host r →
         has_limit host ≡ false → has_closed_in (log_of r) ≡ true →
         (sent_of (cut_of host) (raw_of host) ≡ items_in (taken_by r)) × (length (taken_by r).closed ≡ resets_of host) }
 {}
 
-/// The lines that one reset of a board drops, each with its LF, take 128 bytes at most: those of a closed epoch that have no answer.
-/// They are those that the host forgets at the Banner, or that it will forget there but for some that are answered. So the resets of a
-/// course drop few lines, epoch by epoch. Once the host has ended as many epochs, it has forgotten as many lines.
+/// The lines that one reset of a board drops, each with its LF, take no more bytes than the link has room for: those of a closed epoch
+/// that have no answer. They are those that the host forgets at the Banner, or that it will forget there but for some that are
+/// answered. So the resets of a course drop few lines, epoch by epoch. Once the host has ended as many epochs, it has forgotten as many lines.
 pub fn resets_drop_few_lines()
     ensures course { (room : ℕ) (lines dropped : List (List ℕ)) (passed : List Passed) (r : Reset) (sent : List Sent) (course : List Passed) →
         PassesLines lines passed dropped → length (ended dropped) ≤ room → DropsAreFew room 0 sent course →
         DropsAreFew room 0 (map a_text lines ++ a_stop ∷ sent) (passed ++ a_reset r ∷ course) }
-    ensures run { (host : HostJournal) (state : State) (r : Epochs) → HostConducted host → AreEpochs state r → AreLinkedOver host r → AreAnsweredOver host r → DropFew (closed_of r) }
-    ensures forgotten { (host : HostJournal) (state : State) (r : Epochs) → HostConducted host → AreEpochs state r → AreLinkedOver host r → AreAnsweredOver host r →
+    ensures run { (room : ℕ) (host : HostJournal) (blocks : ℕ) (state : State) (r : Epochs) → HostConducted room host → AreEpochs blocks state r → AreLinkedOver host r → AreAnsweredOver host r → DropFew room (closed_of r) }
+    ensures forgotten { (room : ℕ) (host : HostJournal) (blocks : ℕ) (state : State) (r : Epochs) → HostConducted room host → AreEpochs blocks state r → AreLinkedOver host r → AreAnsweredOver host r →
         length (ended_of host) ≡ length (closed_of r) → forgotten_of host ≡ lines_among (map dropped_by (closed_of r)) }
 {}

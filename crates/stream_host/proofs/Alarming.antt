@@ -20,21 +20,8 @@ more_replies rs r e = list_any-append is_limit rs (r ∷ []) ∙ ap (λ b. b || 
 
 pub alarm_stays : (later h : Journal) → has_limit h ≡ true → has_limit (later ++ h) ≡ true
 alarm_stays [] h e = e
-alarm_stays (at_port (stored b) ∷ l) h e = alarm_stays l h e
-alarm_stays (at_port (dropped b) ∷ l) h e = alarm_stays l h e
-alarm_stays (at_port marked ∷ l) h e = alarm_stays l h e
-alarm_stays (at_port (raised b down) ∷ l) h e = alarm_stays l h e
 alarm_stays (at_port (got r) ∷ l) h e = more_replies (got_of (l ++ h)) r (alarm_stays l h e)
-alarm_stays (at_port no_reply ∷ l) h e = alarm_stays l h e
-alarm_stays (at_port shut ∷ l) h e = alarm_stays l h e
-alarm_stays (read_some bytes ∷ l) h e = alarm_stays l h e
-alarm_stays (read_end ∷ l) h e = alarm_stays l h e
-alarm_stays (read_failed ∷ l) h e = alarm_stays l h e
-alarm_stays (scanned b ∷ l) h e = alarm_stays l h e
-alarm_stays (line_over ∷ l) h e = alarm_stays l h e
-alarm_stays (wrote n ∷ l) h e = alarm_stays l h e
-alarm_stays (gave_up ∷ l) h e = alarm_stays l h e
-alarm_stays (turned t ∷ l) h e = alarm_stays l h e
+alarm_stays (_ ∷ l) h e = alarm_stays l h e
 
 -- ---- nothing more is sent
 
@@ -43,10 +30,10 @@ calm_step : (later h : Journal) {A : Type 0} → has_limit h ≡ true → has_li
 calm_step later h alarm calm = absurd (let e = sym (alarm_stays later h alarm) ∙ calm in cc)
 
 -- what is raised is a resume of the host's own
-own_resume : (later h : Journal) (b : ℕ) → Conducted (later ++ h) → has_limit h ≡ true → MayRaise b (later ++ h) → (t : Bool) → nat_eq (polls_of (later ++ h)) empty_polls ≡ t → line_raises_of (later ++ h) ≡ line_raises_of h
+own_resume : (room : ℕ) (later h : Journal) (b : ℕ) → Conducted room (later ++ h) → has_limit h ≡ true → MayRaise b (later ++ h) → (t : Bool) → nat_eq (polls_of (later ++ h)) empty_polls ≡ t → line_raises_of (later ++ h) ≡ line_raises_of h
     → cond t (line_raises_of (later ++ h)) (line_raises_of (later ++ h) ++ b ∷ []) ≡ line_raises_of h
-own_resume later h b c alarm may true e same = same
-own_resume later h b c alarm may false e same = calm_step later h alarm (may.calm (is_fewer (polls_of (later ++ h)) (few_polls (later ++ h) c) e))
+own_resume room later h b c alarm may true e same = same
+own_resume room later h b c alarm may false e same = calm_step later h alarm (may.calm (is_fewer (polls_of (later ++ h)) (few_polls room (later ++ h) c) e))
 
 -- a step that leaves the job alone
 pub sent_on : (h is now : Journal) → SentNoMore h is → SentNoMore is now → SentNoMore h now
@@ -60,38 +47,38 @@ sent_on h is now s t = record {
   raised = t.raised ∙ s.raised;
 }
 
-pub sends_no_more : (later h : Journal) → Conducted (later ++ h) → has_limit h ≡ true → SentNoMore h (later ++ h)
-sends_no_more [] h c e = record { read = refl; reading = refl; scanned = refl; lines = refl; stored = refl; marks = refl; raised = refl }
-sends_no_more (at_port (stored b) ∷ l) h c e = calm_step l h e c.0.calm
-sends_no_more (at_port (dropped b) ∷ l) h c e = absurd c.0
-sends_no_more (at_port marked ∷ l) h c e = calm_step l h e c.0.calm
-sends_no_more (at_port (raised b down) ∷ l) h c e =
-    let s = sends_no_more l h c.1 e in record {
+pub sends_no_more : (room : ℕ) (later h : Journal) → Conducted room (later ++ h) → has_limit h ≡ true → SentNoMore h (later ++ h)
+sends_no_more room [] h c e = record { read = refl; reading = refl; scanned = refl; lines = refl; stored = refl; marks = refl; raised = refl }
+sends_no_more room (at_port (stored b) ∷ l) h c e = calm_step l h e c.0.calm
+sends_no_more room (at_port (dropped b) ∷ l) h c e = absurd c.0
+sends_no_more room (at_port marked ∷ l) h c e = calm_step l h e c.0.calm
+sends_no_more room (at_port (raised b down) ∷ l) h c e =
+    let s = sends_no_more room l h c.1 e in record {
       read = s.read;
       reading = s.reading;
       scanned = s.scanned;
       lines = s.lines;
       stored = s.stored;
       marks = s.marks;
-      raised = own_resume l h b c.1 e c.0 (nat_eq (polls_of (l ++ h)) empty_polls) refl s.raised;
+      raised = own_resume room l h b c.1 e c.0 (nat_eq (polls_of (l ++ h)) empty_polls) refl s.raised;
     }
-sends_no_more (at_port (got r) ∷ l) h c e =
-    sent_on h (l ++ h) (at_port (got r) ∷ (l ++ h)) (sends_no_more l h c.1 e) (record { read = refl; reading = refl; scanned = refl; lines = refl; stored = refl; marks = refl; raised = refl })
-sends_no_more (at_port no_reply ∷ l) h c e =
-    sent_on h (l ++ h) (at_port no_reply ∷ (l ++ h)) (sends_no_more l h c.1 e) (record { read = refl; reading = refl; scanned = refl; lines = refl; stored = refl; marks = refl; raised = refl })
-sends_no_more (at_port shut ∷ l) h c e =
-    sent_on h (l ++ h) (at_port shut ∷ (l ++ h)) (sends_no_more l h c.1 e) (record { read = refl; reading = refl; scanned = refl; lines = refl; stored = refl; marks = refl; raised = refl })
-sends_no_more (read_some bytes ∷ l) h c e = calm_step l h e c.0.0.calm
-sends_no_more (read_end ∷ l) h c e = calm_step l h e c.0.calm
-sends_no_more (read_failed ∷ l) h c e = calm_step l h e c.0.calm
-sends_no_more (scanned b ∷ l) h c e = calm_step l h e c.0.calm
-sends_no_more (line_over ∷ l) h c e = calm_step l h e c.0.calm
-sends_no_more (wrote n ∷ l) h c e =
-    sent_on h (l ++ h) (wrote n ∷ (l ++ h)) (sends_no_more l h c.1 e) (record { read = refl; reading = refl; scanned = refl; lines = refl; stored = refl; marks = refl; raised = refl })
-sends_no_more (gave_up ∷ l) h c e =
-    sent_on h (l ++ h) (gave_up ∷ (l ++ h)) (sends_no_more l h c.1 e) (record { read = refl; reading = refl; scanned = refl; lines = refl; stored = refl; marks = refl; raised = refl })
-sends_no_more (turned t ∷ l) h c e =
-    sent_on h (l ++ h) (turned t ∷ (l ++ h)) (sends_no_more l h c.1 e) (record { read = refl; reading = refl; scanned = refl; lines = refl; stored = refl; marks = refl; raised = refl })
+sends_no_more room (at_port (got r) ∷ l) h c e =
+    sent_on h (l ++ h) (at_port (got r) ∷ (l ++ h)) (sends_no_more room l h c.1 e) (record { read = refl; reading = refl; scanned = refl; lines = refl; stored = refl; marks = refl; raised = refl })
+sends_no_more room (at_port no_reply ∷ l) h c e =
+    sent_on h (l ++ h) (at_port no_reply ∷ (l ++ h)) (sends_no_more room l h c.1 e) (record { read = refl; reading = refl; scanned = refl; lines = refl; stored = refl; marks = refl; raised = refl })
+sends_no_more room (at_port shut ∷ l) h c e =
+    sent_on h (l ++ h) (at_port shut ∷ (l ++ h)) (sends_no_more room l h c.1 e) (record { read = refl; reading = refl; scanned = refl; lines = refl; stored = refl; marks = refl; raised = refl })
+sends_no_more room (read_some bytes ∷ l) h c e = calm_step l h e c.0.0.calm
+sends_no_more room (read_end ∷ l) h c e = calm_step l h e c.0.calm
+sends_no_more room (read_failed ∷ l) h c e = calm_step l h e c.0.calm
+sends_no_more room (scanned b ∷ l) h c e = calm_step l h e c.0.calm
+sends_no_more room (line_over ∷ l) h c e = calm_step l h e c.0.calm
+sends_no_more room (wrote n ∷ l) h c e =
+    sent_on h (l ++ h) (wrote n ∷ (l ++ h)) (sends_no_more room l h c.1 e) (record { read = refl; reading = refl; scanned = refl; lines = refl; stored = refl; marks = refl; raised = refl })
+sends_no_more room (gave_up ∷ l) h c e =
+    sent_on h (l ++ h) (gave_up ∷ (l ++ h)) (sends_no_more room l h c.1 e) (record { read = refl; reading = refl; scanned = refl; lines = refl; stored = refl; marks = refl; raised = refl })
+sends_no_more room (turned t ∷ l) h c e =
+    sent_on h (l ++ h) (turned t ∷ (l ++ h)) (sends_no_more room l h c.1 e) (record { read = refl; reading = refl; scanned = refl; lines = refl; stored = refl; marks = refl; raised = refl })
 
 -- ---- an alarm is no cause where the job gives one
 

@@ -29,34 +29,24 @@ reset_on xs b = sum_by-append (λ x. cond (is_reset x) 1 0) xs (b ∷ []) ∙ by
 
 resets_raised : (h : HostLog) → resets_in h ≡ count_by is_reset (bytes_raised_in h)
 resets_raised [] = refl
-resets_raised (stored b ∷ h) = resets_raised h
-resets_raised (dropped b ∷ h) = resets_raised h
-resets_raised (marked ∷ h) = resets_raised h
 resets_raised (raised b down ∷ h) = ap (λ n. cond (is_reset b) (n + 1) n) (resets_raised h) ∙ sym (reset_on (bytes_raised_in h) b)
-resets_raised (got r ∷ h) = resets_raised h
-resets_raised (no_reply ∷ h) = resets_raised h
-resets_raised (shut ∷ h) = resets_raised h
+resets_raised (_ ∷ h) = resets_raised h
 
 -- those that are raised, by the bytes that are
 pub raised_resets : (h : Journal) → count_by is_reset (raises_of h) ≡ resets_of h
 raised_resets h = sym (resets_raised (port_log h))
 
 -- those that are scanned are raised, or due
-pub scanned_resets : (h : Journal) → Conducted h → resets_scanned (scanned_of h) ≡ resets_so_far h
-scanned_resets h c = let r = raised_is h c is_reset in let n = raised_resets h in omega arith
+pub scanned_resets : (room : ℕ) (h : Journal) → Conducted room h → resets_scanned (scanned_of h) ≡ resets_so_far h
+scanned_resets room h c = let r = raised_is room h c is_reset in let n = raised_resets h in omega arith
 
 pub banner_on : (rs : List Reply) (r : Reply) → banners_in (rs ++ r ∷ []) ≡ banners_in rs + cond (is_banner r) 1 0
 banner_on rs r = let e = sum_by-append (λ x. cond (is_banner x) 1 0) rs (r ∷ []) in omega arith
 
 banners_are : (h : HostLog) → banners_in (got_in h) ≡ banners_in (latest_got h)
 banners_are [] = refl
-banners_are (stored b ∷ h) = banners_are h
-banners_are (dropped b ∷ h) = banners_are h
-banners_are (marked ∷ h) = banners_are h
-banners_are (raised b down ∷ h) = banners_are h
 banners_are (got r ∷ h) = let a = banner_on (got_in h) r in let f = banners_first r (latest_got h) in let m = banners_are h in omega arith
-banners_are (no_reply ∷ h) = banners_are h
-banners_are (shut ∷ h) = banners_are h
+banners_are (_ ∷ h) = banners_are h
 
 -- the Banners that were got, by the replies in order
 pub banners_got : (h : Journal) → banners_in (got_of h) ≡ banners_of h
@@ -106,14 +96,14 @@ with_reset b raw false e short some = record {
   short = long_same raw b (inl (reset_drops raw b (more_served raw b) (sym (served_on raw b)) (some_reset (more_served raw b) some))) ∙ short;
 }
 
-scan_await : (b : ℕ) (h : Journal) → Conducted (scanned b ∷ h) → Await h → Await (scanned b ∷ h)
-scan_await b h c was = record {
+scan_await : (room : ℕ) (b : ℕ) (h : Journal) → Conducted room (scanned b ∷ h) → Await h → Await (scanned b ∷ h)
+scan_await room b h c was = record {
   in_turn = λ many. by_resets (nat_lt 0 (resets_of h)) refl many;
   last = λ e. by_more (nat_lt 0 (count_by is_reset (more_served (raw_of h) b))) refl e;
 }
   where
     same : resets_scanned (scanned_of (scanned b ∷ h)) ≡ resets_of h + count_by is_reset (more_served (raw_of h) b)
-    same = scanned_resets (scanned b ∷ h) c ∙ ap (λ (d : List ℕ). resets_of h + count_by is_reset (d ++ more_served (raw_of h) b)) c.0.none_due
+    same = scanned_resets room (scanned b ∷ h) c ∙ ap (λ (d : List ℕ). resets_of h + count_by is_reset (d ++ more_served (raw_of h) b)) c.0.none_due
 
     few : count_by is_reset (more_served (raw_of h) b) ≤ 1
     few = let m = count_by-le-length is_reset (more_served (raw_of h) b) in let o = one_more (raw_of h) b in omega arith
@@ -129,10 +119,10 @@ scan_await b h c was = record {
         let s = same in let n : resets_scanned (scanned_of (scanned b ∷ h)) ≡ resets_of h = omega arith in
         both (awaits_banner h) (ap (λ k. lacks_banner k (banners_of h)) (sym n) ∙ lacks) c.0.epoch
 
-over_await : (h : Journal) → Conducted (line_over ∷ h) → Await h → Await (line_over ∷ h)
-over_await h c was = record {
+over_await : (room : ℕ) (h : Journal) → Conducted room (line_over ∷ h) → Await h → Await (line_over ∷ h)
+over_await room h c was = record {
   in_turn = was.in_turn;
-  last = λ e. both (lacks_banner (resets_so_far h) (banners_of h)) (ap (λ n. lacks_banner n (banners_of h)) (sym (scanned_resets h c.1)) ∙ e) (none_lacks h c.0.epoch c.0.none_due);
+  last = λ e. both (lacks_banner (resets_so_far h) (banners_of h)) (ap (λ n. lacks_banner n (banners_of h)) (sym (scanned_resets room h c.1)) ∙ e) (none_lacks h c.0.epoch c.0.none_due);
 }
 
 same_await : (h next : Journal) → scanned_of next ≡ scanned_of h → banners_of next ≡ banners_of h → raw_of next ≡ raw_of h → Await h → Await next
@@ -141,35 +131,35 @@ same_await h next s b r was = record {
   last = λ e. subst EndsInReset (sym r) (was.last (ap (λ n. lacks_banner n (banners_of h)) (ap resets_scanned (sym s)) ∙ ap (lacks_banner (resets_scanned (scanned_of next))) (sym b) ∙ e));
 }
 
-await_is : (h : Journal) → Conducted h → Await h
-await_is [] c = record { in_turn = λ many. absurd (omega arith); last = λ e. absurd cc }
-await_is (at_port (stored b) ∷ h) c = same_await h (at_port (stored b) ∷ h) refl refl refl (await_is h c.1)
-await_is (at_port (dropped b) ∷ h) c = absurd c.0
-await_is (at_port marked ∷ h) c = same_await h (at_port marked ∷ h) refl refl refl (await_is h c.1)
-await_is (at_port (raised b down) ∷ h) c = same_await h (at_port (raised b down) ∷ h) refl refl refl (await_is h c.1)
-await_is (at_port (got r) ∷ h) c = got_await r h (await_is h c.1)
-await_is (at_port no_reply ∷ h) c = same_await h (at_port no_reply ∷ h) refl refl refl (await_is h c.1)
-await_is (at_port shut ∷ h) c = same_await h (at_port shut ∷ h) refl refl refl (await_is h c.1)
-await_is (read_some bytes ∷ h) c = same_await h (read_some bytes ∷ h) refl refl refl (await_is h c.1)
-await_is (read_end ∷ h) c = same_await h (read_end ∷ h) refl refl refl (await_is h c.1)
-await_is (read_failed ∷ h) c = same_await h (read_failed ∷ h) refl refl refl (await_is h c.1)
-await_is (scanned b ∷ h) c = scan_await b h c (await_is h c.1)
-await_is (line_over ∷ h) c = over_await h c (await_is h c.1)
-await_is (wrote n ∷ h) c = same_await h (wrote n ∷ h) refl refl refl (await_is h c.1)
-await_is (gave_up ∷ h) c = same_await h (gave_up ∷ h) refl refl refl (await_is h c.1)
-await_is (turned t ∷ h) c = same_await h (turned t ∷ h) refl refl refl (await_is h c.1)
+await_is : (room : ℕ) (h : Journal) → Conducted room h → Await h
+await_is room [] c = record { in_turn = λ many. absurd (omega arith); last = λ e. absurd cc }
+await_is room (at_port (stored b) ∷ h) c = same_await h (at_port (stored b) ∷ h) refl refl refl (await_is room h c.1)
+await_is room (at_port (dropped b) ∷ h) c = absurd c.0
+await_is room (at_port marked ∷ h) c = same_await h (at_port marked ∷ h) refl refl refl (await_is room h c.1)
+await_is room (at_port (raised b down) ∷ h) c = same_await h (at_port (raised b down) ∷ h) refl refl refl (await_is room h c.1)
+await_is room (at_port (got r) ∷ h) c = got_await r h (await_is room h c.1)
+await_is room (at_port no_reply ∷ h) c = same_await h (at_port no_reply ∷ h) refl refl refl (await_is room h c.1)
+await_is room (at_port shut ∷ h) c = same_await h (at_port shut ∷ h) refl refl refl (await_is room h c.1)
+await_is room (read_some bytes ∷ h) c = same_await h (read_some bytes ∷ h) refl refl refl (await_is room h c.1)
+await_is room (read_end ∷ h) c = same_await h (read_end ∷ h) refl refl refl (await_is room h c.1)
+await_is room (read_failed ∷ h) c = same_await h (read_failed ∷ h) refl refl refl (await_is room h c.1)
+await_is room (scanned b ∷ h) c = scan_await room b h c (await_is room h c.1)
+await_is room (line_over ∷ h) c = over_await room h c (await_is room h c.1)
+await_is room (wrote n ∷ h) c = same_await h (wrote n ∷ h) refl refl refl (await_is room h c.1)
+await_is room (gave_up ∷ h) c = same_await h (gave_up ∷ h) refl refl refl (await_is room h c.1)
+await_is room (turned t ∷ h) c = same_await h (turned t ∷ h) refl refl refl (await_is room h c.1)
 
-pub awaited_is : (h : Journal) → Conducted h → AreAwaited (scanned_of h) (cut_of h) (banners_of h)
-awaited_is h c = record {
+pub awaited_is : (room : ℕ) (h : Journal) → Conducted room h → AreAwaited (scanned_of h) (cut_of h) (banners_of h)
+awaited_is room h c = record {
   raw = raw_of h;
-  cut = elim (cut_is h c) [
+  cut = elim (cut_is room h c) [
     | inl is ↦ inl is
     | inr over ↦ inr (over.whole, over.none)
   ];
-  in_turn = (await_is h c).in_turn;
-  last = (await_is h c).last;
+  in_turn = (await_is room h c).in_turn;
+  last = (await_is room h c).last;
 }
 
 -- the same by the replies in order
-pub awaited_got : (h : Journal) → Conducted h → AreAwaited (scanned_of h) (cut_of h) (banners_in (got_of h))
-awaited_got h c = subst (λ n. AreAwaited (scanned_of h) (cut_of h) n) (sym (banners_got h)) (awaited_is h c)
+pub awaited_got : (room : ℕ) (h : Journal) → Conducted room h → AreAwaited (scanned_of h) (cut_of h) (banners_in (got_of h))
+awaited_got room h c = subst (λ n. AreAwaited (scanned_of h) (cut_of h) n) (sym (banners_got h)) (awaited_is room h c)

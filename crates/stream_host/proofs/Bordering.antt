@@ -53,13 +53,13 @@ pub record IsStored (marks : List ℕ) (resets : ℕ) (lines : List (List ℕ)) 
 has_none : (due : List ℕ) → due ≡ [] → list_any is_reset due ≡ false
 has_none due e = ap (list_any is_reset) e
 
-raised_on : (b : ℕ) (h : Journal) → Conducted h → MayRaise b h → (t : Bool) → nat_eq (polls_of h) empty_polls ≡ t → (u : Bool) → is_reset b ≡ u → (place : ℕ) (left : List ℕ) → AllMarked (length (marks_of h)) (resets_of h) place (due_of h) left
+raised_on : (room : ℕ) (b : ℕ) (h : Journal) → Conducted room h → MayRaise b h → (t : Bool) → nat_eq (polls_of h) empty_polls ≡ t → (u : Bool) → is_reset b ≡ u → (place : ℕ) (left : List ℕ) → AllMarked (length (marks_of h)) (resets_of h) place (due_of h) left
     → AllMarked (length (marks_of h)) (cond u (resets_of h + 1) (resets_of h)) place (cond t (due_of h) (drop 1 (due_of h))) left
-raised_on b h c may true e true f place left all = absurd (let g = sym f ∙ ap is_reset (may.resumes (is_enough (polls_of h) e)) in cc)
-raised_on b h c may true e false f place left all = all
-raised_on b h c may false e u f place left (inl all) = inl (all.0, inl (has_none (drop 1 (due_of h)) (one_due h b c (may.next (is_fewer (polls_of h) (few_polls h c) e)))))
-raised_on b h c may false e u f place left (inr all) =
-    let next = may.next (is_fewer (polls_of h) (few_polls h c) e) in
+raised_on room b h c may true e true f place left all = absurd (let g = sym f ∙ ap is_reset (may.resumes (is_enough (polls_of h) e)) in cc)
+raised_on room b h c may true e false f place left all = all
+raised_on room b h c may false e u f place left (inl all) = inl (all.0, inl (has_none (drop 1 (due_of h)) (one_due room h b c (may.next (is_fewer (polls_of h) (few_polls room h c) e)))))
+raised_on room b h c may false e u f place left (inr all) =
+    let next = may.next (is_fewer (polls_of h) (few_polls room h c) e) in
     let same : b ≡ 0x18 = (let g = sym next ∙ all.1 in cc) in
     absurd (let m = may.behind_mark (ap is_reset same) in let n = all.2 in omega arith)
 
@@ -67,8 +67,8 @@ pub left_none : (marks resets place : ℕ) (due left : List ℕ) → due ≡ [] 
 left_none marks resets place due left none (inl all) = all.0
 left_none marks resets place due left none (inr all) = absurd (let e = sym none ∙ all.1 in cc)
 
-fresh : (h : Journal) → Conducted h → due_of h ≡ [] → length (marks_of h) ≡ resets_of h
-fresh h c none = by_marks (marks_are h c)
+fresh : (room : ℕ) (h : Journal) → Conducted room h → due_of h ≡ [] → length (marks_of h) ≡ resets_of h
+fresh room h c none = by_marks (marks_are room h c)
   where
     by_marks : IsMarked (length (marks_of h)) (resets_of h) (due_of h) → length (marks_of h) ≡ resets_of h
     by_marks (inl same) = same
@@ -100,29 +100,29 @@ line_marks marks resets lines raw due next none none_next was = record {
   all = inl (refl, inl (has_none next none_next));
 }
 
-scan_marks : (b : ℕ) (h : Journal) → Conducted (scanned b ∷ h) → (t : Bool) → nat_eq b 10 ≡ t → IsStored (marks_of h) (resets_of h) (cut_of h) (raw_of h) (due_of h)
+scan_marks : (room : ℕ) (b : ℕ) (h : Journal) → Conducted room (scanned b ∷ h) → (t : Bool) → nat_eq b 10 ≡ t → IsStored (marks_of h) (resets_of h) (cut_of h) (raw_of h) (due_of h)
     → IsStored (marks_of h) (resets_of h) (cond t (cut_of h ++ raw_of h ∷ []) (cut_of h)) (cond t [] (raw_of h ++ b ∷ [])) (due_of h ++ more_served (raw_of h) b)
-scan_marks b h c true e was =
+scan_marks room b h c true e was =
     line_marks (marks_of h) (resets_of h) (cut_of h) (raw_of h) (due_of h) (due_of h ++ more_served (raw_of h) b) c.0.none_due
     (ap (λ (d : List ℕ). d ++ more_served (raw_of h) b) c.0.none_due ∙ none_at_lf (raw_of h) b e) was
-scan_marks b h c false e was = record {
+scan_marks room b h c false e was = record {
   left = map (λ x. length (on_link (cut_of h))) (filter is_reset (more_served (raw_of h) b));
   are =
       ap (λ (t : List ℕ). t ++ map (λ x. length (on_link (cut_of h))) (filter is_reset (more_served (raw_of h) b))) (whole (marks_of h) (resets_of h) (cut_of h) (raw_of h) (due_of h) c.0.none_due was)
       ∙ append_assoc (marks_behind 0 (cut_of h)) (marks_at (length (on_link (cut_of h))) (raw_of h)) (map (λ x. length (on_link (cut_of h))) (filter is_reset (more_served (raw_of h) b)))
       ∙ ap (λ (t : List ℕ). marks_behind 0 (cut_of h) ++ t) (sym (at_more (length (on_link (cut_of h))) (raw_of h) b));
   all = subst (λ (d : List ℕ). AllMarked (length (marks_of h)) (resets_of h) (length (on_link (cut_of h))) (d ++ more_served (raw_of h) b) (map (λ x. length (on_link (cut_of h))) (filter is_reset (more_served (raw_of h) b)))) (sym c.0.none_due)
-      (more_left (length (marks_of h)) (resets_of h) (length (on_link (cut_of h))) (more_served (raw_of h) b) (one_more (raw_of h) b) (fresh h c.1 c.0.none_due));
+      (more_left (length (marks_of h)) (resets_of h) (length (on_link (cut_of h))) (more_served (raw_of h) b) (one_more (raw_of h) b) (fresh room h c.1 c.0.none_due));
 }
 
-mark_marks : (h : Journal) → Conducted (at_port marked ∷ h) → IsStored (marks_of h) (resets_of h) (cut_of h) (raw_of h) (due_of h) → IsStored (marks_of (at_port marked ∷ h)) (resets_of h) (cut_of h) (raw_of h) (due_of h)
-mark_marks h c was = by_all was.all
+mark_marks : (room : ℕ) (h : Journal) → Conducted room (at_port marked ∷ h) → IsStored (marks_of h) (resets_of h) (cut_of h) (raw_of h) (due_of h) → IsStored (marks_of (at_port marked ∷ h)) (resets_of h) (cut_of h) (raw_of h) (due_of h)
+mark_marks room h c was = by_all was.all
   where
     by_all : AllMarked (length (marks_of h)) (resets_of h) (length (on_link (cut_of h))) (due_of h) was.left → IsStored (marks_of (at_port marked ∷ h)) (resets_of h) (cut_of h) (raw_of h) (due_of h)
     by_all (inl (none, inl no_reset)) = absurd (let e = sym no_reset ∙ ap (list_any is_reset) c.0.next in cc)
     by_all (inl (none, inr more)) = absurd (let f = c.0.fresh in omega arith)
     by_all (inr all) =
-        let at : length (stored_of h) ≡ length (on_link (cut_of h)) = ap length (whole_at_mark h c) in
+        let at : length (stored_of h) ≡ length (on_link (cut_of h)) = ap length (whole_at_mark room h c) in
         record {
           left = [];
           are =
@@ -131,30 +131,30 @@ mark_marks h c was = by_all was.all
           all = inl (refl, inr (let n = all.2 in omega arith));
         }
 
-pub stored_marks : (h : Journal) → Conducted h → IsStored (marks_of h) (resets_of h) (cut_of h) (raw_of h) (due_of h)
-stored_marks [] c = record { left = []; are = sym (none_at 0); all = inl (refl, inl refl) }
-stored_marks (at_port (stored b) ∷ h) c = stored_marks h c.1
-stored_marks (at_port (dropped b) ∷ h) c = absurd c.0
-stored_marks (at_port marked ∷ h) c = mark_marks h c (stored_marks h c.1)
-stored_marks (at_port (raised b down) ∷ h) c =
-    let s = stored_marks h c.1 in
-    record { left = s.left; are = s.are; all = raised_on b h c.1 c.0 (nat_eq (polls_of h) empty_polls) refl (is_reset b) refl (length (on_link (cut_of h))) s.left s.all }
-stored_marks (at_port (got r) ∷ h) c = stored_marks h c.1
-stored_marks (at_port no_reply ∷ h) c = stored_marks h c.1
-stored_marks (at_port shut ∷ h) c = stored_marks h c.1
-stored_marks (read_some bytes ∷ h) c = stored_marks h c.1
-stored_marks (read_end ∷ h) c = stored_marks h c.1
-stored_marks (read_failed ∷ h) c = stored_marks h c.1
-stored_marks (scanned b ∷ h) c = scan_marks b h c (nat_eq b 10) refl (stored_marks h c.1)
-stored_marks (line_over ∷ h) c = line_marks (marks_of h) (resets_of h) (cut_of h) (raw_of h) (due_of h) (due_of h) c.0.none_due c.0.none_due (stored_marks h c.1)
-stored_marks (wrote n ∷ h) c = stored_marks h c.1
-stored_marks (gave_up ∷ h) c = stored_marks h c.1
-stored_marks (turned t ∷ h) c = stored_marks h c.1
+pub stored_marks : (room : ℕ) (h : Journal) → Conducted room h → IsStored (marks_of h) (resets_of h) (cut_of h) (raw_of h) (due_of h)
+stored_marks room [] c = record { left = []; are = sym (none_at 0); all = inl (refl, inl refl) }
+stored_marks room (at_port (stored b) ∷ h) c = stored_marks room h c.1
+stored_marks room (at_port (dropped b) ∷ h) c = absurd c.0
+stored_marks room (at_port marked ∷ h) c = mark_marks room h c (stored_marks room h c.1)
+stored_marks room (at_port (raised b down) ∷ h) c =
+    let s = stored_marks room h c.1 in
+    record { left = s.left; are = s.are; all = raised_on room b h c.1 c.0 (nat_eq (polls_of h) empty_polls) refl (is_reset b) refl (length (on_link (cut_of h))) s.left s.all }
+stored_marks room (at_port (got r) ∷ h) c = stored_marks room h c.1
+stored_marks room (at_port no_reply ∷ h) c = stored_marks room h c.1
+stored_marks room (at_port shut ∷ h) c = stored_marks room h c.1
+stored_marks room (read_some bytes ∷ h) c = stored_marks room h c.1
+stored_marks room (read_end ∷ h) c = stored_marks room h c.1
+stored_marks room (read_failed ∷ h) c = stored_marks room h c.1
+stored_marks room (scanned b ∷ h) c = scan_marks room b h c (nat_eq b 10) refl (stored_marks room h c.1)
+stored_marks room (line_over ∷ h) c = line_marks (marks_of h) (resets_of h) (cut_of h) (raw_of h) (due_of h) (due_of h) c.0.none_due c.0.none_due (stored_marks room h c.1)
+stored_marks room (wrote n ∷ h) c = stored_marks room h c.1
+stored_marks room (gave_up ∷ h) c = stored_marks room h c.1
+stored_marks room (turned t ∷ h) c = stored_marks room h c.1
 
 -- ---- by what was scanned
 
-behind_text : (h : Journal) → Conducted h → marks_behind 0 (cut_of h) ++ marks_at (length (on_link (cut_of h))) (raw_of h) ≡ marks_behind 0 (lines_of (scanned_of h))
-behind_text h c = by_cut (cut_is h c)
+behind_text : (room : ℕ) (h : Journal) → Conducted room h → marks_behind 0 (cut_of h) ++ marks_at (length (on_link (cut_of h))) (raw_of h) ≡ marks_behind 0 (lines_of (scanned_of h))
+behind_text room h c = by_cut (cut_is room h c)
   where
     last : (raw : List ℕ) → marks_behind 0 (cut_of h) ++ marks_at (length (on_link (cut_of h))) raw ≡ marks_behind 0 (cut_of h ++ cond (nat_lt 0 (length raw)) (raw ∷ []) [])
     last [] = ap (λ (t : List ℕ). marks_behind 0 (cut_of h) ++ t) (none_at (length (on_link (cut_of h)))) ∙ append-nil (marks_behind 0 (cut_of h)) ∙ ap (marks_behind 0) (sym (append-nil (cut_of h)))
@@ -168,15 +168,15 @@ behind_text h c = by_cut (cut_is h c)
         ap (λ (t : List ℕ). marks_behind 0 (cut_of h) ++ marks_at (length (on_link (cut_of h))) t) over.none ∙ ap (λ (t : List ℕ). marks_behind 0 (cut_of h) ++ t) (none_at (length (on_link (cut_of h))))
         ∙ append-nil (marks_behind 0 (cut_of h)) ∙ ap (marks_behind 0) (sym over.whole)
 
-pub marks_of_resets : (h : Journal) → Conducted h → AreMarks (marks_of h) (scanned_of h)
-marks_of_resets h c =
-    let s = stored_marks h c in
-    record { left = s.left; are = s.are ∙ behind_text h c; few = by_all s.left s.all }
+pub marks_of_resets : (room : ℕ) (h : Journal) → Conducted room h → AreMarks (marks_of h) (scanned_of h)
+marks_of_resets room h c =
+    let s = stored_marks room h c in
+    record { left = s.left; are = s.are ∙ behind_text room h c; few = by_all s.left s.all }
   where
     by_all : (left : List ℕ) → AllMarked (length (marks_of h)) (resets_of h) (length (on_link (cut_of h))) (due_of h) left → length left ≤ 1
     by_all left (inl all) = let e = ap length all.0 in omega arith
     by_all left (inr all) = let e = ap length all.0 in omega arith
 
 -- where nothing is due, all are stored
-pub all_marks : (h : Journal) → Conducted h → due_of h ≡ [] → reverse (marks_of h) ≡ marks_behind 0 (lines_of (scanned_of h))
-all_marks h c none = whole (marks_of h) (resets_of h) (cut_of h) (raw_of h) (due_of h) none (stored_marks h c) ∙ behind_text h c
+pub all_marks : (room : ℕ) (h : Journal) → Conducted room h → due_of h ≡ [] → reverse (marks_of h) ≡ marks_behind 0 (lines_of (scanned_of h))
+all_marks room h c none = whole (marks_of h) (resets_of h) (cut_of h) (raw_of h) (due_of h) none (stored_marks room h c) ∙ behind_text room h c

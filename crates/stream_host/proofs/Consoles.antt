@@ -44,8 +44,8 @@ some_waits v w = by_test (not v.failed) (nat_lt 0 (length v.waiting)) (v.begun |
     by_test true false d is e = absurd cc
     by_test false b d is e = absurd cc
 
-wrote_some : (s : Host) (w : Writing) (h : Journal) (now later : SinkState) → HostFits s h → Writes s.text → TookSome s.text w now later → (next : Journal) × DidAlone s (record s { text = w }) h next × ((job : SourceState) → HostTellsOn s (record s { text = w }) h next job job now later)
-wrote_some s w h now later f due took =
+wrote_some : {room : ℕ} (s : Host) (w : Writing) (h : Journal) (now later : SinkState) → HostFits room s h → Writes s.text → TookSome s.text w now later → (next : Journal) × DidAlone room s (record s { text = w }) h next × ((job : SourceState) → HostTellsOn s (record s { text = w }) h next job job now later)
+wrote_some {room} s w h now later f due took =
     let going : s.text.failed ≡ false = well s.text due in
     let waits = f.text_is.waits going in
     let size = ap length waits ∙ length-drop (written_of h) (text_of h) in
@@ -54,6 +54,8 @@ wrote_some s w h now later f due took =
       wrote took.count ∷ h,
       record {
         fits = record {
+          sized = f.sized;
+          room_is = f.room_is;
           conducted = (record { going = sym f.text_is.failed_is ∙ going; some = took.some; front = omega arith }, f.conducted);
           job_is = f.job_is;
           line_is = f.line_is;
@@ -91,8 +93,8 @@ wrote_some s w h now later f due took =
       },
     )
 
-wrote_none : (s : Host) (w : Writing) (h : Journal) (now later : SinkState) → HostFits s h → Writes s.text → WriteFailed s.text w now later → (next : Journal) × DidAlone s (record s { text = w }) h next × ((job : SourceState) → HostTellsOn s (record s { text = w }) h next job job now later)
-wrote_none s w h now later f due fault =
+wrote_none : {room : ℕ} (s : Host) (w : Writing) (h : Journal) (now later : SinkState) → HostFits room s h → Writes s.text → WriteFailed s.text w now later → (next : Journal) × DidAlone room s (record s { text = w }) h next × ((job : SourceState) → HostTellsOn s (record s { text = w }) h next job job now later)
+wrote_none {room} s w h now later f due fault =
     let going : s.text.failed ≡ false = well s.text due in
     let waits = f.text_is.waits going in
     let size = ap length waits ∙ length-drop (written_of h) (text_of h) in
@@ -101,6 +103,8 @@ wrote_none s w h now later f due fault =
       gave_up ∷ h,
       record {
         fits = record {
+          sized = f.sized;
+          room_is = f.room_is;
           conducted = (record { going = sym f.text_is.failed_is ∙ going; some = omega arith }, f.conducted);
           job_is = f.job_is;
           line_is = f.line_is;
@@ -143,6 +147,6 @@ wrote_none s w h now later f due fault =
     falls true true e g = absurd cc
     falls false b e g = absurd cc
 
-pub wrote_on : (s : Host) (w : Writing) (h : Journal) (now later : SinkState) → HostFits s h → Writes s.text → WroteOnce s.text w now later → (next : Journal) × DidAlone s (record s { text = w }) h next × ((job : SourceState) → HostTellsOn s (record s { text = w }) h next job job now later)
-wrote_on s w h now later f due (inl took) = wrote_some s w h now later f due took
-wrote_on s w h now later f due (inr fault) = wrote_none s w h now later f due fault
+pub wrote_on : {room : ℕ} (s : Host) (w : Writing) (h : Journal) (now later : SinkState) → HostFits room s h → Writes s.text → WroteOnce s.text w now later → (next : Journal) × DidAlone room s (record s { text = w }) h next × ((job : SourceState) → HostTellsOn s (record s { text = w }) h next job job now later)
+wrote_on {room} s w h now later f due (inl took) = wrote_some s w h now later f due took
+wrote_on {room} s w h now later f due (inr fault) = wrote_none s w h now later f due fault

@@ -23,22 +23,22 @@ first_end : (marks : List ℕ) (ended : List Epoch) (now : Epoch) → 0 < length
 first_end [] ended now some at ends = absurd (omega arith)
 first_end (m ∷ marks) ended now some at ends = (at, ends)
 
-marked_ends : (h : Journal) → Conducted (at_port marked ∷ h) → Ends (marks_of h) (banners_of h) (to_store h) (stored_of h) (ended_of h)
+marked_ends : (room : ℕ) (h : Journal) → Conducted room (at_port marked ∷ h) → Ends (marks_of h) (banners_of h) (to_store h) (stored_of h) (ended_of h)
     → Ends (marks_of (at_port marked ∷ h)) (banners_of h) (to_store h) (stored_of h) (ended_of h)
-marked_ends h c (inr p) = pending_marked h c.1 c.0 p.0
-marked_ends h c (inl s) = let e = epoch_is (at_port marked ∷ h) c in by_stands e.from e.stands
+marked_ends room h c (inr p) = pending_marked room h c.1 c.0 p.0
+marked_ends room h c (inl s) = let e = epoch_is room (at_port marked ∷ h) c in by_stands e.from e.stands
   where
     never : IsSteady (marks_of (at_port marked ∷ h)) (banners_of h) → ⊥
     never (inl none) = absurd (omega arith)
-    never (inr all) = let l = banners_low h c.1 in absurd (omega arith)
+    never (inr all) = let l = banners_low room h c.1 in absurd (omega arith)
 
     by_stands : (from : ℕ) → Stands (marks_of (at_port marked ∷ h)) (banners_of h) (to_store h) (stored_of h) from → Ends (marks_of (at_port marked ∷ h)) (banners_of h) (to_store h) (stored_of h) (ended_of h)
     by_stands from (inl t) = absurd (never t.0)
     by_stands from (inr p) = inr (p.0, s.1)
 
-got_begins : (r : Reply) (h : Journal) → Conducted (at_port (got r) ∷ h) → begins r (port_log h) ≡ true → Ends (marks_of h) (banners_of h) (to_store h) (stored_of h) (ended_of h)
+got_begins : (room : ℕ) (r : Reply) (h : Journal) → Conducted room (at_port (got r) ∷ h) → begins r (port_log h) ≡ true → Ends (marks_of h) (banners_of h) (to_store h) (stored_of h) (ended_of h)
     → Ends (marks_of h) (banners_of (at_port (got r) ∷ h)) (to_store h) (stored_of h) (epoch_now h ∷ ended_of h)
-got_begins r h c is ends = by_ends ends
+got_begins room r h c is ends = by_ends ends
   where
     t : (is_banner r ≡ true) × (has_banner (latest_got (port_log h)) ≡ true)
     t = both_true (is_banner r) (has_banner (latest_got (port_log h))) is
@@ -47,7 +47,7 @@ got_begins r h c is ends = by_ends ends
     some = some_banner (latest_got (port_log h)) t.1
 
     equal : banners_of h ≡ length (marks_of h)
-    equal = (begins_at r h _ c is (epoch_is h c.1).stands).steady
+    equal = (begins_at room r h _ c is (epoch_is room h c.1).stands).steady
 
     never : IsSteady (marks_of h) (banners_of h) → ⊥
     never (inl none) = let e = equal in let m = some in absurd (omega arith)
@@ -59,12 +59,12 @@ got_begins r h c is ends = by_ends ends
     by_ends : Ends (marks_of h) (banners_of h) (to_store h) (stored_of h) (ended_of h) → Ends (marks_of h) (banners_of (at_port (got r) ∷ h)) (to_store h) (stored_of h) (epoch_now h ∷ ended_of h)
     by_ends (inl s) = absurd (never s.0)
     by_ends (inr p) =
-        let at = p.0.at_end ∙ ap length (whole_by h c.1 p.0.free) ∙ ap (λ (ls : List (List ℕ)). length (on_link ls)) (epochs_are h c.1).lines_are in
+        let at = p.0.at_end ∙ ap length (whole_by room h c.1 p.0.free) ∙ ap (λ (ls : List (List ℕ)). length (on_link ls)) (epochs_are room h c.1).lines_are in
         inl (inr more, first_end (marks_of h) (ended_of h) (epoch_now h) p.0.some at p.1)
 
-got_stays : (r : Reply) (h : Journal) → Conducted (at_port (got r) ∷ h) → begins r (port_log h) ≡ false → Ends (marks_of h) (banners_of h) (to_store h) (stored_of h) (ended_of h)
+got_stays : (room : ℕ) (r : Reply) (h : Journal) → Conducted room (at_port (got r) ∷ h) → begins r (port_log h) ≡ false → Ends (marks_of h) (banners_of h) (to_store h) (stored_of h) (ended_of h)
     → Ends (marks_of h) (banners_of (at_port (got r) ∷ h)) (to_store h) (stored_of h) (ended_of h)
-got_stays r h c none ends = by_banner (is_banner r) refl (banners_first r (latest_got (port_log h)))
+got_stays room r h c none ends = by_banner (is_banner r) refl (banners_first r (latest_got (port_log h)))
   where
     first : is_banner r ≡ true → banners_of h ≡ 0
     first b = none_banner (latest_got (port_log h)) (sym (ap (λ t. t && has_banner (latest_got (port_log h))) b) ∙ none)
@@ -91,47 +91,47 @@ got_stays r h c none ends = by_banner (is_banner r) refl (banners_first r (lates
     by_banner true b more = by_first (first b) (let f = first b in omega arith) ends
     by_banner false b more = let same : banners_of h ≡ banners_of (at_port (got r) ∷ h) = omega arith in subst (λ n. Ends (marks_of h) n (to_store h) (stored_of h) (ended_of h)) same ends
 
-got_ends : (r : Reply) (h : Journal) (t : Bool) → Conducted (at_port (got r) ∷ h) → begins r (port_log h) ≡ t → Ends (marks_of h) (banners_of h) (to_store h) (stored_of h) (ended_of h)
+got_ends : (room : ℕ) (r : Reply) (h : Journal) (t : Bool) → Conducted room (at_port (got r) ∷ h) → begins r (port_log h) ≡ t → Ends (marks_of h) (banners_of h) (to_store h) (stored_of h) (ended_of h)
     → Ends (marks_of h) (banners_of (at_port (got r) ∷ h)) (to_store h) (stored_of h) (cond t (epoch_now h ∷ ended_of h) (ended_of h))
-got_ends r h true c is ends = got_begins r h c is ends
-got_ends r h false c is ends = got_stays r h c is ends
+got_ends room r h true c is ends = got_begins room r h c is ends
+got_ends room r h false c is ends = got_stays room r h c is ends
 
-ends_steady : (h : Journal) (left : List ℕ) → Conducted h → awaits_banner h ≡ false → due_of h ≡ [] → Ends (marks_of h) (banners_of h) (to_store h) (stored_of h) (ended_of h) → Ends (marks_of h) (banners_of h) left (stored_of h) (ended_of h)
-ends_steady h left c calm none (inl s) = inl s
-ends_steady h left c calm none (inr p) = pending_busy h c calm none p.0
+ends_steady : (room : ℕ) (h : Journal) (left : List ℕ) → Conducted room h → awaits_banner h ≡ false → due_of h ≡ [] → Ends (marks_of h) (banners_of h) (to_store h) (stored_of h) (ended_of h) → Ends (marks_of h) (banners_of h) left (stored_of h) (ended_of h)
+ends_steady room h left c calm none (inl s) = inl s
+ends_steady room h left c calm none (inr p) = pending_busy room h c calm none p.0
 
 ends_stored : (b : ℕ) (h : Journal) → to_store h ≡ b ∷ drop 1 (to_store h) → Ends (marks_of h) (banners_of h) (to_store h) (stored_of h) (ended_of h) → Ends (marks_of h) (banners_of h) (drop 1 (to_store h)) (stored_of h ++ b ∷ []) (ended_of h)
 ends_stored b h next (inl s) = inl s
 ends_stored b h next (inr p) = absurd (none_next (to_store h) b p.0.free next)
 
-ends_are : (h : Journal) → Conducted h → Ends (marks_of h) (banners_of h) (to_store h) (stored_of h) (ended_of h)
-ends_are [] c = inl (inl refl, tt)
-ends_are (at_port (stored b) ∷ h) c = ends_stored b h c.0.next (ends_are h c.1)
-ends_are (at_port (dropped b) ∷ h) c = absurd c.0
-ends_are (at_port marked ∷ h) c = marked_ends h c (ends_are h c.1)
-ends_are (at_port (raised b down) ∷ h) c = ends_are h c.1
-ends_are (at_port (got r) ∷ h) c = got_ends r h (begins r (port_log h)) c refl (ends_are h c.1)
-ends_are (at_port no_reply ∷ h) c = ends_are h c.1
-ends_are (at_port shut ∷ h) c = ends_are h c.1
-ends_are (read_some bytes ∷ h) c = ends_are h c.1
-ends_are (read_end ∷ h) c = ends_are h c.1
-ends_are (read_failed ∷ h) c = ends_are h c.1
-ends_are (scanned b ∷ h) c = ends_steady h (to_store (scanned b ∷ h)) c.1 c.0.epoch c.0.none_due (ends_are h c.1)
-ends_are (line_over ∷ h) c = ends_steady h (to_store (line_over ∷ h)) c.1 c.0.epoch c.0.none_due (ends_are h c.1)
-ends_are (wrote n ∷ h) c = ends_are h c.1
-ends_are (gave_up ∷ h) c = ends_are h c.1
-ends_are (turned t ∷ h) c = ends_are h c.1
+ends_are : (room : ℕ) (h : Journal) → Conducted room h → Ends (marks_of h) (banners_of h) (to_store h) (stored_of h) (ended_of h)
+ends_are room [] c = inl (inl refl, tt)
+ends_are room (at_port (stored b) ∷ h) c = ends_stored b h c.0.next (ends_are room h c.1)
+ends_are room (at_port (dropped b) ∷ h) c = absurd c.0
+ends_are room (at_port marked ∷ h) c = marked_ends room h c (ends_are room h c.1)
+ends_are room (at_port (raised b down) ∷ h) c = ends_are room h c.1
+ends_are room (at_port (got r) ∷ h) c = got_ends room r h (begins r (port_log h)) c refl (ends_are room h c.1)
+ends_are room (at_port no_reply ∷ h) c = ends_are room h c.1
+ends_are room (at_port shut ∷ h) c = ends_are room h c.1
+ends_are room (read_some bytes ∷ h) c = ends_are room h c.1
+ends_are room (read_end ∷ h) c = ends_are room h c.1
+ends_are room (read_failed ∷ h) c = ends_are room h c.1
+ends_are room (scanned b ∷ h) c = ends_steady room h (to_store (scanned b ∷ h)) c.1 c.0.epoch c.0.none_due (ends_are room h c.1)
+ends_are room (line_over ∷ h) c = ends_steady room h (to_store (line_over ∷ h)) c.1 c.0.epoch c.0.none_due (ends_are room h c.1)
+ends_are room (wrote n ∷ h) c = ends_are room h c.1
+ends_are room (gave_up ∷ h) c = ends_are room h c.1
+ends_are room (turned t ∷ h) c = ends_are room h c.1
 
 -- the marks end the epochs that are over, but for the latest where its Banner was not got yet
-pub ends_by : (h : Journal) → Conducted h → AreEnds (marks_of h) (ended_of h) ⊎ AreEnds (drop 1 (marks_of h)) (ended_of h)
-ends_by h c = elim (ends_are h c) [
+pub ends_by : (room : ℕ) (h : Journal) → Conducted room h → AreEnds (marks_of h) (ended_of h) ⊎ AreEnds (drop 1 (marks_of h)) (ended_of h)
+ends_by room h c = elim (ends_are room h c) [
   | inl s ↦ inl s.1
   | inr p ↦ inr p.1
 ]
 
-pub ends_all : (h : Journal) → Conducted h → awaits_banner h ≡ false → due_of h ≡ [] → AreEnds (marks_of h) (ended_of h)
-ends_all h c calm none = by_ends (ends_are h c)
+pub ends_all : (room : ℕ) (h : Journal) → Conducted room h → awaits_banner h ≡ false → due_of h ≡ [] → AreEnds (marks_of h) (ended_of h)
+ends_all room h c calm none = by_ends (ends_are room h c)
   where
     by_ends : Ends (marks_of h) (banners_of h) (to_store h) (stored_of h) (ended_of h) → AreEnds (marks_of h) (ended_of h)
     by_ends (inl s) = s.1
-    by_ends (inr p) = pending_busy h c calm none p.0
+    by_ends (inr p) = pending_busy room h c calm none p.0

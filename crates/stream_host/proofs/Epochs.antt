@@ -34,15 +34,7 @@ answers_last rs r = let e = sum_by-append (λ x. cond (is_answer x) 1 0) rs (r �
 
 pub no_answer : (r : Reply) → is_banner r ≡ true → is_answer r ≡ false
 no_answer replies.Banner e = refl
-no_answer replies.Ok e = absurd cc
-no_answer (replies.Error n) e = absurd cc
-no_answer (replies.Alarm n) e = absurd cc
-no_answer (replies.Message m) e = absurd cc
-no_answer (replies.Report t) e = absurd cc
-no_answer (replies.Setting n v) e = absurd cc
-no_answer (replies.Modes m) e = absurd cc
-no_answer (replies.Offset row at) e = absurd cc
-no_answer replies.Bye e = absurd cc
+no_answer _ e = absurd cc
 
 pub both_true : (a b : Bool) → (a && b) ≡ true → (a ≡ true) × (b ≡ true)
 both_true true b e = (refl, e)
@@ -54,17 +46,12 @@ begins_none r h e = no_answer r (both_true (is_banner r) (has_banner (latest_got
 
 pub answers_split : (h : HostLog) → answers_in (got_in h) ≡ earlier_in h + answers_behind_mark (latest_got h)
 answers_split [] = refl
-answers_split (stored b ∷ h) = answers_split h
-answers_split (dropped b ∷ h) = answers_split h
-answers_split (marked ∷ h) = answers_split h
-answers_split (raised b down ∷ h) = answers_split h
 answers_split (got r ∷ h) = by_test (begins r h) refl (answers_split h)
   where
     by_test : (t : Bool) → begins r h ≡ t → answers_in (got_in h) ≡ earlier_in h + answers_behind_mark (latest_got h) → answers_in (got_in h ++ r ∷ []) ≡ cond t (answers_in (got_in h)) (earlier_in h) + cond t 0 (cond (is_answer r) 1 0 + answers_behind_mark (latest_got h))
     by_test true e s = let a = answers_last (got_in h) r in let n = ap (λ t. cond {A = ℕ} t 1 0) (begins_none r h e) in omega arith
     by_test false e s = let a = answers_last (got_in h) r in omega arith
-answers_split (no_reply ∷ h) = answers_split h
-answers_split (shut ∷ h) = answers_split h
+answers_split (_ ∷ h) = answers_split h
 
 -- ---- where an epoch stands on the link
 
@@ -96,8 +83,8 @@ abbrev pub Epochal : Journal → Type 0
 Epochal h = IsEpoch (marks_of h) (banners_of h) (to_store h) (stored_of h) (live_of h) (earlier_in (port_log h)) (answers_behind_mark (latest_got (port_log h)))
 
 -- a mark that has no Banner yet has a Banner awaited, or its reset is due
-pub pending_busy : (h : Journal) {A : Type 0} → Conducted h → awaits_banner h ≡ false → due_of h ≡ [] → IsPending (marks_of h) (banners_of h) (to_store h) (stored_of h) → A
-pending_busy h c calm none p = absurd (by_marks (marks_are h c))
+pub pending_busy : (room : ℕ) (h : Journal) {A : Type 0} → Conducted room h → awaits_banner h ≡ false → due_of h ≡ [] → IsPending (marks_of h) (banners_of h) (to_store h) (stored_of h) → A
+pending_busy room h c calm none p = absurd (by_marks (marks_are room h c))
   where
     awaits : (marks resets banners : ℕ) → marks ≡ resets → 0 < marks → banners ≤ marks → (nat_lt 0 resets && nat_le banners resets) ≡ true
     awaits marks resets banners same some late = by_tests (nat_lt 0 resets) (nat_le banners resets) refl refl
@@ -112,16 +99,16 @@ pending_busy h c calm none p = absurd (by_marks (marks_are h c))
     by_marks (inr more) = absurd (let e = sym none ∙ more.1 in cc)
 
 -- nor is one stored where a Banner is awaited
-pub pending_marked : (h : Journal) {A : Type 0} → Conducted h → MayMark h → IsPending (marks_of h) (banners_of h) (to_store h) (stored_of h) → A
-pending_marked h c may p = both (awaits_banner h) (by_tests (nat_lt 0 (resets_of h)) (nat_le (banners_of h) (resets_of h)) refl refl) (fresh_calm h c may)
+pub pending_marked : (room : ℕ) (h : Journal) {A : Type 0} → Conducted room h → MayMark h → IsPending (marks_of h) (banners_of h) (to_store h) (stored_of h) → A
+pending_marked room h c may p = both (awaits_banner h) (by_tests (nat_lt 0 (resets_of h)) (nat_le (banners_of h) (resets_of h)) refl refl) (fresh_calm room h c may)
   where
     by_tests : (t u : Bool) → nat_lt 0 (resets_of h) ≡ t → nat_le (banners_of h) (resets_of h) ≡ u → (t && u) ≡ true
     by_tests true true e f = refl
     by_tests true false e f = absurd (let s = p.late in let m = may.fresh in grind (arith, nat_tests))
     by_tests false u e f = absurd (let s = p.some in let m = may.fresh in grind (arith, nat_tests))
 
-stored_epoch : (b : ℕ) (h : Journal) → MayStore b h → Epochal h → Epochal (at_port (stored b) ∷ h)
-stored_epoch b h may e = by_stands e.stands
+stored_epoch : (room : ℕ) (b : ℕ) (h : Journal) → MayStore room b h → Epochal h → Epochal (at_port (stored b) ∷ h)
+stored_epoch room b h may e = by_stands e.stands
   where
     by_stands : Stands (marks_of h) (banners_of h) (to_store h) (stored_of h) e.from → Epochal (at_port (stored b) ∷ h)
     by_stands (inr p) = absurd (none_next (to_store h) b p.0.free may.next)
@@ -138,17 +125,17 @@ stored_epoch b h may e = by_stands e.stands
           few = (let m = lfs_push (drop e.from (stored_of h)) b in let s = ap lfs_in split in let f = e.few in omega arith);
         }
 
-marked_epoch : (h : Journal) → Conducted h → MayMark h → Epochal h → Epochal (at_port marked ∷ h)
-marked_epoch h c may e = by_stands e.stands
+marked_epoch : (room : ℕ) (h : Journal) → Conducted room h → MayMark h → Epochal h → Epochal (at_port marked ∷ h)
+marked_epoch room h c may e = by_stands e.stands
   where
     free : to_store h ≡ []
-    free = free_by h 0x18 c may.next
+    free = free_by room h 0x18 c may.next
 
     by_stands : Stands (marks_of h) (banners_of h) (to_store h) (stored_of h) e.from → Epochal (at_port marked ∷ h)
-    by_stands (inr p) = pending_marked h c may p.0
+    by_stands (inr p) = pending_marked room h c may p.0
     by_stands (inl s) = record {
       from = e.from;
-      stands = inr (record { some = omega arith; late = (let l = banners_low h c in omega arith); one = by_steady s.0; free = free; at_end = refl }, s.1);
+      stands = inr (record { some = omega arith; late = (let l = banners_low room h c in omega arith); one = by_steady s.0; free = free; at_end = refl }, s.1);
       within = e.within;
       link = e.link;
       low = e.low;
@@ -159,9 +146,9 @@ marked_epoch h c may e = by_stands e.stands
         by_steady (inl none) = inr (omega arith)
         by_steady (inr all) = inl (omega arith)
 
-line_epoch : (h : Journal) → Conducted h → awaits_banner h ≡ false → due_of h ≡ [] → to_store h ≡ [] → (t : Bool) → Epochal h
+line_epoch : (room : ℕ) (h : Journal) → Conducted room h → awaits_banner h ≡ false → due_of h ≡ [] → to_store h ≡ [] → (t : Bool) → Epochal h
     → IsEpoch (marks_of h) (banners_of h) (cond t (sent_text (raw_of h) ++ 10 ∷ []) (to_store h)) (stored_of h) (cond t (live_of h ++ raw_of h ∷ []) (live_of h)) (earlier_in (port_log h)) (answers_behind_mark (latest_got (port_log h)))
-line_epoch h c calm none free t e = by_stands e.stands
+line_epoch room h c calm none free t e = by_stands e.stands
   where
     by_test : (t : Bool) → drop e.from (stored_of h) ++ cond t (sent_text (raw_of h) ++ 10 ∷ []) (to_store h) ≡ on_link (drop (earlier_in (port_log h)) (cond t (live_of h ++ raw_of h ∷ []) (live_of h)))
     by_test true =
@@ -175,7 +162,7 @@ line_epoch h c calm none free t e = by_stands e.stands
 
     by_stands : Stands (marks_of h) (banners_of h) (to_store h) (stored_of h) e.from
         → IsEpoch (marks_of h) (banners_of h) (cond t (sent_text (raw_of h) ++ 10 ∷ []) (to_store h)) (stored_of h) (cond t (live_of h ++ raw_of h ∷ []) (live_of h)) (earlier_in (port_log h)) (answers_behind_mark (latest_got (port_log h)))
-    by_stands (inr p) = pending_busy h c calm none p.0
+    by_stands (inr p) = pending_busy room h c calm none p.0
     by_stands (inl s) = record { from = e.from; stands = inl s; within = e.within; link = by_test t; low = lower t; few = e.few }
 
 -- ---- a reply
@@ -238,9 +225,9 @@ few_answers r h from lines stands =
         ]) in let f = p.1 in omega arith
 
 -- a Banner that is no epoch's beginning is the first
-stays : (r : Reply) (h : Journal) (from : ℕ) → Conducted (at_port (got r) ∷ h) → begins r (port_log h) ≡ false → Stands (marks_of h) (banners_of h) (to_store h) (stored_of h) from
+stays : (room : ℕ) (r : Reply) (h : Journal) (from : ℕ) → Conducted room (at_port (got r) ∷ h) → begins r (port_log h) ≡ false → Stands (marks_of h) (banners_of h) (to_store h) (stored_of h) from
     → Stands (marks_of h) (banners_of (at_port (got r) ∷ h)) (to_store h) (stored_of h) from
-stays r h from c none stands = by_banner (is_banner r) refl (banners_first r (latest_got (port_log h)))
+stays room r h from c none stands = by_banner (is_banner r) refl (banners_first r (latest_got (port_log h)))
   where
     first : is_banner r ≡ true → banners_of h ≡ 0
     first b = none_banner (latest_got (port_log h)) (sym (ap (λ t. t && has_banner (latest_got (port_log h))) b) ∙ none)
@@ -272,14 +259,14 @@ pub record Begins (h : Journal) : Type 0 where
   pub free : to_store h ≡ []
   pub at_end : latest (marks_of h) ≡ length (stored_of h)
 
-pub begins_at : (r : Reply) (h : Journal) (from : ℕ) → Conducted (at_port (got r) ∷ h) → begins r (port_log h) ≡ true → Stands (marks_of h) (banners_of h) (to_store h) (stored_of h) from → Begins h
-begins_at r h from c is (inl s) = absurd (by_steady s.0)
+pub begins_at : (room : ℕ) (r : Reply) (h : Journal) (from : ℕ) → Conducted room (at_port (got r) ∷ h) → begins r (port_log h) ≡ true → Stands (marks_of h) (banners_of h) (to_store h) (stored_of h) from → Begins h
+begins_at room r h from c is (inl s) = absurd (by_steady s.0)
   where
     by_steady : IsSteady (marks_of h) (banners_of h) → ⊥
     by_steady steady =
         let t = both_true (is_banner r) (has_banner (latest_got (port_log h))) is in
         let some = some_banner (latest_got (port_log h)) t.1 in
-        let low = banners_low (at_port (got r) ∷ h) c in
+        let low = banners_low room (at_port (got r) ∷ h) c in
         let f = banners_first r (latest_got (port_log h)) in let g = ap (λ x. cond {A = ℕ} x 1 0) t.0 in
         by_which some low f g steady
       where
@@ -287,7 +274,7 @@ begins_at r h from c is (inl s) = absurd (by_steady s.0)
             → IsSteady (marks_of h) (banners_of h) → ⊥
         by_which some low f g (inl none) = absurd (omega arith)
         by_which some low f g (inr all) = absurd (omega arith)
-begins_at r h from c is (inr p) =
+begins_at room r h from c is (inr p) =
     let t = both_true (is_banner r) (has_banner (latest_got (port_log h))) is in
     let some = some_banner (latest_got (port_log h)) t.1 in
     let late = p.0.late in
@@ -305,10 +292,10 @@ within_live marks banners left bytes live earlier now e =
     let f = e.few in let a = sum_by-append (λ b. cond (nat_eq b 10) 1 0) (drop e.from bytes) left in
     let l = ap lfs_in e.link in let n = lfs_linked (drop earlier live) in let d = length-drop earlier live in let w = e.low in omega arith
 
-got_epoch : (r : Reply) (h : Journal) → Conducted (at_port (got r) ∷ h) → Epochal h → (t : Bool) → begins r (port_log h) ≡ t
+got_epoch : (room : ℕ) (r : Reply) (h : Journal) → Conducted room (at_port (got r) ∷ h) → Epochal h → (t : Bool) → begins r (port_log h) ≡ t
     → IsEpoch (marks_of h) (banners_of (at_port (got r) ∷ h)) (to_store h) (stored_of h) (cond t (take (answered_of h) (live_of h)) (live_of h)) (cond t (answered_of h) (earlier_in (port_log h))) (cond t 0 (cond (is_answer r) 1 0 + answers_behind_mark (latest_got (port_log h))))
-got_epoch r h c e true is =
-    let b = begins_at r h e.from c is e.stands in
+got_epoch room r h c e true is =
+    let b = begins_at room r h e.from c is e.stands in
     let t = both_true (is_banner r) (has_banner (latest_got (port_log h))) is in
     let f = banners_first r (latest_got (port_log h)) in let g = ap (λ x. cond {A = ℕ} x 1 0) t.0 in
     let split = answers_split (port_log h) in
@@ -325,8 +312,8 @@ got_epoch r h c e true is =
       low = omega arith;
       few = omega arith;
     }
-got_epoch r h c e false is =
-    let stands = stays r h e.from c is e.stands in
+got_epoch room r h c e false is =
+    let stands = stays room r h e.from c is e.stands in
     record {
       from = e.from;
       stands = stands;
@@ -336,40 +323,40 @@ got_epoch r h c e false is =
       few = subst (λ t. cond t 0 (cond (is_answer r) 1 0 + answers_behind_mark (latest_got (port_log h))) ≤ lfs_in (drop e.from (stored_of h))) is (few_answers r h e.from c.0.lines stands);
     }
 
-pub epoch_is : (h : Journal) → Conducted h → Epochal h
-epoch_is [] c = record { from = 0; stands = inl (inl refl, refl); within = omega arith; link = refl; low = omega arith; few = omega arith }
-epoch_is (at_port (stored b) ∷ h) c = stored_epoch b h c.0 (epoch_is h c.1)
-epoch_is (at_port (dropped b) ∷ h) c = absurd c.0
-epoch_is (at_port marked ∷ h) c = marked_epoch h c.1 c.0 (epoch_is h c.1)
-epoch_is (at_port (raised b down) ∷ h) c = epoch_is h c.1
-epoch_is (at_port (got r) ∷ h) c = got_epoch r h c (epoch_is h c.1) (begins r (port_log h)) refl
-epoch_is (at_port no_reply ∷ h) c = epoch_is h c.1
-epoch_is (at_port shut ∷ h) c = epoch_is h c.1
-epoch_is (read_some bytes ∷ h) c = epoch_is h c.1
-epoch_is (read_end ∷ h) c = epoch_is h c.1
-epoch_is (read_failed ∷ h) c = epoch_is h c.1
-epoch_is (scanned b ∷ h) c = line_epoch h c.1 c.0.epoch c.0.none_due c.0.free (nat_eq b 10) (epoch_is h c.1)
-epoch_is (line_over ∷ h) c = line_epoch h c.1 c.0.epoch c.0.none_due c.0.free true (epoch_is h c.1)
-epoch_is (wrote n ∷ h) c = epoch_is h c.1
-epoch_is (gave_up ∷ h) c = epoch_is h c.1
-epoch_is (turned t ∷ h) c = epoch_is h c.1
+pub epoch_is : (room : ℕ) (h : Journal) → Conducted room h → Epochal h
+epoch_is room [] c = record { from = 0; stands = inl (inl refl, refl); within = omega arith; link = refl; low = omega arith; few = omega arith }
+epoch_is room (at_port (stored b) ∷ h) c = stored_epoch room b h c.0 (epoch_is room h c.1)
+epoch_is room (at_port (dropped b) ∷ h) c = absurd c.0
+epoch_is room (at_port marked ∷ h) c = marked_epoch room h c.1 c.0 (epoch_is room h c.1)
+epoch_is room (at_port (raised b down) ∷ h) c = epoch_is room h c.1
+epoch_is room (at_port (got r) ∷ h) c = got_epoch room r h c (epoch_is room h c.1) (begins r (port_log h)) refl
+epoch_is room (at_port no_reply ∷ h) c = epoch_is room h c.1
+epoch_is room (at_port shut ∷ h) c = epoch_is room h c.1
+epoch_is room (read_some bytes ∷ h) c = epoch_is room h c.1
+epoch_is room (read_end ∷ h) c = epoch_is room h c.1
+epoch_is room (read_failed ∷ h) c = epoch_is room h c.1
+epoch_is room (scanned b ∷ h) c = line_epoch room h c.1 c.0.epoch c.0.none_due c.0.free (nat_eq b 10) (epoch_is room h c.1)
+epoch_is room (line_over ∷ h) c = line_epoch room h c.1 c.0.epoch c.0.none_due c.0.free true (epoch_is room h c.1)
+epoch_is room (wrote n ∷ h) c = epoch_is room h c.1
+epoch_is room (gave_up ∷ h) c = epoch_is room h c.1
+epoch_is room (turned t ∷ h) c = epoch_is room h c.1
 
 -- ---- what follows
 
 -- no more lines are answered than live
-pub answered_live : (h : Journal) → Conducted h → answered_of h ≤ length (live_of h)
-answered_live h c = let s = answers_split (port_log h) in let w = within_live _ _ _ _ _ _ _ (epoch_is h c) in omega arith
+pub answered_live : (room : ℕ) (h : Journal) → Conducted room h → answered_of h ≤ length (live_of h)
+answered_live room h c = let s = answers_split (port_log h) in let w = within_live _ _ _ _ _ _ _ (epoch_is room h c) in omega arith
 
 -- where an epoch begins, nothing is to be stored
-pub begins_free : (r : Reply) (h : Journal) → Conducted (at_port (got r) ∷ h) → begins r (port_log h) ≡ true → to_store h ≡ []
-begins_free r h c is = let e = epoch_is h c.1 in (begins_at r h e.from c is e.stands).free
+pub begins_free : (room : ℕ) (r : Reply) (h : Journal) → Conducted room (at_port (got r) ∷ h) → begins r (port_log h) ≡ true → to_store h ≡ []
+begins_free room r h c is = let e = epoch_is room h c.1 in (begins_at room r h e.from c is e.stands).free
 
 -- where a byte may be stored, the link is not full: no byte is dropped
-pub room_is : (b : ℕ) (h : Journal) → Conducted h → MayStore b h → SeemsFull (port_log h) → ⊥
-room_is b h c may full = by_stands (epoch_is h c).stands
+pub room_is : (room : ℕ) (b : ℕ) (h : Journal) → Conducted room h → MayStore room b h → SeemsFull room (port_log h) → ⊥
+room_is room b h c may full = by_stands (epoch_is room h c).stands
   where
     e : Epochal h
-    e = epoch_is h c
+    e = epoch_is room h c
 
     now : ℕ
     now = answers_behind_mark (latest_got (port_log h))
@@ -387,45 +374,45 @@ room_is b h c may full = by_stands (epoch_is h c).stands
         ∙ behind_on (drop (earlier_in (port_log h)) (live_of h)) ∙ ap on_link (drop-drop now (earlier_in (port_log h)) (live_of h))
         ∙ ap (λ n. on_link (drop n (live_of h))) (sym (answers_split (port_log h))) in
         let l = ap length link in let a = length-append (behind_lf now (drop e.from (stored_of h))) (to_store h) in
-        let f = full.full in let g = ap (λ (x : List ℕ). length (behind_lf now x)) same in let r = may.room in let n = ap length may.next in
+        let f = full.full in let g = ap (λ (x : List ℕ). length (behind_lf now x)) same in let r = may.few in let n = ap length may.next in
         absurd (omega arith)
       where
         behind_on : (lines : List (List ℕ)) → behind_lf now (on_link lines) ≡ on_link (drop now lines)
         behind_on lines = behind_ended now (map sent_text lines) (all_no_lf lines) ∙ ap ended (drop-map sent_text now lines)
 
 -- each line lives or is forgotten
-pub all_lines : (h : Journal) → Conducted h → length (cut_of h) ≡ length (live_of h) + forgotten_of h
-all_lines [] c = refl
-all_lines (at_port (stored b) ∷ h) c = all_lines h c.1
-all_lines (at_port (dropped b) ∷ h) c = absurd c.0
-all_lines (at_port marked ∷ h) c = all_lines h c.1
-all_lines (at_port (raised b down) ∷ h) c = all_lines h c.1
-all_lines (at_port (got r) ∷ h) c = by_test (begins r (port_log h)) (all_lines h c.1)
+pub all_lines : (room : ℕ) (h : Journal) → Conducted room h → length (cut_of h) ≡ length (live_of h) + forgotten_of h
+all_lines room [] c = refl
+all_lines room (at_port (stored b) ∷ h) c = all_lines room h c.1
+all_lines room (at_port (dropped b) ∷ h) c = absurd c.0
+all_lines room (at_port marked ∷ h) c = all_lines room h c.1
+all_lines room (at_port (raised b down) ∷ h) c = all_lines room h c.1
+all_lines room (at_port (got r) ∷ h) c = by_test (begins r (port_log h)) (all_lines room h c.1)
   where
     by_test : (t : Bool) → length (cut_of h) ≡ length (live_of h) + forgotten_of h → length (cut_of h) ≡ length (cond t (take (answered_of h) (live_of h)) (live_of h)) + cond t (forgotten_of h + length (unanswered_of h)) (forgotten_of h)
     by_test true m =
-        let l = length-take (answered_of h) (live_of h) in let d = length-drop (answered_of h) (live_of h) in let f = answered_live h c.1 in omega arith
+        let l = length-take (answered_of h) (live_of h) in let d = length-drop (answered_of h) (live_of h) in let f = answered_live room h c.1 in omega arith
     by_test false m = m
-all_lines (at_port no_reply ∷ h) c = all_lines h c.1
-all_lines (at_port shut ∷ h) c = all_lines h c.1
-all_lines (read_some bytes ∷ h) c = all_lines h c.1
-all_lines (read_end ∷ h) c = all_lines h c.1
-all_lines (read_failed ∷ h) c = all_lines h c.1
-all_lines (scanned b ∷ h) c = by_test (nat_eq b 10) (all_lines h c.1)
+all_lines room (at_port no_reply ∷ h) c = all_lines room h c.1
+all_lines room (at_port shut ∷ h) c = all_lines room h c.1
+all_lines room (read_some bytes ∷ h) c = all_lines room h c.1
+all_lines room (read_end ∷ h) c = all_lines room h c.1
+all_lines room (read_failed ∷ h) c = all_lines room h c.1
+all_lines room (scanned b ∷ h) c = by_test (nat_eq b 10) (all_lines room h c.1)
   where
     by_test : (t : Bool) → length (cut_of h) ≡ length (live_of h) + forgotten_of h → length (cond t (cut_of h ++ raw_of h ∷ []) (cut_of h)) ≡ length (cond t (live_of h ++ raw_of h ∷ []) (live_of h)) + forgotten_of h
     by_test true m = let a = length-append (cut_of h) (raw_of h ∷ []) in let b = length-append (live_of h) (raw_of h ∷ []) in omega arith
     by_test false m = m
-all_lines (line_over ∷ h) c = let m = all_lines h c.1 in let a = length-append (cut_of h) (raw_of h ∷ []) in let b = length-append (live_of h) (raw_of h ∷ []) in omega arith
-all_lines (wrote n ∷ h) c = all_lines h c.1
-all_lines (gave_up ∷ h) c = all_lines h c.1
-all_lines (turned t ∷ h) c = all_lines h c.1
+all_lines room (line_over ∷ h) c = let m = all_lines room h c.1 in let a = length-append (cut_of h) (raw_of h ∷ []) in let b = length-append (live_of h) (raw_of h ∷ []) in omega arith
+all_lines room (wrote n ∷ h) c = all_lines room h c.1
+all_lines room (gave_up ∷ h) c = all_lines room h c.1
+all_lines room (turned t ∷ h) c = all_lines room h c.1
 
 -- ---- the borders
 
 -- where nothing is to be stored, all lines are stored whole
-pub whole_by : (h : Journal) → Conducted h → to_store h ≡ [] → stored_of h ≡ on_link (cut_of h)
-whole_by h c free = sym (append-nil (stored_of h)) ∙ ap (λ (t : List ℕ). stored_of h ++ t) (sym free) ∙ stored_is h c
+pub whole_by : (room : ℕ) (h : Journal) → Conducted room h → to_store h ≡ [] → stored_of h ≡ on_link (cut_of h)
+whole_by room h c free = sym (append-nil (stored_of h)) ∙ ap (λ (t : List ℕ). stored_of h ++ t) (sym free) ∙ stored_is room h c
 
 borders_on : (marks : List ℕ) (lines : List (List ℕ)) (raw : List ℕ) → AreBorders marks lines → AreBorders marks (lines ++ raw ∷ [])
 borders_on [] lines raw are = tt
@@ -437,39 +424,39 @@ borders_by : (marks : List ℕ) (lines : List (List ℕ)) (raw : List ℕ) (t : 
 borders_by marks lines raw true are = borders_on marks lines raw are
 borders_by marks lines raw false are = are
 
-pub borders_are : (h : Journal) → Conducted h → AreBorders (marks_of h) (cut_of h)
-borders_are [] c = tt
-borders_are (at_port (stored b) ∷ h) c = borders_are h c.1
-borders_are (at_port (dropped b) ∷ h) c = absurd c.0
-borders_are (at_port marked ∷ h) c =
-    let whole = whole_by h c.1 (free_by h 0x18 c.1 c.0.next) in
-    ((length (cut_of h), omega arith, ap length whole ∙ ap (λ (ls : List (List ℕ)). length (on_link ls)) (sym (take_all (length (cut_of h)) (cut_of h) (omega arith)))), borders_are h c.1)
-borders_are (at_port (raised b down) ∷ h) c = borders_are h c.1
-borders_are (at_port (got r) ∷ h) c = borders_are h c.1
-borders_are (at_port no_reply ∷ h) c = borders_are h c.1
-borders_are (at_port shut ∷ h) c = borders_are h c.1
-borders_are (read_some bytes ∷ h) c = borders_are h c.1
-borders_are (read_end ∷ h) c = borders_are h c.1
-borders_are (read_failed ∷ h) c = borders_are h c.1
-borders_are (scanned b ∷ h) c = borders_by (marks_of h) (cut_of h) (raw_of h) (nat_eq b 10) (borders_are h c.1)
-borders_are (line_over ∷ h) c = borders_on (marks_of h) (cut_of h) (raw_of h) (borders_are h c.1)
-borders_are (wrote n ∷ h) c = borders_are h c.1
-borders_are (gave_up ∷ h) c = borders_are h c.1
-borders_are (turned t ∷ h) c = borders_are h c.1
+pub borders_are : (room : ℕ) (h : Journal) → Conducted room h → AreBorders (marks_of h) (cut_of h)
+borders_are room [] c = tt
+borders_are room (at_port (stored b) ∷ h) c = borders_are room h c.1
+borders_are room (at_port (dropped b) ∷ h) c = absurd c.0
+borders_are room (at_port marked ∷ h) c =
+    let whole = whole_by room h c.1 (free_by room h 0x18 c.1 c.0.next) in
+    ((length (cut_of h), omega arith, ap length whole ∙ ap (λ (ls : List (List ℕ)). length (on_link ls)) (sym (take_all (length (cut_of h)) (cut_of h) (omega arith)))), borders_are room h c.1)
+borders_are room (at_port (raised b down) ∷ h) c = borders_are room h c.1
+borders_are room (at_port (got r) ∷ h) c = borders_are room h c.1
+borders_are room (at_port no_reply ∷ h) c = borders_are room h c.1
+borders_are room (at_port shut ∷ h) c = borders_are room h c.1
+borders_are room (read_some bytes ∷ h) c = borders_are room h c.1
+borders_are room (read_end ∷ h) c = borders_are room h c.1
+borders_are room (read_failed ∷ h) c = borders_are room h c.1
+borders_are room (scanned b ∷ h) c = borders_by (marks_of h) (cut_of h) (raw_of h) (nat_eq b 10) (borders_are room h c.1)
+borders_are room (line_over ∷ h) c = borders_on (marks_of h) (cut_of h) (raw_of h) (borders_are room h c.1)
+borders_are room (wrote n ∷ h) c = borders_are room h c.1
+borders_are room (gave_up ∷ h) c = borders_are room h c.1
+borders_are room (turned t ∷ h) c = borders_are room h c.1
 
-pub whole_at_mark : (h : Journal) → Conducted (at_port marked ∷ h) → stored_of h ≡ on_link (cut_of h)
-whole_at_mark h c = whole_by h c.1 (free_by h 0x18 c.1 c.0.next)
+pub whole_at_mark : (room : ℕ) (h : Journal) → Conducted room (at_port marked ∷ h) → stored_of h ≡ on_link (cut_of h)
+whole_at_mark room h c = whole_by room h c.1 (free_by room h 0x18 c.1 c.0.next)
 
 -- a reset is raised behind its own mark, the latest
-pub behind_own : (b : ℕ) (down : Bool) (h : Journal) → is_reset b ≡ true → Conducted (at_port (raised b down) ∷ h) → length (marks_of h) ≡ resets_of h + 1
-behind_own b down h reset c = by_marks (marks_are h c.1)
+pub behind_own : (room : ℕ) (b : ℕ) (down : Bool) (h : Journal) → is_reset b ≡ true → Conducted room (at_port (raised b down) ∷ h) → length (marks_of h) ≡ resets_of h + 1
+behind_own room b down h reset c = by_marks (marks_are room h c.1)
   where
     by_marks : IsMarked (length (marks_of h)) (resets_of h) (due_of h) → length (marks_of h) ≡ resets_of h + 1
     by_marks (inl same) = absurd (let m = c.0.behind_mark reset in omega arith)
     by_marks (inr more) = more.0
 
-pub marks_between : (h : Journal) → Conducted h → (resets_of h ≤ length (marks_of h)) × (length (marks_of h) ≤ resets_of h + 1)
-marks_between h c = by_marks (marks_are h c)
+pub marks_between : (room : ℕ) (h : Journal) → Conducted room h → (resets_of h ≤ length (marks_of h)) × (length (marks_of h) ≤ resets_of h + 1)
+marks_between room h c = by_marks (marks_are room h c)
   where
     by_marks : IsMarked (length (marks_of h)) (resets_of h) (due_of h) → (resets_of h ≤ length (marks_of h)) × (length (marks_of h) ≤ resets_of h + 1)
     by_marks (inl same) = ((omega arith), (omega arith))

@@ -1,4 +1,5 @@
 -- A whole run of a host over a job of two lines, the last without LF: the rules allow it.
+use Rattle.status_report.specs.Answering.{receive_room}
 use Rattle.std.proofs.Common.{inl, inr, ◌-◌, [], ◌∷◌, length, refl, arith}
 use Rattle.gcode_words.specs.Comments.{cut_within}
 use Rattle.outside.specs.declared.Turn.TheVariants.{Did, Done}
@@ -13,222 +14,131 @@ use Rattle.stream_host.specs.Conduct.{Conducted}
 abbrev j0 : Journal
 j0 = []
 
-c0 : Conducted j0
+c0 : Conducted receive_room j0
 c0 = tt
 
 abbrev j1 : Journal
-j1 = at_port (got Banner) ∷ j0
+j1 = turned Did ∷ at_port (got Banner) ∷ j0
 
-c1 : Conducted j1
+c1 : Conducted receive_room j1
 unfolding cut_within reply_text
-c1 = (record { poll = record { going = refl; rested = omega arith }; lines = record { greeted = start ∷ []; are = record { each = refl; stored = (refl, tt) }; few = omega arith } }, c0)
+c1 = (record { once = omega arith; polls = omega arith }, (record { poll = record { going = refl; rested = omega arith }; lines = record { greeted = start ∷ []; are = record { each = refl; stored = (refl, tt) }; few = omega arith } }, c0))
 
 abbrev j2 : Journal
-j2 = turned Did ∷ j1
+j2 = turned Did ∷ wrote (length (text_of j1)) ∷ j1
 
-c2 : Conducted j2
+c2 : Conducted receive_room j2
 unfolding cut_within reply_text
-c2 = (record { once = omega arith; polls = omega arith }, c1)
+c2 = (record { once = omega arith; polls = omega arith }, (record { going = refl; some = omega arith; front = omega arith }, c1))
 
 abbrev j3 : Journal
-j3 = wrote (length (text_of j2)) ∷ j2
+j3 = turned Did ∷ read_some (10 ∷ 88 ∷ []) ∷ j2
 
-c3 : Conducted j3
+c3 : Conducted receive_room j3
 unfolding cut_within reply_text
-c3 = (record { going = refl; some = omega arith; front = omega arith }, c2)
+c3 = (record { once = omega arith; polls = omega arith }, ((record { going = refl; calm = refl; epoch = refl; on = refl; sends = refl; used = refl; free = refl; none_due = refl; settled = record { greeted = inl refl; reported = refl; answered = inl refl }; shown = inr (omega arith) }, (omega arith), (omega arith)), c2))
 
 abbrev j4 : Journal
-j4 = turned Did ∷ j3
+j4 = scanned 10 ∷ j3
 
-c4 : Conducted j4
+c4 : Conducted receive_room j4
 unfolding cut_within reply_text
-c4 = (record { once = omega arith; polls = omega arith }, c3)
+c4 = (record { going = refl; calm = refl; epoch = refl; next = refl; few = omega arith; sends = refl; free = refl; none_due = refl }, c3)
 
 abbrev j5 : Journal
-j5 = read_some (10 ∷ 88 ∷ []) ∷ j4
+j5 = turned Did ∷ at_port (stored 10) ∷ j4
 
-c5 : Conducted j5
+c5 : Conducted receive_room j5
 unfolding cut_within reply_text
-c5 = ((record { going = refl; calm = refl; epoch = refl; on = refl; sends = refl; used = refl; free = refl; none_due = refl; settled = record { greeted = inl refl; reported = refl; answered = inl refl }; shown = inr (omega arith) }, (omega arith), (omega arith)), c4)
+c5 = (record { once = omega arith; polls = omega arith }, (record { calm = refl; epoch = refl; next = refl; reported = refl; few = omega arith }, c4))
 
 abbrev j6 : Journal
-j6 = turned Did ∷ j5
+j6 = turned Did ∷ scanned 88 ∷ j5
 
-c6 : Conducted j6
+c6 : Conducted receive_room j6
 unfolding cut_within reply_text
-c6 = (record { once = omega arith; polls = omega arith }, c5)
+c6 = (record { once = omega arith; polls = omega arith }, (record { going = refl; calm = refl; epoch = refl; next = refl; few = omega arith; sends = refl; free = refl; none_due = refl }, c5))
 
 abbrev j7 : Journal
-j7 = scanned 10 ∷ j6
+j7 = turned Did ∷ at_port (got Ok) ∷ j6
 
-c7 : Conducted j7
+c7 : Conducted receive_room j7
 unfolding cut_within reply_text
-c7 = (record { going = refl; calm = refl; epoch = refl; next = refl; few = omega arith; sends = refl; free = refl; none_due = refl }, c6)
+c7 = (record { once = omega arith; polls = omega arith }, (record { poll = record { going = refl; rested = omega arith }; lines = record { greeted = start ∷ []; are = record { each = refl; stored = (refl, tt) }; few = omega arith } }, c6))
 
 abbrev j8 : Journal
-j8 = at_port (stored 10) ∷ j7
+j8 = turned Did ∷ wrote (length (text_of j7) - length (text_of j1)) ∷ j7
 
-c8 : Conducted j8
+c8 : Conducted receive_room j8
 unfolding cut_within reply_text
-c8 = (record { calm = refl; epoch = refl; next = refl; reported = refl; room = omega arith }, c7)
+c8 = (record { once = omega arith; polls = omega arith }, (record { going = refl; some = omega arith; front = omega arith }, c7))
 
 abbrev j9 : Journal
-j9 = turned Did ∷ j8
+j9 = read_end ∷ j8
 
-c9 : Conducted j9
+c9 : Conducted receive_room j9
 unfolding cut_within reply_text
-c9 = (record { once = omega arith; polls = omega arith }, c8)
+c9 = (record { going = refl; calm = refl; epoch = refl; on = refl; sends = refl; used = refl; free = refl; none_due = refl; settled = record { greeted = inl refl; reported = refl; answered = inl refl }; shown = inr (omega arith) }, c8)
 
 abbrev j10 : Journal
-j10 = scanned 88 ∷ j9
+j10 = line_over ∷ j9
 
-c10 : Conducted j10
+c10 : Conducted receive_room j10
 unfolding cut_within reply_text
-c10 = (record { going = refl; calm = refl; epoch = refl; next = refl; few = omega arith; sends = refl; free = refl; none_due = refl }, c9)
+c10 = (record { going = refl; calm = refl; epoch = refl; at_end = refl; used = refl; some = omega arith; sends = refl; free = refl; none_due = refl }, c9)
 
 abbrev j11 : Journal
-j11 = turned Did ∷ j10
+j11 = turned Did ∷ at_port (stored 88) ∷ j10
 
-c11 : Conducted j11
+c11 : Conducted receive_room j11
 unfolding cut_within reply_text
-c11 = (record { once = omega arith; polls = omega arith }, c10)
+c11 = (record { once = omega arith; polls = omega arith }, (record { calm = refl; epoch = refl; next = refl; reported = refl; few = omega arith }, c10))
 
 abbrev j12 : Journal
-j12 = at_port (got Ok) ∷ j11
+j12 = at_port no_reply ∷ j11
 
-c12 : Conducted j12
+c12 : Conducted receive_room j12
 unfolding cut_within reply_text
-c12 = (record { poll = record { going = refl; rested = omega arith }; lines = record { greeted = start ∷ []; are = record { each = refl; stored = (refl, tt) }; few = omega arith } }, c11)
+c12 = (record { going = refl; rested = omega arith }, c11)
 
 abbrev j13 : Journal
-j13 = turned Did ∷ j12
+j13 = turned Did ∷ at_port (stored 10) ∷ j12
 
-c13 : Conducted j13
+c13 : Conducted receive_room j13
 unfolding cut_within reply_text
-c13 = (record { once = omega arith; polls = omega arith }, c12)
+c13 = (record { once = omega arith; polls = omega arith }, (record { calm = refl; epoch = refl; next = refl; reported = refl; few = omega arith }, c12))
 
 abbrev j14 : Journal
-j14 = wrote (length (text_of j13) - length (text_of j2)) ∷ j13
+j14 = turned Did ∷ at_port shut ∷ j13
 
-c14 : Conducted j14
+c14 : Conducted receive_room j14
 unfolding cut_within reply_text
-c14 = (record { going = refl; some = omega arith; front = omega arith }, c13)
+c14 = (record { once = omega arith; polls = omega arith }, (record { going = refl; epoch = refl; sent = inr (record { free = refl; all = inr (refl, refl) }); all_raised = inr refl }, c13))
 
 abbrev j15 : Journal
-j15 = turned Did ∷ j14
+j15 = turned Did ∷ at_port (got Ok) ∷ j14
 
-c15 : Conducted j15
+c15 : Conducted receive_room j15
 unfolding cut_within reply_text
-c15 = (record { once = omega arith; polls = omega arith }, c14)
+c15 = (record { once = omega arith; polls = omega arith }, (record { poll = record { going = refl; rested = omega arith }; lines = record { greeted = start ∷ []; are = record { each = refl; stored = (refl, tt) }; few = omega arith } }, c14))
 
 abbrev j16 : Journal
-j16 = read_end ∷ j15
+j16 = turned Did ∷ at_port (got Bye) ∷ j15
 
-c16 : Conducted j16
+c16 : Conducted receive_room j16
 unfolding cut_within reply_text
-c16 = (record { going = refl; calm = refl; epoch = refl; on = refl; sends = refl; used = refl; free = refl; none_due = refl; settled = record { greeted = inl refl; reported = refl; answered = inl refl }; shown = inr (omega arith) }, c15)
+c16 = (record { once = omega arith; polls = omega arith }, (record { poll = record { going = refl; rested = omega arith }; lines = record { greeted = start ∷ []; are = record { each = refl; stored = (refl, tt) }; few = omega arith } }, c15))
 
 abbrev j17 : Journal
-j17 = line_over ∷ j16
+j17 = turned Did ∷ wrote (length (text_of j16) - length (text_of j7)) ∷ j16
 
-c17 : Conducted j17
+c17 : Conducted receive_room j17
 unfolding cut_within reply_text
-c17 = (record { going = refl; calm = refl; epoch = refl; at_end = refl; used = refl; some = omega arith; sends = refl; free = refl; none_due = refl }, c16)
+c17 = (record { once = omega arith; polls = omega arith }, (record { going = refl; some = omega arith; front = omega arith }, c16))
 
 abbrev j18 : Journal
-j18 = at_port (stored 88) ∷ j17
+j18 = turned Done ∷ j17
 
-c18 : Conducted j18
+c18 : Conducted receive_room j18
 unfolding cut_within reply_text
-c18 = (record { calm = refl; epoch = refl; next = refl; reported = refl; room = omega arith }, c17)
-
-abbrev j19 : Journal
-j19 = turned Did ∷ j18
-
-c19 : Conducted j19
-unfolding cut_within reply_text
-c19 = (record { once = omega arith; polls = omega arith }, c18)
-
-abbrev j20 : Journal
-j20 = at_port no_reply ∷ j19
-
-c20 : Conducted j20
-unfolding cut_within reply_text
-c20 = (record { going = refl; rested = omega arith }, c19)
-
-abbrev j21 : Journal
-j21 = at_port (stored 10) ∷ j20
-
-c21 : Conducted j21
-unfolding cut_within reply_text
-c21 = (record { calm = refl; epoch = refl; next = refl; reported = refl; room = omega arith }, c20)
-
-abbrev j22 : Journal
-j22 = turned Did ∷ j21
-
-c22 : Conducted j22
-unfolding cut_within reply_text
-c22 = (record { once = omega arith; polls = omega arith }, c21)
-
-abbrev j23 : Journal
-j23 = at_port shut ∷ j22
-
-c23 : Conducted j23
-unfolding cut_within reply_text
-c23 = (record { going = refl; epoch = refl; sent = inr (record { free = refl; all = inr (refl, refl) }); all_raised = inr refl }, c22)
-
-abbrev j24 : Journal
-j24 = turned Did ∷ j23
-
-c24 : Conducted j24
-unfolding cut_within reply_text
-c24 = (record { once = omega arith; polls = omega arith }, c23)
-
-abbrev j25 : Journal
-j25 = at_port (got Ok) ∷ j24
-
-c25 : Conducted j25
-unfolding cut_within reply_text
-c25 = (record { poll = record { going = refl; rested = omega arith }; lines = record { greeted = start ∷ []; are = record { each = refl; stored = (refl, tt) }; few = omega arith } }, c24)
-
-abbrev j26 : Journal
-j26 = turned Did ∷ j25
-
-c26 : Conducted j26
-unfolding cut_within reply_text
-c26 = (record { once = omega arith; polls = omega arith }, c25)
-
-abbrev j27 : Journal
-j27 = at_port (got Bye) ∷ j26
-
-c27 : Conducted j27
-unfolding cut_within reply_text
-c27 = (record { poll = record { going = refl; rested = omega arith }; lines = record { greeted = start ∷ []; are = record { each = refl; stored = (refl, tt) }; few = omega arith } }, c26)
-
-abbrev j28 : Journal
-j28 = turned Did ∷ j27
-
-c28 : Conducted j28
-unfolding cut_within reply_text
-c28 = (record { once = omega arith; polls = omega arith }, c27)
-
-abbrev j29 : Journal
-j29 = wrote (length (text_of j28) - length (text_of j13)) ∷ j28
-
-c29 : Conducted j29
-unfolding cut_within reply_text
-c29 = (record { going = refl; some = omega arith; front = omega arith }, c28)
-
-abbrev j30 : Journal
-j30 = turned Did ∷ j29
-
-c30 : Conducted j30
-unfolding cut_within reply_text
-c30 = (record { once = omega arith; polls = omega arith }, c29)
-
-abbrev j31 : Journal
-j31 = turned Done ∷ j30
-
-c31 : Conducted j31
-unfolding cut_within reply_text
-c31 = (record { bye = refl; written = inr (omega arith); still = refl }, c30)
+c18 = (record { bye = refl; written = inr (omega arith); still = refl }, c17)

@@ -97,14 +97,14 @@ in_order marks greeted few first =
 
 -- ---- through a journal
 
-few_marks : (h : Journal) → Conducted h → LacksOne (marks_of h) (banners_of h)
-few_marks h c = by_stands (epoch_is h c).stands
+few_marks : (room : ℕ) (h : Journal) → Conducted room h → LacksOne (marks_of h) (banners_of h)
+few_marks room h c = by_stands (epoch_is room h c).stands
   where
     by_count : length (marks_of h) ≤ 1 → (banners : ℕ) → banners_of h ≡ banners → LacksOne (marks_of h) (banners_of h)
     by_count few zero is = inr (is, few)
     by_count few (suc n) is = inl (omega arith)
 
-    by_stands : Stands (marks_of h) (banners_of h) (to_store h) (stored_of h) (epoch_is h c).from → LacksOne (marks_of h) (banners_of h)
+    by_stands : Stands (marks_of h) (banners_of h) (to_store h) (stored_of h) (epoch_is room h c).from → LacksOne (marks_of h) (banners_of h)
     by_stands (inl (inl none, at)) = inl (omega arith)
     by_stands (inl (inr all, at)) = inl (omega arith)
     by_stands (inr (p, at)) = elim p.one [
@@ -115,10 +115,6 @@ few_marks h c = by_stands (epoch_is h c).stands
 banners_counted : (h : HostLog) (greeted : List Mark) → AreGreetings (marks_at_banners h) greeted → length greeted ≡ banners_in (latest_got h)
 banners_counted [] [] are = refl
 banners_counted [] (m ∷ earlier) are = absurd are
-banners_counted (stored b ∷ h) greeted are = banners_counted h greeted are
-banners_counted (dropped b ∷ h) greeted are = banners_counted h greeted are
-banners_counted (marked ∷ h) greeted are = banners_counted h greeted are
-banners_counted (raised b down ∷ h) greeted are = banners_counted h greeted are
 banners_counted (got r ∷ h) greeted are = let f = banners_first r (latest_got h) in let n = by_banner (is_banner r) greeted (banners_counted h) are in omega arith
   where
     by_banner : (t : Bool) (all : List Mark) → ((some : List Mark) → AreGreetings (marks_at_banners h) some → length some ≡ banners_in (latest_got h))
@@ -126,53 +122,52 @@ banners_counted (got r ∷ h) greeted are = let f = banners_first r (latest_got 
     by_banner true [] before are = absurd are
     by_banner true (m ∷ earlier) before are = let n = before earlier are.1 in omega arith
     by_banner false all before are = let n = before all are in omega arith
-banners_counted (no_reply ∷ h) greeted are = banners_counted h greeted are
-banners_counted (shut ∷ h) greeted are = banners_counted h greeted are
+banners_counted (_ ∷ h) greeted are = banners_counted h greeted are
 
-got_first : (h : Journal) → Conducted h → ((some : List Mark) → AreGreetings (marks_at_banners (port_log h)) some → AreFirst (marks_of h) some) → (t : Bool) (all : List Mark)
+got_first : (room : ℕ) (h : Journal) → Conducted room h → ((some : List Mark) → AreGreetings (marks_at_banners (port_log h)) some → AreFirst (marks_of h) some) → (t : Bool) (all : List Mark)
     → AreGreetings (cond t (marks_of h ∷ marks_at_banners (port_log h)) (marks_at_banners (port_log h))) all → AreFirst (marks_of h) all
-got_first h c before true [] are = absurd are
-got_first h c before true (m ∷ earlier) are =
+got_first room h c before true [] are = absurd are
+got_first room h c before true (m ∷ earlier) are =
     let n = banners_counted (port_log h) earlier are.1 in
-    next_first (marks_of h) earlier m (before earlier are.1) (λ some. elim (few_marks h c) [
+    next_first (marks_of h) earlier m (before earlier are.1) (λ some. elim (few_marks room h c) [
       | inl few ↦ omega arith
       | inr none ↦ absurd (let z = none.0 in omega arith)
     ]) are.0
-got_first h c before false all are = before all are
+got_first room h c before false all are = before all are
 
-marks_first : (h : Journal) → Conducted h → (greeted : List Mark) → AreGreetings (marks_at_banners (port_log h)) greeted → AreFirst (marks_of h) greeted
-marks_first [] c [] are = (start ∷ [], refl)
-marks_first [] c (m ∷ earlier) are = absurd are
-marks_first (at_port (stored b) ∷ h) c greeted are = marks_first h c.1 greeted are
-marks_first (at_port (dropped b) ∷ h) c greeted are = absurd c.0
-marks_first (at_port marked ∷ h) c greeted are =
-    let f = marks_first h c.1 greeted are in let m : Mark = (length (marks_of h) + 1, length (stored_of h)) in (m ∷ f.0, ap (λ (ms : List Mark). m ∷ ms) f.1)
-marks_first (at_port (raised b down) ∷ h) c greeted are = marks_first h c.1 greeted are
-marks_first (at_port (got r) ∷ h) c greeted are = got_first h c.1 (marks_first h c.1) (is_banner r) greeted are
-marks_first (at_port no_reply ∷ h) c greeted are = marks_first h c.1 greeted are
-marks_first (at_port shut ∷ h) c greeted are = marks_first h c.1 greeted are
-marks_first (read_some bytes ∷ h) c greeted are = marks_first h c.1 greeted are
-marks_first (read_end ∷ h) c greeted are = marks_first h c.1 greeted are
-marks_first (read_failed ∷ h) c greeted are = marks_first h c.1 greeted are
-marks_first (scanned b ∷ h) c greeted are = marks_first h c.1 greeted are
-marks_first (line_over ∷ h) c greeted are = marks_first h c.1 greeted are
-marks_first (wrote n ∷ h) c greeted are = marks_first h c.1 greeted are
-marks_first (gave_up ∷ h) c greeted are = marks_first h c.1 greeted are
-marks_first (turned t ∷ h) c greeted are = marks_first h c.1 greeted are
+marks_first : (room : ℕ) (h : Journal) → Conducted room h → (greeted : List Mark) → AreGreetings (marks_at_banners (port_log h)) greeted → AreFirst (marks_of h) greeted
+marks_first room [] c [] are = (start ∷ [], refl)
+marks_first room [] c (m ∷ earlier) are = absurd are
+marks_first room (at_port (stored b) ∷ h) c greeted are = marks_first room h c.1 greeted are
+marks_first room (at_port (dropped b) ∷ h) c greeted are = absurd c.0
+marks_first room (at_port marked ∷ h) c greeted are =
+    let f = marks_first room h c.1 greeted are in let m : Mark = (length (marks_of h) + 1, length (stored_of h)) in (m ∷ f.0, ap (λ (ms : List Mark). m ∷ ms) f.1)
+marks_first room (at_port (raised b down) ∷ h) c greeted are = marks_first room h c.1 greeted are
+marks_first room (at_port (got r) ∷ h) c greeted are = got_first room h c.1 (marks_first room h c.1) (is_banner r) greeted are
+marks_first room (at_port no_reply ∷ h) c greeted are = marks_first room h c.1 greeted are
+marks_first room (at_port shut ∷ h) c greeted are = marks_first room h c.1 greeted are
+marks_first room (read_some bytes ∷ h) c greeted are = marks_first room h c.1 greeted are
+marks_first room (read_end ∷ h) c greeted are = marks_first room h c.1 greeted are
+marks_first room (read_failed ∷ h) c greeted are = marks_first room h c.1 greeted are
+marks_first room (scanned b ∷ h) c greeted are = marks_first room h c.1 greeted are
+marks_first room (line_over ∷ h) c greeted are = marks_first room h c.1 greeted are
+marks_first room (wrote n ∷ h) c greeted are = marks_first room h c.1 greeted are
+marks_first room (gave_up ∷ h) c greeted are = marks_first room h c.1 greeted are
+marks_first room (turned t ∷ h) c greeted are = marks_first room h c.1 greeted are
 
-few_greeted : (h : Journal) (greeted : List Mark) → Conducted h → AreGreeted (port_log h) greeted → LacksOne (marks_of h) (length greeted)
-few_greeted h greeted c are = subst (LacksOne (marks_of h)) (sym are.each) (few_marks h c)
+few_greeted : (room : ℕ) (h : Journal) (greeted : List Mark) → Conducted room h → AreGreeted (port_log h) greeted → LacksOne (marks_of h) (length greeted)
+few_greeted room h greeted c are = subst (LacksOne (marks_of h)) (sym are.each) (few_marks room h c)
 
 -- the n-th Banner behind the first that is got is of the n-th mark
-pub greeted_in_order : (h : Journal) (greeted : List Mark) → Conducted h → AreGreeted (port_log h) greeted → AreInOrder (marks_of h) greeted
-greeted_in_order h greeted c are = in_order (marks_of h) greeted (few_greeted h greeted c are) (marks_first h c greeted are.stored)
+pub greeted_in_order : (room : ℕ) (h : Journal) (greeted : List Mark) → Conducted room h → AreGreeted (port_log h) greeted → AreInOrder (marks_of h) greeted
+greeted_in_order room h greeted c are = in_order (marks_of h) greeted (few_greeted room h greeted c are) (marks_first room h c greeted are.stored)
 
 -- and so is the n-th that is answered
-pub answered_in_order : (h : Journal) (log : List LinkStep) (over : Bool) → Conducted h → PortsAgree (port_log h) log over → AreInOrder (marks_of h) (greeted_in log)
-answered_in_order h log over c e =
-    let few = few_greeted h e.greeted c e.are in
+pub answered_in_order : (room : ℕ) (h : Journal) (log : List LinkStep) (over : Bool) → Conducted room h → PortsAgree (port_log h) log over → AreInOrder (marks_of h) (greeted_in log)
+answered_in_order room h log over c e =
+    let few = few_greeted room h e.greeted c e.are in
     let are = subst (AreStored (marks_of h)) e.banners (answered_stored (marks_of h) log e.loads e.well) in
-    let first = all_first (marks_of h) e.greeted few (marks_first h c e.greeted e.are.stored) e.ungreeted are in
+    let first = all_first (marks_of h) e.greeted few (marks_first room h c e.greeted e.are.stored) e.ungreeted are in
     subst (AreInOrder (marks_of h)) (sym e.banners) (in_order (marks_of h) (e.ungreeted ++ e.greeted) (more few) first)
   where
     more : LacksOne (marks_of h) (length e.greeted) → LacksOne (marks_of h) (length (e.ungreeted ++ e.greeted))

@@ -19,12 +19,11 @@ use Rattle.code_table.specs.Tables.{query}
 use Rattle.stream_host.specs.declared.line.Asking.{Asking}
 use Rattle.stream_host.specs.declared.line.Asking.TheVariants.{Nothing}
 use Rattle.stream_host.specs.Conduct.{Conducted, AreAnswered, waits_for_lines, MayScanNext, MayMark, MayRaise, MayShut, HasSentAll, HasNoMore}
-use Rattle.stream_host.specs.Hosts.{HostFits, HasLine, KeepsLine, KeepsDue, KeepsPolls, KeepsJob, KeepsCounts, is_over, line_length, lengths, IsSummed, unread, KeepsResets, awaits_by}
+use Rattle.stream_host.specs.Hosts.{HostFits, HasLine, KeepsLine, KeepsDue, KeepsPolls, KeepsJob, KeepsCounts, is_over, line_length, lengths, IsSummed, unread, KeepsResets, awaits_by, HasRoom, MayScanOn, MayReadOn, IsPiece}
 use Rattle.stream_host.specs.declared.resets.Resets.{Resets}
 use Rattle.stream_host.specs.declared.counts.Counts.{Counts}
 use Rattle.status_report.specs.declared.Reply.{Reply}
 use Rattle.status_report.specs.Answering.{answers_in}
-use Rattle.stream_host.specs.Hosts.{HasRoom, MayScanOn, MayReadOn, IsPiece}
 use Rattle.stream_host.specs.Ports.{TakesMark, TakesRaise, IsOpen}
 use Rattle.stream_host.proofs.Texts.{none_long, few_bytes}
 use Rattle.stream_host.proofs.Raised.{few_resets, banners_low}
@@ -38,25 +37,25 @@ use Rattle.stream_host.proofs.Waiting.{all_begun, begun_is, over_full}
 
 -- ---- an alarm
 
-pub calm_now : (s : Host) (h : Journal) → HostFits s h → s.alarm ≡ false → has_limit h ≡ false
-calm_now s h f calm = sym f.alarm_is ∙ calm
+pub calm_now : {room : ℕ} (s : Host) (h : Journal) → HostFits room s h → s.alarm ≡ false → has_limit h ≡ false
+calm_now {room} s h f calm = sym f.alarm_is ∙ calm
 
-pub alarm_now : (s : Host) (h : Journal) → HostFits s h → s.alarm ≡ true → has_limit h ≡ true
-alarm_now s h f alarm = sym f.alarm_is ∙ alarm
+pub alarm_now : {room : ℕ} (s : Host) (h : Journal) → HostFits room s h → s.alarm ≡ true → has_limit h ≡ true
+alarm_now {room} s h f alarm = sym f.alarm_is ∙ alarm
 
 -- ---- the line in hand
 
 -- a line that is being scanned ends the sending where it is long
-pub ends_is : (s : Host) (h : Journal) → HostFits s h → s.line.whole ≡ false → ends_sending (raw_of h) ≡ is_over s.line
-ends_is s h f e = sym (f.line_is.scanning e).0.long
+pub ends_is : {room : ℕ} (s : Host) (h : Journal) → HostFits room s h → s.line.whole ≡ false → ends_sending (raw_of h) ≡ is_over s.line
+ends_is {room} s h f e = sym (f.line_is.scanning e).0.long
 
 -- whichever it is
 long_by : (l : SentLine) (raw left : List ℕ) (whole : Bool) → l.whole ≡ whole → KeepsLine l raw left → l.long ≡ is_long raw
 long_by l raw left false e k = (k.scanning e).0.long
 long_by l raw left true e k = let i = k.storing e in i.sends ∙ sym none_long ∙ ap is_long (sym i.none)
 
-pub is_long_now : (s : Host) (h : Journal) → HostFits s h → s.line.long ≡ is_long (raw_of h)
-is_long_now s h f = long_by s.line (raw_of h) (to_store h) s.line.whole refl f.line_is
+pub is_long_now : {room : ℕ} (s : Host) (h : Journal) → HostFits room s h → s.line.long ≡ is_long (raw_of h)
+is_long_now {room} s h f = long_by s.line (raw_of h) (to_store h) s.line.whole refl f.line_is
 
 -- a line that is not too long is kept whole
 short_by : (raw : List ℕ) → is_long raw ≡ false → nat_lt 127 (length (sent_text raw)) ≡ false
@@ -125,27 +124,28 @@ few_lengths : (lines : List (List ℕ)) → length (map line_length lines) ≤ s
 few_lengths [] = omega arith
 few_lengths (l ∷ ls) = let a = sum_by-cons (λ x. x) (line_length l) (map line_length ls) in let m = few_lengths ls in omega arith
 
-pub total_is : (s : Host) (h : Journal) → HostFits s h → s.counts.unanswered.total ≡ length (on_link (drop (answered_of h) (live_of h)))
-total_is s h f = f.counts_are.summed ∙ ap sum f.counts_are.unanswered_are ∙ link_sum (drop (answered_of h) (live_of h))
+pub total_is : {room : ℕ} (s : Host) (h : Journal) → HostFits room s h → s.counts.unanswered.total ≡ length (on_link (drop (answered_of h) (live_of h)))
+total_is {room} s h f = f.counts_are.summed ∙ ap sum f.counts_are.unanswered_are ∙ link_sum (drop (answered_of h) (live_of h))
 
 -- where nothing is to be stored, a line more may be counted
-pub has_room : (s : Host) (h : Journal) → HostFits s h → to_store h ≡ [] → HasRoom s.counts
-has_room s h f free =
-    let begun : begun_of h ≡ live_of h = all_begun h free (begun_is h f.conducted) in
-    let small : length (on_link (drop (answered_of h) (live_of h))) ≤ 128 = subst (λ (ls : List (List ℕ)). length (on_link (drop (answered_of h) ls)) ≤ 128) begun (sending.sum_is h f.conducted) in
+pub has_room : {room : ℕ} (s : Host) (h : Journal) → HostFits room s h → to_store h ≡ [] → HasRoom s.counts
+has_room {room} s h f free =
+    let begun : begun_of h ≡ live_of h = all_begun h free (begun_is room h f.conducted) in
+    let small : length (on_link (drop (answered_of h) (live_of h))) ≤ room = subst (λ (ls : List (List ℕ)). length (on_link (drop (answered_of h) ls)) ≤ room) begun (sending.sum_is room h f.conducted) in
+    let most_room = f.sized.1 in
     let total = total_is s h f in
     let few = few_lengths (drop (answered_of h) (live_of h)) in
     let same = ap length f.counts_are.unanswered_are in
     let link = link_sum (drop (answered_of h) (live_of h)) in
-    let most = (sending.counts_are h f.conducted).2 in
+    let most = (sending.counts_are room h f.conducted).2 in
     let lines = f.counts_are.lines_are in
-    let all = f.all_are in let every = all_lines h f.conducted in
+    let all = f.all_are in let every = all_lines room h f.conducted in
     record { few = omega arith; small = omega arith; summed = f.counts_are.summed; lines = omega arith; all = omega arith }
 
 -- ---- a byte is raised
 
-pub none_due_by : (s : Host) (h : Journal) → HostFits s h → s.line.due ≡ None → due_of h ≡ []
-none_due_by s h f none = sym f.due_is ∙ ap option_to_list none
+pub none_due_by : {room : ℕ} (s : Host) (h : Journal) → HostFits room s h → s.line.due ≡ None → due_of h ≡ []
+none_due_by {room} s h f none = sym f.due_is ∙ ap option_to_list none
 
 not_tired : (n : ℕ) → n < empty_polls → nat_eq n empty_polls ≡ false
 not_tired n few = grind (arith, nat_tests)
@@ -153,23 +153,23 @@ not_tired n few = grind (arith, nat_tests)
 tired_now : (n : ℕ) → n ≡ empty_polls → nat_eq n empty_polls ≡ true
 tired_now n e = grind (arith, nat_tests)
 
-pub never_raised : (s : Host) (b : ℕ) (h : Journal) → HostFits s h → due_of h ≡ [] → MayRaise b h → ⊥
-never_raised s b h f none may = absurd (let e = sym none ∙ may.next f.polls_are.few in cc)
+pub never_raised : {room : ℕ} (s : Host) (b : ℕ) (h : Journal) → HostFits room s h → due_of h ≡ [] → MayRaise b h → ⊥
+never_raised {room} s b h f none may = absurd (let e = sym none ∙ may.next f.polls_are.few in cc)
 
-pub due_next : (s : Host) (b : ℕ) (h : Journal) → HostFits s h → s.line.due ≡ Some b → due_of h ≡ b ∷ []
-due_next s b h f is = sym f.due_is ∙ ap option_to_list is
+pub due_next : {room : ℕ} (s : Host) (b : ℕ) (h : Journal) → HostFits room s h → s.line.due ≡ Some b → due_of h ≡ b ∷ []
+due_next {room} s b h f is = sym f.due_is ∙ ap option_to_list is
 
 -- no more reports are asked for than bytes were scanned
-pub takes_raise : (b : ℕ) (h : Journal) → Conducted h → TakesRaise b (port_log h)
-takes_raise b h c query_now = let q = few_queries h c in let n = few_scanned h c in omega arith
+pub takes_raise : (room : ℕ) (b : ℕ) (h : Journal) → Conducted room h → TakesRaise b (port_log h)
+takes_raise room b h c query_now = let q = few_queries room h c in let n = few_scanned room h c in omega arith
 
 pub takes_resume : (l : HostLog) → TakesRaise resume l
 takes_resume l query_now = absurd cc
 
 -- a byte that waits for lines does so while fewer are answered than were scanned whole
-pub early_by : (s : Host) (b : ℕ) (h : Journal) (t : Bool) → HostFits s h → waits_for_lines b ≡ true → t ≡ nat_lt s.counts.answered s.counts.lines → (t ≡ false) ↔ (waits_for_lines b ≡ true → AreAnswered h)
-early_by s b h t f is test = (
-  λ none q. (let few = (sending.counts_are h f.conducted).1 in let a = f.counts_are.answered_is in let l = f.counts_are.lines_are in grind (arith, nat_tests)),
+pub early_by : {room : ℕ} (s : Host) (b : ℕ) (h : Journal) (t : Bool) → HostFits room s h → waits_for_lines b ≡ true → t ≡ nat_lt s.counts.answered s.counts.lines → (t ≡ false) ↔ (waits_for_lines b ≡ true → AreAnswered h)
+early_by {room} s b h t f is test = (
+  λ none q. (let few = (sending.counts_are room h f.conducted).1 in let a = f.counts_are.answered_is in let l = f.counts_are.lines_are in grind (arith, nat_tests)),
   λ after. (let all = after is in let a = f.counts_are.answered_is in let l = f.counts_are.lines_are in grind (arith, nat_tests)),
 )
 
@@ -180,8 +180,8 @@ same_line l raw left d k = record {
 }
 
 -- the mark of the next reset is stored
-marked_now : (s : Host) (h : Journal) → HostFits s h → s.resets.marked ≡ true → resets_of h < length (marks_of h)
-marked_now s h f e = let m = f.resets_are.marked_is in by_test (sym m ∙ e)
+marked_now : {room : ℕ} (s : Host) (h : Journal) → HostFits room s h → s.resets.marked ≡ true → resets_of h < length (marks_of h)
+marked_now {room} s h f e = let m = f.resets_are.marked_is in by_test (sym m ∙ e)
   where
     by_test : nat_lt (resets_of h) (length (marks_of h)) ≡ true → resets_of h < length (marks_of h)
     by_test e = grind (arith, nat_tests)
@@ -195,39 +195,41 @@ raised_resets r true n banners marks k few = record { raised_is = ap (λ m. m + 
     none_more n m le = grind (arith, nat_tests)
 raised_resets r false n banners marks k few = record { raised_is = k.raised_is; banners_are = k.banners_are; marked_is = k.marked_is }
 
-pub takes_mark : (s : Host) (h : Journal) → HostFits s h → TakesMark (port_log h)
-takes_mark s h f = let r = few_resets h f.conducted in let m = (marks_between h f.conducted).1 in let n = few_scanned h f.conducted in omega arith
+pub takes_mark : {room : ℕ} (s : Host) (h : Journal) → HostFits room s h → TakesMark (port_log h)
+takes_mark {room} s h f = let r = few_resets room h f.conducted in let m = (marks_between room h f.conducted).1 in let n = few_scanned room h f.conducted in omega arith
 
-pub few_raised : (s : Host) (h : Journal) → HostFits s h → s.resets.raised + 1 < 2 ^ 32
-few_raised s h f = let r = few_resets h f.conducted in let n = few_scanned h f.conducted in let e = f.resets_are.raised_is in omega arith
+pub few_raised : {room : ℕ} (s : Host) (h : Journal) → HostFits room s h → s.resets.raised + 1 < 2 ^ 32
+few_raised {room} s h f = let r = few_resets room h f.conducted in let n = few_scanned room h f.conducted in let e = f.resets_are.raised_is in omega arith
 
-pub few_banners : (s : Host) (h : Journal) → HostFits s h → s.resets.banners + 1 < 2 ^ 32
-few_banners s h f =
-    let r = few_resets h f.conducted in let n = few_scanned h f.conducted in let m = (marks_between h f.conducted).1 in let b = banners_low h f.conducted in
+pub few_banners : {room : ℕ} (s : Host) (h : Journal) → HostFits room s h → s.resets.banners + 1 < 2 ^ 32
+few_banners {room} s h f =
+    let r = few_resets room h f.conducted in let n = few_scanned room h f.conducted in let m = (marks_between room h f.conducted).1 in let b = banners_low room h f.conducted in
     let e = f.resets_are.banners_are in omega arith
 
 -- a Banner is awaited
-pub epoch_now : (s : Host) (h : Journal) → HostFits s h → awaits_by s.resets ≡ awaits_banner h
-epoch_now s h f = ap (λ n. nat_lt 0 n && nat_le s.resets.banners n) f.resets_are.raised_is ∙ ap (λ n. nat_lt 0 (resets_of h) && nat_le n (resets_of h)) f.resets_are.banners_are
+pub epoch_now : {room : ℕ} (s : Host) (h : Journal) → HostFits room s h → awaits_by s.resets ≡ awaits_banner h
+epoch_now {room} s h f = ap (λ n. nat_lt 0 n && nat_le s.resets.banners n) f.resets_are.raised_is ∙ ap (λ n. nat_lt 0 (resets_of h) && nat_le n (resets_of h)) f.resets_are.banners_are
 
-pub calm_epoch : (s : Host) (h : Journal) → HostFits s h → awaits_by s.resets ≡ false → awaits_banner h ≡ false
-calm_epoch s h f calm = sym (epoch_now s h f) ∙ calm
+pub calm_epoch : {room : ℕ} (s : Host) (h : Journal) → HostFits room s h → awaits_by s.resets ≡ false → awaits_banner h ≡ false
+calm_epoch {room} s h f calm = sym (epoch_now s h f) ∙ calm
 
 -- the mark of a reset that is due is stored
-pub may_mark : (s : Host) (h : Journal) → HostFits s h → s.alarm ≡ false → s.line.due ≡ Some 0x18 → s.resets.marked ≡ false → MayMark h
-may_mark s h f calm is fresh =
+pub may_mark : {room : ℕ} (s : Host) (h : Journal) → HostFits room s h → s.alarm ≡ false → s.line.due ≡ Some 0x18 → s.resets.marked ≡ false → MayMark h
+may_mark {room} s h f calm is fresh =
     let next = due_next s 0x18 h f is in
     record {
       calm = calm_now s h f calm;
       next = next ∙ ap (λ (t : List ℕ). 0x18 ∷ drop 1 t) (sym next);
-      fresh = none_more (resets_of h) (length (marks_of h)) (marks_between h f.conducted).0 (sym f.resets_are.marked_is ∙ fresh);
+      fresh = none_more (resets_of h) (length (marks_of h)) (marks_between room h f.conducted).0 (sym f.resets_are.marked_is ∙ fresh);
     }
   where
     none_more : (n m : ℕ) → n ≤ m → nat_lt n m ≡ false → m ≡ n
     none_more n m le e = grind (arith, nat_tests)
 
-pub marked_next : (s : Host) (h : Journal) → HostFits s h → MayMark h → HostFits (record s { resets = record s.resets { marked = true } }) (at_port marked ∷ h)
-marked_next s h f may = record {
+pub marked_next : {room : ℕ} (s : Host) (h : Journal) → HostFits room s h → MayMark h → HostFits room (record s { resets = record s.resets { marked = true } }) (at_port marked ∷ h)
+marked_next {room} s h f may = record {
+  sized = f.sized;
+  room_is = f.room_is;
   conducted = (may, f.conducted);
   job_is = f.job_is;
   line_is = f.line_is;
@@ -250,12 +252,14 @@ marked_next s h f may = record {
     one_more : true ≡ nat_lt (resets_of h) (length (marks_of (at_port marked ∷ h)))
     one_more = let e = may.fresh in let l : length (marks_of (at_port marked ∷ h)) ≡ length (marks_of h) + 1 = omega arith in grind (arith, nat_tests)
 
-pub raised_byte : (s : Host) (b : ℕ) (down : Bool) (a : Asking) (held : Bool) (n : ℕ) (h : Journal) → HostFits s h → s.alarm ≡ false → s.line.due ≡ Some b → (waits_for_lines b ≡ true → AreAnswered h) → a ≡ cond (nat_eq b query) (asked_more s.asking) s.asking → held ≡ held_after b s.held → n ≡ cond (nat_eq b resume) 0 s.counts.pause_at → (is_reset b ≡ true → s.resets.marked ≡ true)
-    → HostFits (record s { line = record s.line { due = None }; resets = record s.resets { raised = cond (is_reset b) (s.resets.raised + 1) s.resets.raised; marked = cond (is_reset b) false s.resets.marked }; asking = a; held = held; counts = record s.counts { pause_at = n } }) (at_port (raised b down) ∷ h)
-raised_byte s b down a held n h f calm is after asks hold pause mark =
+pub raised_byte : {room : ℕ} (s : Host) (b : ℕ) (down : Bool) (a : Asking) (held : Bool) (n : ℕ) (h : Journal) → HostFits room s h → s.alarm ≡ false → s.line.due ≡ Some b → (waits_for_lines b ≡ true → AreAnswered h) → a ≡ cond (nat_eq b query) (asked_more s.asking) s.asking → held ≡ held_after b s.held → n ≡ cond (nat_eq b resume) 0 s.counts.pause_at → (is_reset b ≡ true → s.resets.marked ≡ true)
+    → HostFits room (record s { line = record s.line { due = None }; resets = record s.resets { raised = cond (is_reset b) (s.resets.raised + 1) s.resets.raised; marked = cond (is_reset b) false s.resets.marked }; asking = a; held = held; counts = record s.counts { pause_at = n } }) (at_port (raised b down) ∷ h)
+raised_byte {room} s b down a held n h f calm is after asks hold pause mark =
     let next = due_next s b h f is in
     let going = not_tired (polls_of h) f.polls_are.few in
     record {
+      sized = f.sized;
+      room_is = f.room_is;
       conducted = (record { resumes = λ e. absurd (let n = f.polls_are.few in omega arith); calm = λ fewer. calm_now s h f calm; next = λ e. next ∙ ap (λ (t : List ℕ). b ∷ drop 1 t) (sym next); after = after; behind_mark = λ reset. marked_now s h f (mark reset) }, f.conducted);
       job_is = f.job_is;
       line_is = same_line s.line (raw_of h) (to_store h) None f.line_is;
@@ -263,7 +267,7 @@ raised_byte s b down a held n h f calm is after asks hold pause mark =
       asking_is = asks ∙ ap (λ (x : Asking). cond (nat_eq b query) (asked_more x) x) f.asking_is;
       counts_are = same_counts s.counts n (live_of h) (got_of h) f.counts_are;
       all_are = f.all_are;
-      resets_are = raised_resets s.resets (is_reset b) (resets_of h) (banners_of h) (length (marks_of h)) f.resets_are (λ reset. (marks_between h f.conducted).1);
+      resets_are = raised_resets s.resets (is_reset b) (resets_of h) (banners_of h) (length (marks_of h)) f.resets_are (λ reset. (marks_between room h f.conducted).1);
       polls_are = subst (λ t. KeepsPolls s.polls (cond t 0 (polls_of h))) (sym going) f.polls_are;
       held_is = hold ∙ ap (held_after b) f.held_is;
       greeted_is = f.greeted_is;
@@ -275,35 +279,15 @@ raised_byte s b down a held n h f calm is after asks hold pause mark =
       over = f.over;
     }
 
--- a poll that found no reply is counted
-pub polled : (s : Host) (n : ℕ) (h : Journal) → HostFits s h → s.bye ≡ false → n ≡ s.polls + 1 → n < empty_polls → HostFits (record s { polls = n }) (at_port no_reply ∷ h)
-polled s n h f going is few = record {
-  conducted = (record { going = sym f.bye_is ∙ going; rested = f.polls_are.few }, f.conducted);
-  job_is = f.job_is;
-  line_is = f.line_is;
-  due_is = f.due_is;
-  asking_is = f.asking_is;
-  counts_are = f.counts_are;
-  all_are = f.all_are;
-  resets_are = f.resets_are;
-  polls_are = record { polls_are = is ∙ ap (λ m. m + 1) f.polls_are.polls_are; few = (let e = f.polls_are.polls_are in omega arith) };
-  held_is = f.held_is;
-  greeted_is = f.greeted_is;
-  alarm_is = f.alarm_is;
-  pause_is = f.pause_is;
-  text_is = f.text_is;
-  shut_is = f.shut_is;
-  bye_is = f.bye_is;
-  over = f.over;
-}
-
 -- the machine is resumed
-pub resumed : (s : Host) (down : Bool) (h : Journal) → HostFits s h → s.bye ≡ false → empty_polls ≤ s.polls + 1 → HostFits (record s { polls = 0; held = false; counts = record s.counts { pause_at = 0 } }) (at_port (raised resume down) ∷ at_port no_reply ∷ h)
-resumed s down h f going full =
+pub resumed : {room : ℕ} (s : Host) (down : Bool) (h : Journal) → HostFits room s h → s.bye ≡ false → empty_polls ≤ s.polls + 1 → HostFits room (record s { polls = 0; held = false; counts = record s.counts { pause_at = 0 } }) (at_port (raised resume down) ∷ at_port no_reply ∷ h)
+resumed {room} s down h f going full =
     let few = f.polls_are.few in let is = f.polls_are.polls_are in
     let all : polls_of h + 1 ≡ empty_polls = omega arith in
     let tired = tired_now (polls_of h + 1) all in
     record {
+      sized = f.sized;
+      room_is = f.room_is;
       conducted = (
         record { resumes = λ e. refl; calm = λ fewer. absurd (omega arith); next = λ fewer. absurd (omega arith); after = λ e. absurd cc; behind_mark = λ e. absurd cc },
         (record { going = sym f.bye_is ∙ going; rested = few }, f.conducted),
@@ -328,8 +312,8 @@ resumed s down h f going full =
 
 -- ---- a byte is scanned
 
-pub may_scan_next : (s : Host) (r : Reader) (b : ℕ) (h : Journal) → HostFits s h → MayScanOn s → s.shut ≡ false → s.alarm ≡ false → awaits_by s.resets ≡ false → unread s.job ≡ b ∷ unread r → MayScanNext b h
-may_scan_next s r b h f may going calm epoch next = record {
+pub may_scan_next : {room : ℕ} (s : Host) (r : Reader) (b : ℕ) (h : Journal) → HostFits room s h → MayScanOn s → s.shut ≡ false → s.alarm ≡ false → awaits_by s.resets ≡ false → unread s.job ≡ b ∷ unread r → MayScanNext b h
+may_scan_next {room} s r b h f may going calm epoch next = record {
   calm = calm_now s h f calm;
   epoch = calm_epoch s h f epoch;
   none_due = none_due_by s h f may.none_due;
@@ -340,9 +324,9 @@ may_scan_next s r b h f may going calm epoch next = record {
   free = (f.line_is.scanning may.scanning).1;
 }
 
-job_scanned : (s : Host) (r : Reader) (b : ℕ) (h : Journal) → HostFits s h → unread s.job ≡ b ∷ unread r → IsPiece r → r.scanned ≡ s.job.scanned + 1 → r.reading ≡ s.job.reading
+job_scanned : {room : ℕ} (s : Host) (r : Reader) (b : ℕ) (h : Journal) → HostFits room s h → unread s.job ≡ b ∷ unread r → IsPiece r → r.scanned ≡ s.job.scanned + 1 → r.reading ≡ s.job.reading
     → KeepsJob r (drop 1 (unscanned_of h)) (reading_of h) (length (scanned_of h ++ b ∷ []))
-job_scanned s r b h f next piece count reading = record {
+job_scanned {room} s r b h f next piece count reading = record {
   piece = piece;
   left_is = ap (drop 1) (sym next ∙ f.job_is.left_is);
   reading_is = reading ∙ f.job_is.reading_is;
@@ -353,12 +337,12 @@ pub nothing_due : (d : Option ℕ) (due : List ℕ) → d ≡ None → due ≡ [
 nothing_due d due none is = ap option_to_list none ∙ sym is
 
 -- a job at its end has no byte left
-not_over : (s : Host) (r : Reader) (b : ℕ) (h : Journal) {A : Type 0} → HostFits s h → unread s.job ≡ b ∷ unread r → reading_of h ≡ Ended → A
-not_over s r b h f next e = absurd (let g = sym (f.over e).0 ∙ sym f.job_is.left_is ∙ next in cc)
+not_over : {room : ℕ} (s : Host) (r : Reader) (b : ℕ) (h : Journal) {A : Type 0} → HostFits room s h → unread s.job ≡ b ∷ unread r → reading_of h ≡ Ended → A
+not_over {room} s r b h f next e = absurd (let g = sym (f.over e).0 ∙ sym f.job_is.left_is ∙ next in cc)
 
 -- the first byte of a line has asked for nothing
-asking_scanned : (s : Host) (a : Asking) (h : Journal) → HostFits s h → s.line.whole ≡ false → a ≡ cond s.line.begun s.asking Nothing → a ≡ cond (nat_eq (length (raw_of h)) 0) Nothing (asking_of h)
-asking_scanned s a h f whole is =
+asking_scanned : {room : ℕ} (s : Host) (a : Asking) (h : Journal) → HostFits room s h → s.line.whole ≡ false → a ≡ cond s.line.begun s.asking Nothing → a ≡ cond (nat_eq (length (raw_of h)) 0) Nothing (asking_of h)
+asking_scanned {room} s a h f whole is =
     is ∙ ap (λ t. cond t s.asking Nothing) (f.line_is.scanning whole).0.begun ∙ ap (λ (x : Asking). cond (nat_lt 0 (length (raw_of h))) x Nothing) f.asking_is
     ∙ by_tests (length (raw_of h)) (nat_lt 0 (length (raw_of h))) (nat_eq (length (raw_of h)) 0) refl refl
   where
@@ -368,9 +352,11 @@ asking_scanned s a h f whole is =
     by_tests n true true e g = absurd (grind (arith, nat_tests))
     by_tests n false false e g = absurd (grind (arith, nat_tests))
 
-pub scanned_byte : (s : Host) (r : Reader) (l : SentLine) (a : Asking) (b : ℕ) (h : Journal) → HostFits s h → MayScanOn s → s.shut ≡ false → s.alarm ≡ false → awaits_by s.resets ≡ false → unread s.job ≡ b ∷ unread r → IsPiece r → r.scanned ≡ s.job.scanned + 1 → r.reading ≡ s.job.reading
-    → nat_eq b 10 ≡ false → ((raw : List ℕ) → HasLine s.line raw → HasLine l (raw ++ b ∷ [])) → ((raw : List ℕ) → HasLine s.line raw → KeepsDue l.due (more_served raw b)) → l.whole ≡ s.line.whole → a ≡ cond s.line.begun s.asking Nothing → HostFits (record s { job = r; line = l; asking = a }) (scanned b ∷ h)
-scanned_byte s r l a b h f may going calm epoch next piece count reading other fed due whole asks = record {
+pub scanned_byte : {room : ℕ} (s : Host) (r : Reader) (l : SentLine) (a : Asking) (b : ℕ) (h : Journal) → HostFits room s h → MayScanOn s → s.shut ≡ false → s.alarm ≡ false → awaits_by s.resets ≡ false → unread s.job ≡ b ∷ unread r → IsPiece r → r.scanned ≡ s.job.scanned + 1 → r.reading ≡ s.job.reading
+    → nat_eq b 10 ≡ false → ((raw : List ℕ) → HasLine s.line raw → HasLine l (raw ++ b ∷ [])) → ((raw : List ℕ) → HasLine s.line raw → KeepsDue l.due (more_served raw b)) → l.whole ≡ s.line.whole → a ≡ cond s.line.begun s.asking Nothing → HostFits room (record s { job = r; line = l; asking = a }) (scanned b ∷ h)
+scanned_byte {room} s r l a b h f may going calm epoch next piece count reading other fed due whole asks = record {
+  sized = f.sized;
+  room_is = f.room_is;
   conducted = (may_scan_next s r b h f may going calm epoch next, f.conducted);
   job_is = job_scanned s r b h f next piece count reading;
   line_is = subst (λ t. KeepsLine l (cond t [] (raw_of h ++ b ∷ [])) (cond t (sent_text (raw_of h) ++ 10 ∷ []) (to_store h))) (sym other) (record {
@@ -393,9 +379,11 @@ scanned_byte s r l a b h f may going calm epoch next piece count reading other f
   over = λ e. not_over s r b h f next e;
 }
 
-pub scanned_lf : (s : Host) (r : Reader) (l : SentLine) (c : Counts) (a : Asking) (b : ℕ) (h : Journal) → HostFits s h → MayScanOn s → s.shut ≡ false → s.alarm ≡ false → awaits_by s.resets ≡ false → unread s.job ≡ b ∷ unread r → IsPiece r → r.scanned ≡ s.job.scanned + 1 → r.reading ≡ s.job.reading
-    → nat_eq b 10 ≡ true → KeepsLine l [] (sent_text (raw_of h) ++ 10 ∷ []) → l.due ≡ s.line.due → KeepsCounts c (live_of h ++ raw_of h ∷ []) (got_of h) → c.all ≡ s.counts.all + 1 → c.pause_at ≡ cond (pauses (raw_of h)) (s.counts.lines + 1) s.counts.pause_at → a ≡ cond s.line.begun s.asking Nothing → HostFits (record s { job = r; line = l; counts = c; asking = a }) (scanned b ∷ h)
-scanned_lf s r l c a b h f may going calm epoch next piece count reading lf line due counts all pause asks = record {
+pub scanned_lf : {room : ℕ} (s : Host) (r : Reader) (l : SentLine) (c : Counts) (a : Asking) (b : ℕ) (h : Journal) → HostFits room s h → MayScanOn s → s.shut ≡ false → s.alarm ≡ false → awaits_by s.resets ≡ false → unread s.job ≡ b ∷ unread r → IsPiece r → r.scanned ≡ s.job.scanned + 1 → r.reading ≡ s.job.reading
+    → nat_eq b 10 ≡ true → KeepsLine l [] (sent_text (raw_of h) ++ 10 ∷ []) → l.due ≡ s.line.due → KeepsCounts c (live_of h ++ raw_of h ∷ []) (got_of h) → c.all ≡ s.counts.all + 1 → c.pause_at ≡ cond (pauses (raw_of h)) (s.counts.lines + 1) s.counts.pause_at → a ≡ cond s.line.begun s.asking Nothing → HostFits room (record s { job = r; line = l; counts = c; asking = a }) (scanned b ∷ h)
+scanned_lf {room} s r l c a b h f may going calm epoch next piece count reading lf line due counts all pause asks = record {
+  sized = f.sized;
+  room_is = f.room_is;
   conducted = (may_scan_next s r b h f may going calm epoch next, f.conducted);
   job_is = job_scanned s r b h f next piece count reading;
   line_is = subst (λ t. KeepsLine l (cond t [] (raw_of h ++ b ∷ [])) (cond t (sent_text (raw_of h) ++ 10 ∷ []) (to_store h))) (sym lf) line;
@@ -417,12 +405,12 @@ scanned_lf s r l c a b h f may going calm epoch next piece count reading lf line
   over = λ e. not_over s r b h f next e;
 }
 
-pub few_answers : (s : Host) (h : Journal) → HostFits s h → answers_in (got_of h) ≤ length (live_of h)
-few_answers s h f = (sending.counts_are h f.conducted).1
+pub few_answers : {room : ℕ} (s : Host) (h : Journal) → HostFits room s h → answers_in (got_of h) ≤ length (live_of h)
+few_answers {room} s h f = (sending.counts_are room h f.conducted).1
 
-pub over_is : (s : Host) (h : Journal) → HostFits s h → (s.counts.lines ≤ s.counts.all) × (s.counts.answered ≤ s.counts.lines) × (s.counts.answered + (s.counts.all - s.counts.lines) ≡ over_of h) × (over_of h ≤ largest_job)
-over_is s h f =
-    let n = sending.counts_are h f.conducted in let e = all_lines h f.conducted in
+pub over_is : {room : ℕ} (s : Host) (h : Journal) → HostFits room s h → (s.counts.lines ≤ s.counts.all) × (s.counts.answered ≤ s.counts.lines) × (s.counts.answered + (s.counts.all - s.counts.lines) ≡ over_of h) × (over_of h ≤ largest_job)
+over_is {room} s h f =
+    let n = sending.counts_are room h f.conducted in let e = all_lines room h f.conducted in
     let a = f.counts_are.answered_is in let l = f.counts_are.lines_are in let m = f.all_are in let few = n.1 in let most = n.2 in
     ((omega arith), (omega arith), (omega arith), (omega arith))
 
@@ -438,23 +426,23 @@ some_by : (r : Reader) (b : ℕ) (left : List ℕ) → unread r ≡ b ∷ left �
 some_by r b left next =
     let a = ap length next in let c = length-drop r.place (take r.end r.bytes) in let d = length-take r.end r.bytes in omega arith
 
-pub few_lines : (s : Host) (h : Journal) → HostFits s h → (s.counts.all ≡ length (cut_of h)) × (length (cut_of h) ≤ largest_job)
-few_lines s h f = (f.all_are, (sending.counts_are h f.conducted).2)
+pub few_lines : {room : ℕ} (s : Host) (h : Journal) → HostFits room s h → (s.counts.all ≡ length (cut_of h)) × (length (cut_of h) ≤ largest_job)
+few_lines {room} s h f = (f.all_are, (sending.counts_are room h f.conducted).2)
 
 -- a job that is too large leaves a byte
-none_left_large : (h : Journal) {A : Type 0} → Conducted h → reading_of h ≡ Large → unscanned_of h ≡ [] → A
-none_left_large h c at none =
-    let more : largest_job < length (read_of h) = (subst (λ (r : Reading). MayHaveRead r (length (read_of h))) at (reading_fits h c)).0 in
-    let l = ap length (read_is h c) in let m = length-append (scanned_of h) (unscanned_of h) in let n = ap length none in let k = few_scanned h c in
+none_left_large : (room : ℕ) (h : Journal) {A : Type 0} → Conducted room h → reading_of h ≡ Large → unscanned_of h ≡ [] → A
+none_left_large room h c at none =
+    let more : largest_job < length (read_of h) = (subst (λ (r : Reading). MayHaveRead r (length (read_of h))) at (reading_fits room h c)).0 in
+    let l = ap length (read_is room h c) in let m = length-append (scanned_of h) (unscanned_of h) in let n = ap length none in let k = few_scanned room h c in
     absurd (omega arith)
 
-no_more_by : (s : Host) (h : Journal) → HostFits s h → (MayScanOn s → ⊥) → (MayReadOn s → ⊥) → s.line.whole ≡ false → is_over s.line ≡ false → s.line.due ≡ None
+no_more_by : {room : ℕ} (s : Host) (h : Journal) → HostFits room s h → (MayScanOn s → ⊥) → (MayReadOn s → ⊥) → s.line.whole ≡ false → is_over s.line ≡ false → s.line.due ≡ None
     → (r : Reading) → reading_of h ≡ r → (left : List ℕ) → unscanned_of h ≡ left → HasNoMore r (unscanned_of h) (raw_of h) (length (scanned_of h))
-no_more_by s h f no_scan no_read whole long none Ended at left is = f.over at
-no_more_by s h f no_scan no_read whole long none Failed at [] is = is
-no_more_by s h f no_scan no_read whole long none Stopped at [] is = absurd (no_read (record { scanning = whole; sends = long; none_due = none; used = used_by s.job (f.job_is.left_is ∙ is) f.job_is.piece; on = f.job_is.reading_is ∙ at }))
-no_more_by s h f no_scan no_read whole long none Large at [] is = none_left_large h f.conducted at is
-no_more_by s h f no_scan no_read whole long none r at (b ∷ left) is = over_full h f.conducted b left is (full (nat_lt (length (scanned_of h)) largest_job) refl) r at
+no_more_by {room} s h f no_scan no_read whole long none Ended at left is = f.over at
+no_more_by {room} s h f no_scan no_read whole long none Failed at [] is = is
+no_more_by {room} s h f no_scan no_read whole long none Stopped at [] is = absurd (no_read (record { scanning = whole; sends = long; none_due = none; used = used_by s.job (f.job_is.left_is ∙ is) f.job_is.piece; on = f.job_is.reading_is ∙ at }))
+no_more_by {room} s h f no_scan no_read whole long none Large at [] is = none_left_large room h f.conducted at is
+no_more_by {room} s h f no_scan no_read whole long none r at (b ∷ left) is = over_full room h f.conducted b left is (full (nat_lt (length (scanned_of h)) largest_job) refl) r at
   where
     full : (t : Bool) → nat_lt (length (scanned_of h)) largest_job ≡ t → largest_job ≤ length (scanned_of h)
     full false e = grind (arith, nat_tests)
@@ -467,23 +455,25 @@ no_more_by s h f no_scan no_read whole long none r at (b ∷ left) is = over_ful
     }))
 
 -- all is sent where nothing may be scanned or read
-pub has_sent : (s : Host) (h : Journal) → HostFits s h → s.line.whole ≡ false → s.line.due ≡ None → (MayScanOn s → ⊥) → (MayReadOn s → ⊥) → HasSentAll h
-has_sent s h f whole none no_scan no_read = record { free = (f.line_is.scanning whole).1; all = by_over (is_over s.line) refl }
+pub has_sent : {room : ℕ} (s : Host) (h : Journal) → HostFits room s h → s.line.whole ≡ false → s.line.due ≡ None → (MayScanOn s → ⊥) → (MayReadOn s → ⊥) → HasSentAll h
+has_sent {room} s h f whole none no_scan no_read = record { free = (f.line_is.scanning whole).1; all = by_over (is_over s.line) refl }
   where
     by_over : (t : Bool) → is_over s.line ≡ t → (ends_sending (raw_of h) ≡ true) ⊎ HasNoMore (reading_of h) (unscanned_of h) (raw_of h) (length (scanned_of h))
     by_over true e = inl (ends_is s h f whole ∙ e)
     by_over false e = inr (no_more_by s h f no_scan no_read whole e none (reading_of h) refl (unscanned_of h) refl)
 
-pub may_shut : (s : Host) (h : Journal) → HostFits s h → s.line.whole ≡ false → s.shut ≡ false → awaits_by s.resets ≡ false → s.line.due ≡ None → (MayScanOn s → ⊥) → (MayReadOn s → ⊥) → MayShut h
-may_shut s h f whole going epoch none no_scan no_read =
+pub may_shut : {room : ℕ} (s : Host) (h : Journal) → HostFits room s h → s.line.whole ≡ false → s.shut ≡ false → awaits_by s.resets ≡ false → s.line.due ≡ None → (MayScanOn s → ⊥) → (MayReadOn s → ⊥) → MayShut h
+may_shut {room} s h f whole going epoch none no_scan no_read =
     record { going = sym f.shut_is ∙ going; epoch = calm_epoch s h f epoch; sent = inr (has_sent s h f whole none no_scan no_read); all_raised = inr (none_due_by s h f none) }
 
 -- behind an alarm it may be in any case
-pub may_shut_at_alarm : (s : Host) (h : Journal) → HostFits s h → s.shut ≡ false → awaits_by s.resets ≡ false → s.alarm ≡ true → MayShut h
-may_shut_at_alarm s h f going epoch alarm = let e = alarm_now s h f alarm in record { going = sym f.shut_is ∙ going; epoch = calm_epoch s h f epoch; sent = inl e; all_raised = inl e }
+pub may_shut_at_alarm : {room : ℕ} (s : Host) (h : Journal) → HostFits room s h → s.shut ≡ false → awaits_by s.resets ≡ false → s.alarm ≡ true → MayShut h
+may_shut_at_alarm {room} s h f going epoch alarm = let e = alarm_now s h f alarm in record { going = sym f.shut_is ∙ going; epoch = calm_epoch s h f epoch; sent = inl e; all_raised = inl e }
 
-pub closed : (s : Host) (h : Journal) → HostFits s h → MayShut h → HostFits (record s { shut = true }) (at_port shut ∷ h)
-closed s h f may = record {
+pub closed : {room : ℕ} (s : Host) (h : Journal) → HostFits room s h → MayShut h → HostFits room (record s { shut = true }) (at_port shut ∷ h)
+closed {room} s h f may = record {
+  sized = f.sized;
+  room_is = f.room_is;
   conducted = (may, f.conducted);
   job_is = f.job_is;
   line_is = f.line_is;
@@ -503,5 +493,5 @@ closed s h f may = record {
   over = f.over;
 }
 
-pub is_open : (s : Host) (h : Journal) → HostFits s h → s.shut ≡ false → IsOpen (port_log h)
-is_open s h f going = sym f.shut_is ∙ going
+pub is_open : {room : ℕ} (s : Host) (h : Journal) → HostFits room s h → s.shut ≡ false → IsOpen (port_log h)
+is_open {room} s h f going = sym f.shut_is ∙ going

@@ -2,7 +2,7 @@
 use Rattle.std.proofs.Common.{◌≡◌, ◌≢◌, ℕ, ◌+◌, ◌≤◌, ◌<◌, inl, Bool, true, false, cond, List, [], ◌∷◌, ◌++◌, length, map, take, nat_lt, refl, sym, ap, ◌∙◌, arith, subst, append-nil, length-append}
 use Rattle.std.specs.List.{list_any, count_by}
 use Rattle.std.proofs.lemmas.Bool.Decides.{nat_tests}
-use Rattle.std.proofs.lemmas.List.{length-take, length-drop, drop_all}
+use Rattle.std.proofs.lemmas.List.{length-take, drop_all}
 use Rattle.std.specs.Io.KnownBytes.{Consumes, IsAtEnd}
 use Rattle.std.proofs.KnownBytes.{Consumes-trans, Consumes-kept}
 use Rattle.outside.specs.Causes.{SourceState, SinkState, Rose}
@@ -14,7 +14,7 @@ use Rattle.stream_host.specs.declared.line.SentLine.{SentLine}
 use Rattle.stream_host.specs.declared.reader.Reader.{Reader}
 use Rattle.stream_host.specs.declared.counts.Counts.{Counts}
 use Rattle.stream_host.specs.declared.host.Host.{Host}
-use Rattle.stream_host.specs.Steps.{Journal, port_log, got_in, got_of, read_of, reading_of, scanned_of, unscanned_of, raw_of, cut_of, live_of, pause_of, this_turn, to_store, due_of}
+use Rattle.stream_host.specs.Steps.{Journal, port_log, got_in, got_of, read_of, reading_of, scanned_of, unscanned_of, raw_of, cut_of, live_of, pause_of, this_turn, due_of}
 use Rattle.stream_host.specs.Holding.{pauses}
 use Rattle.stream_host.specs.Steps.Step.{read_some, read_end, read_failed, scanned, line_over}
 use Rattle.stream_host.specs.Conduct.{IsSettled, MayRead, HasWritten, polling, moving}
@@ -53,9 +53,9 @@ moves_scans : (bytes : List ℕ) → 0 < length bytes → list_any moving (map s
 moves_scans [] some = absurd (let s : 0 < 0 = some in omega arith)
 moves_scans (b ∷ bytes) some = refl
 
-pub did_scan : (s t : Host) (h : Journal) → t.text ≡ s.text → (bytes : List ℕ) × (0 < length bytes) × HostFits t (map scanned bytes ++ h)
-    → (next : Journal) × DidAlone s t h next × ((job : SourceState) (console : SinkState) → HostTellsOn s t h next job job console console)
-did_scan s t h same (bytes, some, fits) = (
+pub did_scan : {room : ℕ} (s t : Host) (h : Journal) → t.text ≡ s.text → (bytes : List ℕ) × (0 < length bytes) × HostFits room t (map scanned bytes ++ h)
+    → (next : Journal) × DidAlone room s t h next × ((job : SourceState) (console : SinkState) → HostTellsOn s t h next job job console console)
+did_scan {room} s t h same (bytes, some, fits) = (
   map scanned bytes ++ h,
   record {
     fits = fits;
@@ -76,11 +76,11 @@ did_scan s t h same (bytes, some, fits) = (
 -- ---- the job is read
 
 -- all of a piece that is used up is scanned
-pub used_up : (s : Host) (h : Journal) → HostFits s h → s.job.end ≤ s.job.place → unscanned_of h ≡ []
-used_up s h f used = sym f.job_is.left_is ∙ drop_all s.job.place (take s.job.end s.job.bytes) (let l = length-take s.job.end s.job.bytes in omega arith)
+pub used_up : {room : ℕ} (s : Host) (h : Journal) → HostFits room s h → s.job.end ≤ s.job.place → unscanned_of h ≡ []
+used_up {room} s h f used = sym f.job_is.left_is ∙ drop_all s.job.place (take s.job.end s.job.bytes) (let l = length-take s.job.end s.job.bytes in omega arith)
 
-pub may_read : (s : Host) (h : Journal) → HostFits s h → MayReadOn s → s.shut ≡ false → s.alarm ≡ false → awaits_by s.resets ≡ false → IsSettled h → HasWritten h → MayRead h
-may_read s h f may going calm epoch settled written = record {
+pub may_read : {room : ℕ} (s : Host) (h : Journal) → HostFits room s h → MayReadOn s → s.shut ≡ false → s.alarm ≡ false → awaits_by s.resets ≡ false → IsSettled h → HasWritten h → MayRead h
+may_read {room} s h f may going calm epoch settled written = record {
   calm = calm_now s h f calm;
   epoch = calm_epoch s h f epoch;
   going = sym f.shut_is ∙ going;
@@ -92,13 +92,6 @@ may_read s h f may going calm epoch settled written = record {
   settled = settled;
   shown = written;
 }
-
-none_whole : (s : Host) (h : Journal) → HostFits s h → to_store h ≡ [] → (t : Bool) → s.line.whole ≡ t → s.line.whole ≡ false
-none_whole s h f free false e = e
-none_whole s h f free true e =
-    let w = f.line_is.storing e in
-    let l = ap length (sym w.left_is ∙ free) in let d = length-drop s.line.place (s.line.kept.items ++ 10 ∷ []) in let k = length-append s.line.kept.items (10 ∷ []) in let p = w.within in
-    absurd (omega arith)
 
 read_more : (h : Journal) (bytes : List ℕ) (n : ℕ) → read_of h ≡ scanned_of h ++ unscanned_of h → unscanned_of h ≡ [] → n ≡ length (scanned_of h) → n + length bytes ≡ length (read_of h ++ bytes)
 read_more h bytes n is none count =
@@ -116,20 +109,22 @@ never_failed false e = absurd cc
 still_reads : (h : Journal) → reading_of h ≡ Stopped → reading_of h ≢ Failed
 still_reads h on bad = absurd (let e = sym on ∙ bad in cc)
 
-pub did_read : (s : Host) (r : Reader) (h : Journal) (now later : SourceState) → HostFits s h → MayReadOn s → s.shut ≡ false → s.alarm ≡ false → awaits_by s.resets ≡ false → IsSettled h → HasWritten h → GaveBytes s.job r now later
-    → (next : Journal) × DidAlone s (record s { job = r }) h next × ((console : SinkState) → HostTellsOn s (record s { job = r }) h next now later console console)
-did_read s r h now later f on going calm epoch settled written gave =
+pub did_read : {room : ℕ} (s : Host) (r : Reader) (h : Journal) (now later : SourceState) → HostFits room s h → MayReadOn s → s.shut ≡ false → s.alarm ≡ false → awaits_by s.resets ≡ false → IsSettled h → HasWritten h → GaveBytes s.job r now later
+    → (next : Journal) × DidAlone room s (record s { job = r }) h next × ((console : SinkState) → HostTellsOn s (record s { job = r }) h next now later console console)
+did_read {room} s r h now later f on going calm epoch settled written gave =
     let may = may_read s h f on going calm epoch settled written in (
       read_some (unread r) ∷ h,
       record {
         fits = record {
+          sized = f.sized;
+          room_is = f.room_is;
           conducted = ((may, gave.some, gave.few), f.conducted);
           job_is = record {
             piece = gave.piece;
             left_is = ap (λ (t : List ℕ). t ++ unread r) (sym may.used);
             reading_is =
                 gave.reading ∙ ap (λ q. cond (nat_lt largest_job (s.job.scanned + length (unread r))) Large q) on.on
-                ∙ ap (λ n. cond (nat_lt largest_job n) Large Stopped) (read_more h (unread r) s.job.scanned (read_is h f.conducted) may.used f.job_is.scanned_is);
+                ∙ ap (λ n. cond (nat_lt largest_job n) Large Stopped) (read_more h (unread r) s.job.scanned (read_is room h f.conducted) may.used f.job_is.scanned_is);
             scanned_is = gave.scanned ∙ f.job_is.scanned_is;
           };
           line_is = f.line_is;
@@ -168,13 +163,15 @@ did_read s r h now later f on going calm epoch settled written gave =
       },
     )
 
-pub did_fail : (s : Host) (r : Reader) (h : Journal) (now later : SourceState) → HostFits s h → MayReadOn s → s.shut ≡ false → s.alarm ≡ false → awaits_by s.resets ≡ false → IsSettled h → HasWritten h → GaveNone s.job r now later
-    → (next : Journal) × DidAlone s (record s { job = r }) h next × ((console : SinkState) → HostTellsOn s (record s { job = r }) h next now later console console)
-did_fail s r h now later f on going calm epoch settled written gave =
+pub did_fail : {room : ℕ} (s : Host) (r : Reader) (h : Journal) (now later : SourceState) → HostFits room s h → MayReadOn s → s.shut ≡ false → s.alarm ≡ false → awaits_by s.resets ≡ false → IsSettled h → HasWritten h → GaveNone s.job r now later
+    → (next : Journal) × DidAlone room s (record s { job = r }) h next × ((console : SinkState) → HostTellsOn s (record s { job = r }) h next now later console console)
+did_fail {room} s r h now later f on going calm epoch settled written gave =
     let may = may_read s h f on going calm epoch settled written in (
       read_failed ∷ h,
       record {
         fits = record {
+          sized = f.sized;
+          room_is = f.room_is;
           conducted = (may, f.conducted);
           job_is = record { piece = gave.piece; left_is = gave.none ∙ sym may.used; reading_is = gave.reading; scanned_is = gave.scanned ∙ f.job_is.scanned_is };
           line_is = f.line_is;
@@ -229,14 +226,16 @@ none_begun (x ∷ xs) e = absurd (grind (arith, nat_tests))
 some_begun : (xs : List ℕ) → nat_lt 0 (length xs) ≡ true → 0 < length xs
 some_begun xs e = grind (arith, nat_tests)
 
-pub did_end : (s : Host) (r : Reader) (h : Journal) (now later : SourceState) → HostFits s h → MayReadOn s → s.shut ≡ false → s.alarm ≡ false → awaits_by s.resets ≡ false → IsSettled h → HasWritten h → s.line.begun ≡ false → GaveEnd s.job r now later
-    → (next : Journal) × DidAlone s (record s { job = r }) h next × ((console : SinkState) → HostTellsOn s (record s { job = r }) h next now later console console)
-did_end s r h now later f on going calm epoch settled written none gave =
+pub did_end : {room : ℕ} (s : Host) (r : Reader) (h : Journal) (now later : SourceState) → HostFits room s h → MayReadOn s → s.shut ≡ false → s.alarm ≡ false → awaits_by s.resets ≡ false → IsSettled h → HasWritten h → s.line.begun ≡ false → GaveEnd s.job r now later
+    → (next : Journal) × DidAlone room s (record s { job = r }) h next × ((console : SinkState) → HostTellsOn s (record s { job = r }) h next now later console console)
+did_end {room} s r h now later f on going calm epoch settled written none gave =
     let may = may_read s h f on going calm epoch settled written in
     let raw : raw_of h ≡ [] = none_begun (raw_of h) (sym (f.line_is.scanning on.scanning).0.begun ∙ none) in (
       read_end ∷ h,
       record {
         fits = record {
+          sized = f.sized;
+          room_is = f.room_is;
           conducted = (may, f.conducted);
           job_is = record { piece = gave.piece; left_is = gave.none ∙ sym may.used; reading_is = gave.reading; scanned_is = gave.scanned ∙ f.job_is.scanned_is };
           line_is = f.line_is;
@@ -270,14 +269,16 @@ did_end s r h now later f on going calm epoch settled written none gave =
     )
 
 -- the last line has no LF
-pub did_end_line : (s : Host) (r : Reader) (l : SentLine) (c : Counts) (h : Journal) (now later : SourceState) → HostFits s h → MayReadOn s → s.shut ≡ false → s.alarm ≡ false → awaits_by s.resets ≡ false → IsSettled h → HasWritten h → s.line.begun ≡ true → GaveEnd s.job r now later
+pub did_end_line : {room : ℕ} (s : Host) (r : Reader) (l : SentLine) (c : Counts) (h : Journal) (now later : SourceState) → HostFits room s h → MayReadOn s → s.shut ≡ false → s.alarm ≡ false → awaits_by s.resets ≡ false → IsSettled h → HasWritten h → s.line.begun ≡ true → GaveEnd s.job r now later
     → KeepsLine l [] (sent_text (raw_of h) ++ 10 ∷ []) → l.due ≡ s.line.due → KeepsCounts c (live_of h ++ raw_of h ∷ []) (got_of h) → c.all ≡ s.counts.all + 1 → c.pause_at ≡ cond (pauses (raw_of h)) (s.counts.lines + 1) s.counts.pause_at
-    → (next : Journal) × DidAlone s (record s { job = r; line = l; counts = c }) h next × ((console : SinkState) → HostTellsOn s (record s { job = r; line = l; counts = c }) h next now later console console)
-did_end_line s r l c h now later f on going calm epoch settled written begun gave line due counts all pause =
+    → (next : Journal) × DidAlone room s (record s { job = r; line = l; counts = c }) h next × ((console : SinkState) → HostTellsOn s (record s { job = r; line = l; counts = c }) h next now later console console)
+did_end_line {room} s r l c h now later f on going calm epoch settled written begun gave line due counts all pause =
     let may = may_read s h f on going calm epoch settled written in (
       line_over ∷ read_end ∷ h,
       record {
         fits = record {
+          sized = f.sized;
+          room_is = f.room_is;
           conducted = (
             record {
               going = may.going;

@@ -24,17 +24,17 @@ use Rattle.stream_host.proofs.Pieces.{IsSendable, any_is, none_any, none_ends}
 
 -- ---- what was read is scanned, or still to be scanned
 
-pub read_is : (h : Journal) → Conducted h → read_of h ≡ scanned_of h ++ unscanned_of h
-read_is [] c = refl
-read_is (at_port e ∷ h) c = read_is h c.1
-read_is (read_some bytes ∷ h) c = ap (λ (t : List ℕ). t ++ bytes) (read_is h c.1) ∙ append_assoc (scanned_of h) (unscanned_of h) bytes
-read_is (read_end ∷ h) c = read_is h c.1
-read_is (read_failed ∷ h) c = read_is h c.1
-read_is (scanned b ∷ h) c = read_is h c.1 ∙ ap (λ (t : List ℕ). scanned_of h ++ t) c.0.next ∙ sym (append_assoc (scanned_of h) (b ∷ []) (drop 1 (unscanned_of h)))
-read_is (line_over ∷ h) c = read_is h c.1
-read_is (wrote n ∷ h) c = read_is h c.1
-read_is (gave_up ∷ h) c = read_is h c.1
-read_is (turned t ∷ h) c = read_is h c.1
+pub read_is : (room : ℕ) (h : Journal) → Conducted room h → read_of h ≡ scanned_of h ++ unscanned_of h
+read_is room [] c = refl
+read_is room (at_port e ∷ h) c = read_is room h c.1
+read_is room (read_some bytes ∷ h) c = ap (λ (t : List ℕ). t ++ bytes) (read_is room h c.1) ∙ append_assoc (scanned_of h) (unscanned_of h) bytes
+read_is room (read_end ∷ h) c = read_is room h c.1
+read_is room (read_failed ∷ h) c = read_is room h c.1
+read_is room (scanned b ∷ h) c = read_is room h c.1 ∙ ap (λ (t : List ℕ). scanned_of h ++ t) c.0.next ∙ sym (append_assoc (scanned_of h) (b ∷ []) (drop 1 (unscanned_of h)))
+read_is room (line_over ∷ h) c = read_is room h c.1
+read_is room (wrote n ∷ h) c = read_is room h c.1
+read_is room (gave_up ∷ h) c = read_is room h c.1
+read_is room (turned t ∷ h) c = read_is room h c.1
 
 -- ---- what is stored of a line, and what is still to be stored, is the line
 
@@ -55,23 +55,23 @@ pub linked_byte : (bytes left : List ℕ) (lines : List (List ℕ)) (raw : List 
 linked_byte bytes left lines raw true none is = linked_line bytes left lines raw none is
 linked_byte bytes left lines raw false none is = is
 
-pub stored_is : (h : Journal) → Conducted h → stored_of h ++ to_store h ≡ on_link (cut_of h)
-stored_is [] c = refl
-stored_is (at_port (stored b) ∷ h) c = append_assoc (stored_of h) (b ∷ []) (drop 1 (to_store h)) ∙ ap (λ (t : List ℕ). stored_of h ++ t) (sym c.0.next) ∙ stored_is h c.1
-stored_is (at_port (dropped b) ∷ h) c = absurd c.0
-stored_is (at_port marked ∷ h) c = stored_is h c.1
-stored_is (at_port (raised b down) ∷ h) c = stored_is h c.1
-stored_is (at_port (got r) ∷ h) c = stored_is h c.1
-stored_is (at_port no_reply ∷ h) c = stored_is h c.1
-stored_is (at_port shut ∷ h) c = stored_is h c.1
-stored_is (read_some bytes ∷ h) c = stored_is h c.1
-stored_is (read_end ∷ h) c = stored_is h c.1
-stored_is (read_failed ∷ h) c = stored_is h c.1
-stored_is (scanned b ∷ h) c = linked_byte (stored_of h) (to_store h) (cut_of h) (raw_of h) (nat_eq b 10) c.0.free (stored_is h c.1)
-stored_is (line_over ∷ h) c = linked_line (stored_of h) (to_store h) (cut_of h) (raw_of h) c.0.free (stored_is h c.1)
-stored_is (wrote n ∷ h) c = stored_is h c.1
-stored_is (gave_up ∷ h) c = stored_is h c.1
-stored_is (turned t ∷ h) c = stored_is h c.1
+pub stored_is : (room : ℕ) (h : Journal) → Conducted room h → stored_of h ++ to_store h ≡ on_link (cut_of h)
+stored_is room [] c = refl
+stored_is room (at_port (stored b) ∷ h) c = append_assoc (stored_of h) (b ∷ []) (drop 1 (to_store h)) ∙ ap (λ (t : List ℕ). stored_of h ++ t) (sym c.0.next) ∙ stored_is room h c.1
+stored_is room (at_port (dropped b) ∷ h) c = absurd c.0
+stored_is room (at_port marked ∷ h) c = stored_is room h c.1
+stored_is room (at_port (raised b down) ∷ h) c = stored_is room h c.1
+stored_is room (at_port (got r) ∷ h) c = stored_is room h c.1
+stored_is room (at_port no_reply ∷ h) c = stored_is room h c.1
+stored_is room (at_port shut ∷ h) c = stored_is room h c.1
+stored_is room (read_some bytes ∷ h) c = stored_is room h c.1
+stored_is room (read_end ∷ h) c = stored_is room h c.1
+stored_is room (read_failed ∷ h) c = stored_is room h c.1
+stored_is room (scanned b ∷ h) c = linked_byte (stored_of h) (to_store h) (cut_of h) (raw_of h) (nat_eq b 10) c.0.free (stored_is room h c.1)
+stored_is room (line_over ∷ h) c = linked_line (stored_of h) (to_store h) (cut_of h) (raw_of h) c.0.free (stored_is room h c.1)
+stored_is room (wrote n ∷ h) c = stored_is room h c.1
+stored_is room (gave_up ∷ h) c = stored_is room h c.1
+stored_is room (turned t ∷ h) c = stored_is room h c.1
 
 -- ---- what is scanned is cut
 
@@ -118,17 +118,17 @@ cut_end : (h : Journal) → reading_of h ≡ Ended → unscanned_of h ≡ [] →
 cut_end h at_end used some (inl is) = inr (record { whole = lines_with (scanned_of h) (cut_of h) (raw_of h) is (some_is (raw_of h) some); none = refl; used = used; at_end = at_end })
 cut_end h at_end used some (inr over) = absurd (some_in (raw_of h) over.none some)
 
-pub cut_is : (h : Journal) → Conducted h → IsCut h
-cut_is [] c = inl cut_none
-cut_is (at_port e ∷ h) c = cut_is h c.1
-cut_is (read_some bytes ∷ h) c = inl (cut_read h (read_some bytes) c.0.0.on (cut_is h c.1))
-cut_is (read_end ∷ h) c = inl (cut_read h read_end c.0.on (cut_is h c.1))
-cut_is (read_failed ∷ h) c = inl (cut_read h read_failed c.0.on (cut_is h c.1))
-cut_is (scanned b ∷ h) c = cut_scan b h c.0 (cut_is h c.1)
-cut_is (line_over ∷ h) c = cut_end h c.0.at_end c.0.used c.0.some (cut_is h c.1)
-cut_is (wrote n ∷ h) c = cut_is h c.1
-cut_is (gave_up ∷ h) c = cut_is h c.1
-cut_is (turned t ∷ h) c = cut_is h c.1
+pub cut_is : (room : ℕ) (h : Journal) → Conducted room h → IsCut h
+cut_is room [] c = inl cut_none
+cut_is room (at_port e ∷ h) c = cut_is room h c.1
+cut_is room (read_some bytes ∷ h) c = inl (cut_read h (read_some bytes) c.0.0.on (cut_is room h c.1))
+cut_is room (read_end ∷ h) c = inl (cut_read h read_end c.0.on (cut_is room h c.1))
+cut_is room (read_failed ∷ h) c = inl (cut_read h read_failed c.0.on (cut_is room h c.1))
+cut_is room (scanned b ∷ h) c = cut_scan b h c.0 (cut_is room h c.1)
+cut_is room (line_over ∷ h) c = cut_end h c.0.at_end c.0.used c.0.some (cut_is room h c.1)
+cut_is room (wrote n ∷ h) c = cut_is room h c.1
+cut_is room (gave_up ∷ h) c = cut_is room h c.1
+cut_is room (turned t ∷ h) c = cut_is room h c.1
 
 -- ---- no line in which the sending ends is cut
 
@@ -136,32 +136,32 @@ sendable_push : (lines : List (List ℕ)) (raw : List ℕ) (t : Bool) → IsSend
 sendable_push lines raw true short all = all_push IsSendable lines raw all short
 sendable_push lines raw false short all = all
 
-pub sendable_is : (h : Journal) → Conducted h → AllByRecursion IsSendable (cut_of h)
-sendable_is [] c = tt
-sendable_is (at_port e ∷ h) c = sendable_is h c.1
-sendable_is (read_some bytes ∷ h) c = sendable_is h c.1
-sendable_is (read_end ∷ h) c = sendable_is h c.1
-sendable_is (read_failed ∷ h) c = sendable_is h c.1
-sendable_is (scanned b ∷ h) c = sendable_push (cut_of h) (raw_of h) (nat_eq b 10) c.0.sends (sendable_is h c.1)
-sendable_is (line_over ∷ h) c = sendable_push (cut_of h) (raw_of h) true c.0.sends (sendable_is h c.1)
-sendable_is (wrote n ∷ h) c = sendable_is h c.1
-sendable_is (gave_up ∷ h) c = sendable_is h c.1
-sendable_is (turned t ∷ h) c = sendable_is h c.1
+pub sendable_is : (room : ℕ) (h : Journal) → Conducted room h → AllByRecursion IsSendable (cut_of h)
+sendable_is room [] c = tt
+sendable_is room (at_port e ∷ h) c = sendable_is room h c.1
+sendable_is room (read_some bytes ∷ h) c = sendable_is room h c.1
+sendable_is room (read_end ∷ h) c = sendable_is room h c.1
+sendable_is room (read_failed ∷ h) c = sendable_is room h c.1
+sendable_is room (scanned b ∷ h) c = sendable_push (cut_of h) (raw_of h) (nat_eq b 10) c.0.sends (sendable_is room h c.1)
+sendable_is room (line_over ∷ h) c = sendable_push (cut_of h) (raw_of h) true c.0.sends (sendable_is room h c.1)
+sendable_is room (wrote n ∷ h) c = sendable_is room h c.1
+sendable_is room (gave_up ∷ h) c = sendable_is room h c.1
+sendable_is room (turned t ∷ h) c = sendable_is room h c.1
 
 -- a test that only lines pass in which the sending ends is passed in what is scanned just where the line in hand passes
-pub any_now : (p : List ℕ → Bool) → p [] ≡ false → ((l : List ℕ) → IsSendable l → p l ≡ false) → (h : Journal) → Conducted h → list_any p (lines_of (scanned_of h)) ≡ p (raw_of h)
-any_now p none weaker h c = by_cut (cut_is h c)
+pub any_now : (room : ℕ) (p : List ℕ → Bool) → p [] ≡ false → ((l : List ℕ) → IsSendable l → p l ≡ false) → (h : Journal) → Conducted room h → list_any p (lines_of (scanned_of h)) ≡ p (raw_of h)
+any_now room p none weaker h c = by_cut (cut_is room h c)
   where
     all : (lines : List (List ℕ)) → AllByRecursion IsSendable lines → AllByRecursion (λ l. p l ≡ false) lines
     all [] h = tt
     all (l ∷ ls) h = (weaker l h.0, all ls h.1)
 
     by_cut : IsCut h → list_any p (lines_of (scanned_of h)) ≡ p (raw_of h)
-    by_cut (inl is) = any_is p none (scanned_of h) (cut_of h) (raw_of h) is (all (cut_of h) (sendable_is h c))
-    by_cut (inr over) = ap (list_any p) over.whole ∙ none_any p (cut_of h) (all (cut_of h) (sendable_is h c)) ∙ sym none ∙ ap p (sym over.none)
+    by_cut (inl is) = any_is p none (scanned_of h) (cut_of h) (raw_of h) is (all (cut_of h) (sendable_is room h c))
+    by_cut (inr over) = ap (list_any p) over.whole ∙ none_any p (cut_of h) (all (cut_of h) (sendable_is room h c)) ∙ sym none ∙ ap p (sym over.none)
 
-pub ends_now : (h : Journal) → Conducted h → ends_in (scanned_of h) ≡ ends_sending (raw_of h)
-ends_now h c = any_now ends_sending none_ends (λ l e. e) h c
+pub ends_now : (room : ℕ) (h : Journal) → Conducted room h → ends_in (scanned_of h) ≡ ends_sending (raw_of h)
+ends_now room h c = any_now room ends_sending none_ends (λ l e. e) h c
 
 -- ---- no byte is scanned behind one with which the sending ends
 
@@ -170,49 +170,49 @@ but_last_is text b =
     let e : length (text ++ b ∷ []) - 1 ≡ length text = (let l = length-append text (b ∷ []) in omega arith) in
     ap (λ n. take n (text ++ b ∷ [])) e ∙ take-append_seam text (b ∷ [])
 
-pub early_is : (h : Journal) → Conducted h → ends_in (but_last (scanned_of h)) ≡ false
-early_is [] c = refl
-early_is (at_port e ∷ h) c = early_is h c.1
-early_is (read_some bytes ∷ h) c = early_is h c.1
-early_is (read_end ∷ h) c = early_is h c.1
-early_is (read_failed ∷ h) c = early_is h c.1
-early_is (scanned b ∷ h) c = ap ends_in (but_last_is (scanned_of h) b) ∙ ends_now h c.1 ∙ c.0.sends
-early_is (line_over ∷ h) c = early_is h c.1
-early_is (wrote n ∷ h) c = early_is h c.1
-early_is (gave_up ∷ h) c = early_is h c.1
-early_is (turned t ∷ h) c = early_is h c.1
+pub early_is : (room : ℕ) (h : Journal) → Conducted room h → ends_in (but_last (scanned_of h)) ≡ false
+early_is room [] c = refl
+early_is room (at_port e ∷ h) c = early_is room h c.1
+early_is room (read_some bytes ∷ h) c = early_is room h c.1
+early_is room (read_end ∷ h) c = early_is room h c.1
+early_is room (read_failed ∷ h) c = early_is room h c.1
+early_is room (scanned b ∷ h) c = ap ends_in (but_last_is (scanned_of h) b) ∙ ends_now room h c.1 ∙ c.0.sends
+early_is room (line_over ∷ h) c = early_is room h c.1
+early_is room (wrote n ∷ h) c = early_is room h c.1
+early_is room (gave_up ∷ h) c = early_is room h c.1
+early_is room (turned t ∷ h) c = early_is room h c.1
 
 -- ---- how much is read and scanned
 
-pub few_scanned : (h : Journal) → Conducted h → length (scanned_of h) ≤ largest_job
-few_scanned [] c = omega arith
-few_scanned (at_port e ∷ h) c = few_scanned h c.1
-few_scanned (read_some bytes ∷ h) c = few_scanned h c.1
-few_scanned (read_end ∷ h) c = few_scanned h c.1
-few_scanned (read_failed ∷ h) c = few_scanned h c.1
-few_scanned (scanned b ∷ h) c = let l = length-append (scanned_of h) (b ∷ []) in let f = c.0.few in omega arith
-few_scanned (line_over ∷ h) c = few_scanned h c.1
-few_scanned (wrote n ∷ h) c = few_scanned h c.1
-few_scanned (gave_up ∷ h) c = few_scanned h c.1
-few_scanned (turned t ∷ h) c = few_scanned h c.1
+pub few_scanned : (room : ℕ) (h : Journal) → Conducted room h → length (scanned_of h) ≤ largest_job
+few_scanned room [] c = omega arith
+few_scanned room (at_port e ∷ h) c = few_scanned room h c.1
+few_scanned room (read_some bytes ∷ h) c = few_scanned room h c.1
+few_scanned room (read_end ∷ h) c = few_scanned room h c.1
+few_scanned room (read_failed ∷ h) c = few_scanned room h c.1
+few_scanned room (scanned b ∷ h) c = let l = length-append (scanned_of h) (b ∷ []) in let f = c.0.few in omega arith
+few_scanned room (line_over ∷ h) c = few_scanned room h c.1
+few_scanned room (wrote n ∷ h) c = few_scanned room h c.1
+few_scanned room (gave_up ∷ h) c = few_scanned room h c.1
+few_scanned room (turned t ∷ h) c = few_scanned room h c.1
 
 -- what is read and not scanned is of one piece
-pub few_unscanned : (h : Journal) → Conducted h → length (unscanned_of h) ≤ largest_piece
-few_unscanned [] c = omega arith
-few_unscanned (at_port e ∷ h) c = few_unscanned h c.1
-few_unscanned (read_some bytes ∷ h) c = let e = ap (λ (t : List ℕ). length (t ++ bytes)) c.0.0.used in let p = c.0.2 in omega arith
-few_unscanned (read_end ∷ h) c = few_unscanned h c.1
-few_unscanned (read_failed ∷ h) c = few_unscanned h c.1
-few_unscanned (scanned b ∷ h) c = let l = ap length c.0.next in let m = few_unscanned h c.1 in omega arith
-few_unscanned (line_over ∷ h) c = few_unscanned h c.1
-few_unscanned (wrote n ∷ h) c = few_unscanned h c.1
-few_unscanned (gave_up ∷ h) c = few_unscanned h c.1
-few_unscanned (turned t ∷ h) c = few_unscanned h c.1
+pub few_unscanned : (room : ℕ) (h : Journal) → Conducted room h → length (unscanned_of h) ≤ largest_piece
+few_unscanned room [] c = omega arith
+few_unscanned room (at_port e ∷ h) c = few_unscanned room h c.1
+few_unscanned room (read_some bytes ∷ h) c = let e = ap (λ (t : List ℕ). length (t ++ bytes)) c.0.0.used in let p = c.0.2 in omega arith
+few_unscanned room (read_end ∷ h) c = few_unscanned room h c.1
+few_unscanned room (read_failed ∷ h) c = few_unscanned room h c.1
+few_unscanned room (scanned b ∷ h) c = let l = ap length c.0.next in let m = few_unscanned room h c.1 in omega arith
+few_unscanned room (line_over ∷ h) c = few_unscanned room h c.1
+few_unscanned room (wrote n ∷ h) c = few_unscanned room h c.1
+few_unscanned room (gave_up ∷ h) c = few_unscanned room h c.1
+few_unscanned room (turned t ∷ h) c = few_unscanned room h c.1
 
 -- a job is read for so many bytes at most
-pub few_read : (h : Journal) → Conducted h → length (read_of h) ≤ length (scanned_of h) + largest_piece
-few_read h c =
-    let e = ap length (read_is h c) in let l = length-append (scanned_of h) (unscanned_of h) in let p = few_unscanned h c in
+pub few_read : (room : ℕ) (h : Journal) → Conducted room h → length (read_of h) ≤ length (scanned_of h) + largest_piece
+few_read room h c =
+    let e = ap length (read_is room h c) in let l = length-append (scanned_of h) (unscanned_of h) in let p = few_unscanned room h c in
     omega arith
 
 fits_read : (n : ℕ) (t : Bool) → n ≤ largest_job + largest_piece → nat_lt largest_job n ≡ t → MayHaveRead (cond t Large Stopped) n
@@ -222,19 +222,19 @@ fits_read n false few e = grind (arith, nat_tests)
 fits_from : (r : Reading) (n : ℕ) → r ≡ Stopped → MayHaveRead r n → n ≤ largest_job
 fits_from r n e f = subst (λ (q : Reading). MayHaveRead q n) e f
 
-pub reading_fits : (h : Journal) → Conducted h → MayHaveRead (reading_of h) (length (read_of h))
-reading_fits [] c = omega arith
-reading_fits (at_port e ∷ h) c = reading_fits h c.1
-reading_fits (read_some bytes ∷ h) c =
-    let few : length (read_of h ++ bytes) ≤ largest_job + largest_piece = (let r = few_read (read_some bytes ∷ h) c in let s = few_scanned h c.1 in omega arith) in
+pub reading_fits : (room : ℕ) (h : Journal) → Conducted room h → MayHaveRead (reading_of h) (length (read_of h))
+reading_fits room [] c = omega arith
+reading_fits room (at_port e ∷ h) c = reading_fits room h c.1
+reading_fits room (read_some bytes ∷ h) c =
+    let few : length (read_of h ++ bytes) ≤ largest_job + largest_piece = (let r = few_read room (read_some bytes ∷ h) c in let s = few_scanned room h c.1 in omega arith) in
     fits_read (length (read_of h ++ bytes)) (nat_lt largest_job (length (read_of h ++ bytes))) few refl
-reading_fits (read_end ∷ h) c = fits_from (reading_of h) (length (read_of h)) c.0.on (reading_fits h c.1)
-reading_fits (read_failed ∷ h) c = fits_from (reading_of h) (length (read_of h)) c.0.on (reading_fits h c.1)
-reading_fits (scanned b ∷ h) c = reading_fits h c.1
-reading_fits (line_over ∷ h) c = reading_fits h c.1
-reading_fits (wrote n ∷ h) c = reading_fits h c.1
-reading_fits (gave_up ∷ h) c = reading_fits h c.1
-reading_fits (turned t ∷ h) c = reading_fits h c.1
+reading_fits room (read_end ∷ h) c = fits_from (reading_of h) (length (read_of h)) c.0.on (reading_fits room h c.1)
+reading_fits room (read_failed ∷ h) c = fits_from (reading_of h) (length (read_of h)) c.0.on (reading_fits room h c.1)
+reading_fits room (scanned b ∷ h) c = reading_fits room h c.1
+reading_fits room (line_over ∷ h) c = reading_fits room h c.1
+reading_fits room (wrote n ∷ h) c = reading_fits room h c.1
+reading_fits room (gave_up ∷ h) c = reading_fits room h c.1
+reading_fits room (turned t ∷ h) c = reading_fits room h c.1
 
 -- ---- a link that is closed has all that is sent, where no alarm was got
 
@@ -255,28 +255,28 @@ calm_before rs r e = by_any (list_any is_limit rs) (list_any is_limit (r ∷ [])
 pub open_link : (h : Journal) {A : Type 0} → is_shut h ≡ false → is_shut h ≡ true → A
 open_link h going closed = absurd (let e = sym going ∙ closed in cc)
 
-pub shut_is : (h : Journal) → Conducted h → is_shut h ≡ true → has_limit h ≡ false → HasSentAll h
-shut_is [] c e calm = absurd cc
-shut_is (at_port (stored b) ∷ h) c e calm = absurd (none_next (to_store h) b (shut_is h c.1 e calm).free c.0.next)
-shut_is (at_port (dropped b) ∷ h) c e calm = absurd c.0
-shut_is (at_port marked ∷ h) c e calm = let s = shut_is h c.1 e calm in record { free = s.free; all = s.all }
-shut_is (at_port (raised b down) ∷ h) c e calm = let s = shut_is h c.1 e calm in record { free = s.free; all = s.all }
-shut_is (at_port (got r) ∷ h) c e calm = let s = shut_is h c.1 e (calm_before (got_of h) r calm) in record { free = s.free; all = s.all }
-shut_is (at_port no_reply ∷ h) c e calm = let s = shut_is h c.1 e calm in record { free = s.free; all = s.all }
-shut_is (at_port shut ∷ h) c e calm = let s = calm_one h calm c.0.sent in record { free = s.free; all = s.all }
-shut_is (read_some bytes ∷ h) c e calm = open_link h c.0.0.going e
-shut_is (read_end ∷ h) c e calm = open_link h c.0.going e
-shut_is (read_failed ∷ h) c e calm = open_link h c.0.going e
-shut_is (scanned b ∷ h) c e calm = open_link h c.0.going e
-shut_is (line_over ∷ h) c e calm = open_link h c.0.going e
-shut_is (wrote n ∷ h) c e calm = let s = shut_is h c.1 e calm in record { free = s.free; all = s.all }
-shut_is (gave_up ∷ h) c e calm = let s = shut_is h c.1 e calm in record { free = s.free; all = s.all }
-shut_is (turned t ∷ h) c e calm = let s = shut_is h c.1 e calm in record { free = s.free; all = s.all }
+pub shut_is : (room : ℕ) (h : Journal) → Conducted room h → is_shut h ≡ true → has_limit h ≡ false → HasSentAll h
+shut_is room [] c e calm = absurd cc
+shut_is room (at_port (stored b) ∷ h) c e calm = absurd (none_next (to_store h) b (shut_is room h c.1 e calm).free c.0.next)
+shut_is room (at_port (dropped b) ∷ h) c e calm = absurd c.0
+shut_is room (at_port marked ∷ h) c e calm = let s = shut_is room h c.1 e calm in record { free = s.free; all = s.all }
+shut_is room (at_port (raised b down) ∷ h) c e calm = let s = shut_is room h c.1 e calm in record { free = s.free; all = s.all }
+shut_is room (at_port (got r) ∷ h) c e calm = let s = shut_is room h c.1 e (calm_before (got_of h) r calm) in record { free = s.free; all = s.all }
+shut_is room (at_port no_reply ∷ h) c e calm = let s = shut_is room h c.1 e calm in record { free = s.free; all = s.all }
+shut_is room (at_port shut ∷ h) c e calm = let s = calm_one h calm c.0.sent in record { free = s.free; all = s.all }
+shut_is room (read_some bytes ∷ h) c e calm = open_link h c.0.0.going e
+shut_is room (read_end ∷ h) c e calm = open_link h c.0.going e
+shut_is room (read_failed ∷ h) c e calm = open_link h c.0.going e
+shut_is room (scanned b ∷ h) c e calm = open_link h c.0.going e
+shut_is room (line_over ∷ h) c e calm = open_link h c.0.going e
+shut_is room (wrote n ∷ h) c e calm = let s = shut_is room h c.1 e calm in record { free = s.free; all = s.all }
+shut_is room (gave_up ∷ h) c e calm = let s = shut_is room h c.1 e calm in record { free = s.free; all = s.all }
+shut_is room (turned t ∷ h) c e calm = let s = shut_is room h c.1 e calm in record { free = s.free; all = s.all }
 
 -- nothing is stored behind the closing
-pub open_is : (b : ℕ) (h : Journal) → Conducted h → has_limit h ≡ false → to_store h ≡ b ∷ drop 1 (to_store h) → is_shut h ≡ false
-open_is b h c calm next = by_shut (is_shut h) refl
+pub open_is : (room : ℕ) (b : ℕ) (h : Journal) → Conducted room h → has_limit h ≡ false → to_store h ≡ b ∷ drop 1 (to_store h) → is_shut h ≡ false
+open_is room b h c calm next = by_shut (is_shut h) refl
   where
     by_shut : (t : Bool) → is_shut h ≡ t → t ≡ false
     by_shut false e = refl
-    by_shut true e = absurd (none_next (to_store h) b (shut_is h c e calm).free next)
+    by_shut true e = absurd (none_next (to_store h) b (shut_is room h c e calm).free next)

@@ -4,7 +4,7 @@ use Rattle.std.specs.List.{AllByRecursion, list_any, take_while}
 use Rattle.std.proofs.lemmas.List.Sums.{take_while-cons}
 use Rattle.std.proofs.lemmas.List.Folds.{list_any-append}
 use Rattle.run_rules.specs.Lines.{CutsInto, HasNoLf, ended, lines_of, whole_lines, onto_line, onto_first}
-use Rattle.run_rules.proofs.Cutting.{lines_are, some_bytes}
+use Rattle.run_rules.proofs.Cutting.{lines_on, wholes_on, lines_are, some_bytes}
 use Rattle.stream_host.specs.declared.Reading.{Reading}
 use Rattle.stream_host.specs.declared.Reading.TheVariants.{Ended, Failed, Large, Stopped}
 use Rattle.stream_host.specs.Links.{on_link}
@@ -48,26 +48,6 @@ none_any p [] h = refl
 none_any p (l ∷ ls) h = rw h.0 (none_any p ls h.1)
 
 -- ---- a text that begins with lines
-
-line_first : (xs rest : List ℕ) → HasNoLf xs → lines_of (xs ++ 10 ∷ rest) ≡ xs ∷ lines_of rest
-line_first [] rest h = refl
-line_first (c ∷ cs) rest h = rw h.0 (ap (onto_first c) (line_first cs rest h.1))
-
-whole_first : (xs rest : List ℕ) → HasNoLf xs → whole_lines (xs ++ 10 ∷ rest) ≡ xs ∷ whole_lines rest
-whole_first [] rest h = refl
-whole_first (c ∷ cs) rest h = rw h.0 (ap (onto_line c) (whole_first cs rest h.1))
-
-lines_on : (lines : List (List ℕ)) (xs : List ℕ) → AllByRecursion HasNoLf lines → lines_of (ended lines ++ xs) ≡ lines ++ lines_of xs
-lines_on [] xs h = refl
-lines_on (l ∷ ls) xs h =
-    ap lines_of (append_assoc (l ++ 10 ∷ []) (ended ls) xs ∙ append_assoc l (10 ∷ []) (ended ls ++ xs))
-    ∙ line_first l (ended ls ++ xs) h.0 ∙ ap (λ (r : List (List ℕ)). l ∷ r) (lines_on ls xs h.1)
-
-pub wholes_on : (lines : List (List ℕ)) (xs : List ℕ) → AllByRecursion HasNoLf lines → whole_lines (ended lines ++ xs) ≡ lines ++ whole_lines xs
-wholes_on [] xs h = refl
-wholes_on (l ∷ ls) xs h =
-    ap whole_lines (append_assoc (l ++ 10 ∷ []) (ended ls) xs ∙ append_assoc l (10 ∷ []) (ended ls ++ xs))
-    ∙ whole_first l (ended ls ++ xs) h.0 ∙ ap (λ (r : List (List ℕ)). l ∷ r) (wholes_on ls xs h.1)
 
 pub read_on : (r : Reading) (lines : List (List ℕ)) (xs : List ℕ) → AllByRecursion HasNoLf lines → lines_read r (ended lines ++ xs) ≡ lines ++ lines_read r xs
 read_on Ended lines xs h = lines_on lines xs h

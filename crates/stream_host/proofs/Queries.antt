@@ -10,7 +10,7 @@ use Rattle.realtime_flags.proofs.Bits.{one_more}
 use Rattle.stream_host.specs.Ports.{queries_in}
 use Rattle.stream_host.specs.Raises.{raised_to, raises_in}
 use Rattle.stream_host.specs.Steps.{HostLog}
-use Rattle.stream_host.specs.Steps.PortStep.{stored, dropped, marked, raised, got, no_reply, shut}
+use Rattle.stream_host.specs.Steps.PortStep.{raised}
 
 -- whether a flag asks for a report
 abbrev pub asks : Option Flag → Bool
@@ -39,10 +39,5 @@ raised_more (Some f) down t rs q same le = one_more (is_flag report_flag f) t _ 
 -- reports were asked for no more often than `?` was raised
 pub few_queries : (h : HostLog) → raises_of report_flag (raises_in h) ≤ queries_in h
 few_queries [] = omega arith
-few_queries (stored b ∷ h) = few_queries h
-few_queries (dropped b ∷ h) = few_queries h
-few_queries (marked ∷ h) = few_queries h
 few_queries (raised b down ∷ h) = raised_more (flag_of_byte b) down (nat_eq b query) (raises_in h) (queries_in h) (only_query b) (few_queries h)
-few_queries (got r ∷ h) = few_queries h
-few_queries (no_reply ∷ h) = few_queries h
-few_queries (shut ∷ h) = few_queries h
+few_queries (_ ∷ h) = few_queries h

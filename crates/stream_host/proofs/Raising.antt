@@ -79,46 +79,46 @@ few_or_none true n few = omega arith
 few_or_none false n few = few
 
 -- no more than so many polls in a row find no reply before the host resumes
-pub few_polls : (h : Journal) → Conducted h → polls_of h ≤ empty_polls
-few_polls [] c = omega arith
-few_polls (at_port (stored b) ∷ h) c = few_polls h c.1
-few_polls (at_port (dropped b) ∷ h) c = absurd c.0
-few_polls (at_port marked ∷ h) c = few_polls h c.1
-few_polls (at_port (raised b down) ∷ h) c = few_or_none (nat_eq (polls_of h) empty_polls) (polls_of h) (few_polls h c.1)
-few_polls (at_port (got r) ∷ h) c = omega arith
-few_polls (at_port no_reply ∷ h) c = let r = c.0.rested in omega arith
-few_polls (at_port shut ∷ h) c = few_polls h c.1
-few_polls (read_some bytes ∷ h) c = few_polls h c.1
-few_polls (read_end ∷ h) c = few_polls h c.1
-few_polls (read_failed ∷ h) c = few_polls h c.1
-few_polls (scanned b ∷ h) c = few_polls h c.1
-few_polls (line_over ∷ h) c = few_polls h c.1
-few_polls (wrote n ∷ h) c = few_polls h c.1
-few_polls (gave_up ∷ h) c = few_polls h c.1
-few_polls (turned t ∷ h) c = few_polls h c.1
+pub few_polls : (room : ℕ) (h : Journal) → Conducted room h → polls_of h ≤ empty_polls
+few_polls room [] c = omega arith
+few_polls room (at_port (stored b) ∷ h) c = few_polls room h c.1
+few_polls room (at_port (dropped b) ∷ h) c = absurd c.0
+few_polls room (at_port marked ∷ h) c = few_polls room h c.1
+few_polls room (at_port (raised b down) ∷ h) c = few_or_none (nat_eq (polls_of h) empty_polls) (polls_of h) (few_polls room h c.1)
+few_polls room (at_port (got r) ∷ h) c = omega arith
+few_polls room (at_port no_reply ∷ h) c = let r = c.0.rested in omega arith
+few_polls room (at_port shut ∷ h) c = few_polls room h c.1
+few_polls room (read_some bytes ∷ h) c = few_polls room h c.1
+few_polls room (read_end ∷ h) c = few_polls room h c.1
+few_polls room (read_failed ∷ h) c = few_polls room h c.1
+few_polls room (scanned b ∷ h) c = few_polls room h c.1
+few_polls room (line_over ∷ h) c = few_polls room h c.1
+few_polls room (wrote n ∷ h) c = few_polls room h c.1
+few_polls room (gave_up ∷ h) c = few_polls room h c.1
+few_polls room (turned t ∷ h) c = few_polls room h c.1
 
 rested_by : (t : Bool) (polls resumes empty : ℕ) → nat_eq polls empty_polls ≡ t → empty_polls * resumes + polls ≤ empty → empty_polls * cond t (resumes + 1) resumes + cond t 0 polls ≤ empty
 rested_by true polls resumes empty e was = let n = is_enough polls e in omega arith
 rested_by false polls resumes empty e was = was
 
 -- so many polls of its own stand before each resume
-pub rested_is : (h : Journal) → Conducted h → empty_polls * resumes_of h + polls_of h ≤ all_empty_in (port_log h)
-rested_is [] c = omega arith
-rested_is (at_port (stored b) ∷ h) c = rested_is h c.1
-rested_is (at_port (dropped b) ∷ h) c = absurd c.0
-rested_is (at_port marked ∷ h) c = rested_is h c.1
-rested_is (at_port (raised b down) ∷ h) c = rested_by (nat_eq (polls_of h) empty_polls) (polls_of h) (resumes_of h) (all_empty_in (port_log h)) refl (rested_is h c.1)
-rested_is (at_port (got r) ∷ h) c = let m = rested_is h c.1 in omega arith
-rested_is (at_port no_reply ∷ h) c = let m = rested_is h c.1 in omega arith
-rested_is (at_port shut ∷ h) c = rested_is h c.1
-rested_is (read_some bytes ∷ h) c = rested_is h c.1
-rested_is (read_end ∷ h) c = rested_is h c.1
-rested_is (read_failed ∷ h) c = rested_is h c.1
-rested_is (scanned b ∷ h) c = rested_is h c.1
-rested_is (line_over ∷ h) c = rested_is h c.1
-rested_is (wrote n ∷ h) c = rested_is h c.1
-rested_is (gave_up ∷ h) c = rested_is h c.1
-rested_is (turned t ∷ h) c = rested_is h c.1
+pub rested_is : (room : ℕ) (h : Journal) → Conducted room h → empty_polls * resumes_of h + polls_of h ≤ all_empty_in (port_log h)
+rested_is room [] c = omega arith
+rested_is room (at_port (stored b) ∷ h) c = rested_is room h c.1
+rested_is room (at_port (dropped b) ∷ h) c = absurd c.0
+rested_is room (at_port marked ∷ h) c = rested_is room h c.1
+rested_is room (at_port (raised b down) ∷ h) c = rested_by (nat_eq (polls_of h) empty_polls) (polls_of h) (resumes_of h) (all_empty_in (port_log h)) refl (rested_is room h c.1)
+rested_is room (at_port (got r) ∷ h) c = let m = rested_is room h c.1 in omega arith
+rested_is room (at_port no_reply ∷ h) c = let m = rested_is room h c.1 in omega arith
+rested_is room (at_port shut ∷ h) c = rested_is room h c.1
+rested_is room (read_some bytes ∷ h) c = rested_is room h c.1
+rested_is room (read_end ∷ h) c = rested_is room h c.1
+rested_is room (read_failed ∷ h) c = rested_is room h c.1
+rested_is room (scanned b ∷ h) c = rested_is room h c.1
+rested_is room (line_over ∷ h) c = rested_is room h c.1
+rested_is room (wrote n ∷ h) c = rested_is room h c.1
+rested_is room (gave_up ∷ h) c = rested_is room h c.1
+rested_is room (turned t ∷ h) c = rested_is room h c.1
 
 -- ---- what is raised for the lines is what is scanned, but for what is due
 
@@ -142,28 +142,28 @@ on_byte b gone due raw lines false e was =
     sym (append_assoc gone due (more_served raw b)) ∙ ap (λ (t : List ℕ). t ++ more_served raw b) was
     ∙ append_assoc (flat_map served lines) (served raw) (more_served raw b) ∙ ap (λ (t : List ℕ). flat_map served lines ++ t) (served_on raw b)
 
-in_lines : (h : Journal) → Conducted h → line_raises_of h ++ due_of h ≡ flat_map served (cut_of h) ++ served (raw_of h)
-in_lines [] c = sym served_nil
-in_lines (at_port (stored b) ∷ h) c = in_lines h c.1
-in_lines (at_port (dropped b) ∷ h) c = absurd c.0
-in_lines (at_port marked ∷ h) c = in_lines h c.1
-in_lines (at_port (raised b down) ∷ h) c =
-    on_raise b (polls_of h) (nat_eq (polls_of h) empty_polls) (line_raises_of h) (due_of h) (flat_map served (cut_of h) ++ served (raw_of h)) refl (few_polls h c.1) c.0.next (in_lines h c.1)
-in_lines (at_port (got r) ∷ h) c = in_lines h c.1
-in_lines (at_port no_reply ∷ h) c = in_lines h c.1
-in_lines (at_port shut ∷ h) c = in_lines h c.1
-in_lines (read_some bytes ∷ h) c = in_lines h c.1
-in_lines (read_end ∷ h) c = in_lines h c.1
-in_lines (read_failed ∷ h) c = in_lines h c.1
-in_lines (scanned b ∷ h) c = on_byte b (line_raises_of h) (due_of h) (raw_of h) (cut_of h) (nat_eq b 10) refl (in_lines h c.1)
-in_lines (line_over ∷ h) c = in_lines h c.1 ∙ sym (served_line (cut_of h) (raw_of h))
-in_lines (wrote n ∷ h) c = in_lines h c.1
-in_lines (gave_up ∷ h) c = in_lines h c.1
-in_lines (turned t ∷ h) c = in_lines h c.1
+in_lines : (room : ℕ) (h : Journal) → Conducted room h → line_raises_of h ++ due_of h ≡ flat_map served (cut_of h) ++ served (raw_of h)
+in_lines room [] c = sym served_nil
+in_lines room (at_port (stored b) ∷ h) c = in_lines room h c.1
+in_lines room (at_port (dropped b) ∷ h) c = absurd c.0
+in_lines room (at_port marked ∷ h) c = in_lines room h c.1
+in_lines room (at_port (raised b down) ∷ h) c =
+    on_raise b (polls_of h) (nat_eq (polls_of h) empty_polls) (line_raises_of h) (due_of h) (flat_map served (cut_of h) ++ served (raw_of h)) refl (few_polls room h c.1) c.0.next (in_lines room h c.1)
+in_lines room (at_port (got r) ∷ h) c = in_lines room h c.1
+in_lines room (at_port no_reply ∷ h) c = in_lines room h c.1
+in_lines room (at_port shut ∷ h) c = in_lines room h c.1
+in_lines room (read_some bytes ∷ h) c = in_lines room h c.1
+in_lines room (read_end ∷ h) c = in_lines room h c.1
+in_lines room (read_failed ∷ h) c = in_lines room h c.1
+in_lines room (scanned b ∷ h) c = on_byte b (line_raises_of h) (due_of h) (raw_of h) (cut_of h) (nat_eq b 10) refl (in_lines room h c.1)
+in_lines room (line_over ∷ h) c = in_lines room h c.1 ∙ sym (served_line (cut_of h) (raw_of h))
+in_lines room (wrote n ∷ h) c = in_lines room h c.1
+in_lines room (gave_up ∷ h) c = in_lines room h c.1
+in_lines room (turned t ∷ h) c = in_lines room h c.1
 
 -- the bytes that stood in a line are raised in order, and the rest is due
-pub in_order : (h : Journal) → Conducted h → line_raises_of h ++ due_of h ≡ served_in (scanned_of h)
-in_order h c = in_lines h c ∙ by_cut (cut_is h c)
+pub in_order : (room : ℕ) (h : Journal) → Conducted room h → line_raises_of h ++ due_of h ≡ served_in (scanned_of h)
+in_order room h c = in_lines room h c ∙ by_cut (cut_is room h c)
   where
     last : (raw : List ℕ) → flat_map served (cond (nat_lt 0 (length raw)) (raw ∷ []) []) ≡ served raw
     last [] = sym served_nil
@@ -193,32 +193,32 @@ resumed_by p b polls resumes true u all gone e is pass was =
     by_pass false pass was = let one = ap (λ x. cond {A = ℕ} x 1 0) pass in omega arith
 resumed_by p b polls resumes false u all gone e is pass was = let a = count_on p all (b ∷ []) in let g = count_on p gone (b ∷ []) in omega arith
 
-with_resumes : (p : ℕ → Bool) (h : Journal) → Conducted h → count_by p (raises_of h) ≡ count_by p (line_raises_of h) + cond (p resume) (resumes_of h) 0
-with_resumes p [] c = none (p resume)
+with_resumes : (room : ℕ) (p : ℕ → Bool) (h : Journal) → Conducted room h → count_by p (raises_of h) ≡ count_by p (line_raises_of h) + cond (p resume) (resumes_of h) 0
+with_resumes room p [] c = none (p resume)
   where
     none : (u : Bool) → 0 ≡ 0 + cond u 0 0
     none true = refl
     none false = refl
-with_resumes p (at_port (stored b) ∷ h) c = with_resumes p h c.1
-with_resumes p (at_port (dropped b) ∷ h) c = absurd c.0
-with_resumes p (at_port marked ∷ h) c = with_resumes p h c.1
-with_resumes p (at_port (raised b down) ∷ h) c =
-    resumed_by p b (polls_of h) (resumes_of h) (nat_eq (polls_of h) empty_polls) (p resume) (raises_of h) (line_raises_of h) refl c.0.resumes refl (with_resumes p h c.1)
-with_resumes p (at_port (got r) ∷ h) c = with_resumes p h c.1
-with_resumes p (at_port no_reply ∷ h) c = with_resumes p h c.1
-with_resumes p (at_port shut ∷ h) c = with_resumes p h c.1
-with_resumes p (read_some bytes ∷ h) c = with_resumes p h c.1
-with_resumes p (read_end ∷ h) c = with_resumes p h c.1
-with_resumes p (read_failed ∷ h) c = with_resumes p h c.1
-with_resumes p (scanned b ∷ h) c = with_resumes p h c.1
-with_resumes p (line_over ∷ h) c = with_resumes p h c.1
-with_resumes p (wrote n ∷ h) c = with_resumes p h c.1
-with_resumes p (gave_up ∷ h) c = with_resumes p h c.1
-with_resumes p (turned t ∷ h) c = with_resumes p h c.1
+with_resumes room p (at_port (stored b) ∷ h) c = with_resumes room p h c.1
+with_resumes room p (at_port (dropped b) ∷ h) c = absurd c.0
+with_resumes room p (at_port marked ∷ h) c = with_resumes room p h c.1
+with_resumes room p (at_port (raised b down) ∷ h) c =
+    resumed_by p b (polls_of h) (resumes_of h) (nat_eq (polls_of h) empty_polls) (p resume) (raises_of h) (line_raises_of h) refl c.0.resumes refl (with_resumes room p h c.1)
+with_resumes room p (at_port (got r) ∷ h) c = with_resumes room p h c.1
+with_resumes room p (at_port no_reply ∷ h) c = with_resumes room p h c.1
+with_resumes room p (at_port shut ∷ h) c = with_resumes room p h c.1
+with_resumes room p (read_some bytes ∷ h) c = with_resumes room p h c.1
+with_resumes room p (read_end ∷ h) c = with_resumes room p h c.1
+with_resumes room p (read_failed ∷ h) c = with_resumes room p h c.1
+with_resumes room p (scanned b ∷ h) c = with_resumes room p h c.1
+with_resumes room p (line_over ∷ h) c = with_resumes room p h c.1
+with_resumes room p (wrote n ∷ h) c = with_resumes room p h c.1
+with_resumes room p (gave_up ∷ h) c = with_resumes room p h c.1
+with_resumes room p (turned t ∷ h) c = with_resumes room p h c.1
 
-pub raised_is : (h : Journal) → Conducted h → AreRaised (scanned_of h) (raises_of h) (due_of h) (resumes_of h)
-raised_is h c p =
-    let w = with_resumes p h c in let s = ap (count_by p) (in_order h c) in let a = count_on p (line_raises_of h) (due_of h) in omega arith
+pub raised_is : (room : ℕ) (h : Journal) → Conducted room h → AreRaised (scanned_of h) (raises_of h) (due_of h) (resumes_of h)
+raised_is room h c p =
+    let w = with_resumes room p h c in let s = ap (count_by p) (in_order room h c) in let a = count_on p (line_raises_of h) (due_of h) in omega arith
 
 -- ---- where nothing is due
 
@@ -234,53 +234,53 @@ none_more : (raw : List ℕ) (b : ℕ) (due left line : List ℕ) (t : Bool) →
 none_more raw b due left line true e free none = inr (ap (λ (d : List ℕ). d ++ more_served raw b) none ∙ none_at_lf raw b e)
 none_more raw b due left line false e free none = inl free
 
-pub calm_is : (h : Journal) → Conducted h → IsCalm h
-calm_is [] c = inl refl
-calm_is (at_port (stored b) ∷ h) c = elim (calm_is h c.1) [
+pub calm_is : (room : ℕ) (h : Journal) → Conducted room h → IsCalm h
+calm_is room [] c = inl refl
+calm_is room (at_port (stored b) ∷ h) c = elim (calm_is room h c.1) [
   | inl free ↦ inl (ap (drop 1) free)
   | inr none ↦ inr none
 ]
-calm_is (at_port (dropped b) ∷ h) c = absurd c.0
-calm_is (at_port marked ∷ h) c = calm_is h c.1
-calm_is (at_port (raised b down) ∷ h) c = elim (calm_is h c.1) [
+calm_is room (at_port (dropped b) ∷ h) c = absurd c.0
+calm_is room (at_port marked ∷ h) c = calm_is room h c.1
+calm_is room (at_port (raised b down) ∷ h) c = elim (calm_is room h c.1) [
   | inl free ↦ inl free
   | inr none ↦ inr (still_none (resumes_next (port_log h)) (due_of h) none)
 ]
-calm_is (at_port (got r) ∷ h) c = calm_is h c.1
-calm_is (at_port no_reply ∷ h) c = calm_is h c.1
-calm_is (at_port shut ∷ h) c = calm_is h c.1
-calm_is (read_some bytes ∷ h) c = calm_is h c.1
-calm_is (read_end ∷ h) c = calm_is h c.1
-calm_is (read_failed ∷ h) c = calm_is h c.1
-calm_is (scanned b ∷ h) c = none_more (raw_of h) b (due_of h) (to_store h) _ (nat_eq b 10) refl c.0.free c.0.none_due
-calm_is (line_over ∷ h) c = inr c.0.none_due
-calm_is (wrote n ∷ h) c = calm_is h c.1
-calm_is (gave_up ∷ h) c = calm_is h c.1
-calm_is (turned t ∷ h) c = calm_is h c.1
+calm_is room (at_port (got r) ∷ h) c = calm_is room h c.1
+calm_is room (at_port no_reply ∷ h) c = calm_is room h c.1
+calm_is room (at_port shut ∷ h) c = calm_is room h c.1
+calm_is room (read_some bytes ∷ h) c = calm_is room h c.1
+calm_is room (read_end ∷ h) c = calm_is room h c.1
+calm_is room (read_failed ∷ h) c = calm_is room h c.1
+calm_is room (scanned b ∷ h) c = none_more (raw_of h) b (due_of h) (to_store h) _ (nat_eq b 10) refl c.0.free c.0.none_due
+calm_is room (line_over ∷ h) c = inr c.0.none_due
+calm_is room (wrote n ∷ h) c = calm_is room h c.1
+calm_is room (gave_up ∷ h) c = calm_is room h c.1
+calm_is room (turned t ∷ h) c = calm_is room h c.1
 
-pub none_due_first : (b : ℕ) (h : Journal) → Conducted h → MayStore b h → due_of h ≡ []
-none_due_first b h c may = elim (calm_is h c) [
+pub none_due_first : (room : ℕ) (b : ℕ) (h : Journal) → Conducted room h → MayStore room b h → due_of h ≡ []
+none_due_first room b h c may = elim (calm_is room h c) [
   | inl free ↦ absurd (let e = sym free ∙ may.next in cc)
   | inr none ↦ none
 ]
 
-pub none_due_shut : (h : Journal) → Conducted h → is_shut h ≡ true → has_limit h ≡ false → due_of h ≡ []
-none_due_shut [] c e calm = absurd cc
-none_due_shut (at_port (stored b) ∷ h) c e calm = none_due_shut h c.1 e calm
-none_due_shut (at_port (dropped b) ∷ h) c e calm = absurd c.0
-none_due_shut (at_port marked ∷ h) c e calm = none_due_shut h c.1 e calm
-none_due_shut (at_port (raised b down) ∷ h) c e calm = still_none (resumes_next (port_log h)) (due_of h) (none_due_shut h c.1 e calm)
-none_due_shut (at_port (got r) ∷ h) c e calm = none_due_shut h c.1 e (calm_before (got_of h) r calm)
-none_due_shut (at_port no_reply ∷ h) c e calm = none_due_shut h c.1 e calm
-none_due_shut (at_port shut ∷ h) c e calm = calm_one h calm c.0.all_raised
-none_due_shut (read_some bytes ∷ h) c e calm = open_link h c.0.0.going e
-none_due_shut (read_end ∷ h) c e calm = open_link h c.0.going e
-none_due_shut (read_failed ∷ h) c e calm = open_link h c.0.going e
-none_due_shut (scanned b ∷ h) c e calm = open_link h c.0.going e
-none_due_shut (line_over ∷ h) c e calm = open_link h c.0.going e
-none_due_shut (wrote n ∷ h) c e calm = none_due_shut h c.1 e calm
-none_due_shut (gave_up ∷ h) c e calm = none_due_shut h c.1 e calm
-none_due_shut (turned t ∷ h) c e calm = none_due_shut h c.1 e calm
+pub none_due_shut : (room : ℕ) (h : Journal) → Conducted room h → is_shut h ≡ true → has_limit h ≡ false → due_of h ≡ []
+none_due_shut room [] c e calm = absurd cc
+none_due_shut room (at_port (stored b) ∷ h) c e calm = none_due_shut room h c.1 e calm
+none_due_shut room (at_port (dropped b) ∷ h) c e calm = absurd c.0
+none_due_shut room (at_port marked ∷ h) c e calm = none_due_shut room h c.1 e calm
+none_due_shut room (at_port (raised b down) ∷ h) c e calm = still_none (resumes_next (port_log h)) (due_of h) (none_due_shut room h c.1 e calm)
+none_due_shut room (at_port (got r) ∷ h) c e calm = none_due_shut room h c.1 e (calm_before (got_of h) r calm)
+none_due_shut room (at_port no_reply ∷ h) c e calm = none_due_shut room h c.1 e calm
+none_due_shut room (at_port shut ∷ h) c e calm = calm_one h calm c.0.all_raised
+none_due_shut room (read_some bytes ∷ h) c e calm = open_link h c.0.0.going e
+none_due_shut room (read_end ∷ h) c e calm = open_link h c.0.going e
+none_due_shut room (read_failed ∷ h) c e calm = open_link h c.0.going e
+none_due_shut room (scanned b ∷ h) c e calm = open_link h c.0.going e
+none_due_shut room (line_over ∷ h) c e calm = open_link h c.0.going e
+none_due_shut room (wrote n ∷ h) c e calm = none_due_shut room h c.1 e calm
+none_due_shut room (gave_up ∷ h) c e calm = none_due_shut room h c.1 e calm
+none_due_shut room (turned t ∷ h) c e calm = none_due_shut room h c.1 e calm
 
 resumes_only : waits_for_lines resume ≡ true → ⊥
 resumes_only e = cc
@@ -289,12 +289,12 @@ no_reset : is_reset resume ≡ true → ⊥
 no_reset e = cc
 
 -- a host that waits may raise no byte that is due: it is a `?` or a cancel, and a line before its own has no answer
-pub early_waiting : (b : ℕ) (h : Journal) → Conducted h → has_limit h ≡ false → Waits h → due_of h ≡ b ∷ drop 1 (due_of h) → (waits_for_lines b ≡ true → AreAnswered h) → (is_reset b ≡ true → resets_of h < length (marks_of h)) → ⊥
-early_waiting b h c calm w next after behind = by_polls (nat_eq (polls_of h) empty_polls) refl
+pub early_waiting : (room : ℕ) (b : ℕ) (h : Journal) → Conducted room h → has_limit h ≡ false → Waits room h → due_of h ≡ b ∷ drop 1 (due_of h) → (waits_for_lines b ≡ true → AreAnswered h) → (is_reset b ≡ true → resets_of h < length (marks_of h)) → ⊥
+early_waiting room b h c calm w next after behind = by_polls (nat_eq (polls_of h) empty_polls) refl
   where
     by_polls : (t : Bool) → nat_eq (polls_of h) empty_polls ≡ t → ⊥
     by_polls true e = w.no_raise resume (record { resumes = λ n. refl; calm = λ fewer. calm; next = λ fewer. absurd (let n = is_enough (polls_of h) e in omega arith); after = λ q. absurd (resumes_only q); behind_mark = λ q. absurd (no_reset q) })
-    by_polls false e = w.no_raise b (record { resumes = λ n. absurd (let m = is_fewer (polls_of h) (few_polls h c) e in omega arith); calm = λ fewer. calm; next = λ fewer. next; after = after; behind_mark = behind })
+    by_polls false e = w.no_raise b (record { resumes = λ n. absurd (let m = is_fewer (polls_of h) (few_polls room h c) e in omega arith); calm = λ fewer. calm; next = λ fewer. next; after = after; behind_mark = behind })
 
 -- ---- the reports that are asked for
 
@@ -324,24 +324,24 @@ asked_by b n all false true due is tired next was = let l = ap length (next refl
 asked_by b n all false false due is tired next was = let l = ap length (next refl) in omega arith
 
 -- each `?` that is raised is scanned, and so is what is due
-pub few_queries : (h : Journal) → Conducted h → queries_in (port_log h) + length (due_of h) ≤ length (scanned_of h)
-few_queries [] c = omega arith
-few_queries (at_port (stored b) ∷ h) c = few_queries h c.1
-few_queries (at_port (dropped b) ∷ h) c = absurd c.0
-few_queries (at_port marked ∷ h) c = few_queries h c.1
-few_queries (at_port (raised b down) ∷ h) c =
+pub few_queries : (room : ℕ) (h : Journal) → Conducted room h → queries_in (port_log h) + length (due_of h) ≤ length (scanned_of h)
+few_queries room [] c = omega arith
+few_queries room (at_port (stored b) ∷ h) c = few_queries room h c.1
+few_queries room (at_port (dropped b) ∷ h) c = absurd c.0
+few_queries room (at_port marked ∷ h) c = few_queries room h c.1
+few_queries room (at_port (raised b down) ∷ h) c =
     asked_by b (queries_in (port_log h)) (length (scanned_of h)) (nat_eq (polls_of h) empty_polls) (nat_eq b query) (due_of h) refl
-    (λ e. c.0.resumes (is_enough (polls_of h) e)) (λ e. c.0.next (is_fewer (polls_of h) (few_polls h c.1) e)) (few_queries h c.1)
-few_queries (at_port (got r) ∷ h) c = few_queries h c.1
-few_queries (at_port no_reply ∷ h) c = few_queries h c.1
-few_queries (at_port shut ∷ h) c = few_queries h c.1
-few_queries (read_some bytes ∷ h) c = few_queries h c.1
-few_queries (read_end ∷ h) c = few_queries h c.1
-few_queries (read_failed ∷ h) c = few_queries h c.1
-few_queries (scanned b ∷ h) c =
-    let m = few_queries h c.1 in let o = one_more (raw_of h) b in
+    (λ e. c.0.resumes (is_enough (polls_of h) e)) (λ e. c.0.next (is_fewer (polls_of h) (few_polls room h c.1) e)) (few_queries room h c.1)
+few_queries room (at_port (got r) ∷ h) c = few_queries room h c.1
+few_queries room (at_port no_reply ∷ h) c = few_queries room h c.1
+few_queries room (at_port shut ∷ h) c = few_queries room h c.1
+few_queries room (read_some bytes ∷ h) c = few_queries room h c.1
+few_queries room (read_end ∷ h) c = few_queries room h c.1
+few_queries room (read_failed ∷ h) c = few_queries room h c.1
+few_queries room (scanned b ∷ h) c =
+    let m = few_queries room h c.1 in let o = one_more (raw_of h) b in
     let a = length-append (due_of h) (more_served (raw_of h) b) in let s = length-append (scanned_of h) (b ∷ []) in omega arith
-few_queries (line_over ∷ h) c = few_queries h c.1
-few_queries (wrote n ∷ h) c = few_queries h c.1
-few_queries (gave_up ∷ h) c = few_queries h c.1
-few_queries (turned t ∷ h) c = few_queries h c.1
+few_queries room (line_over ∷ h) c = few_queries room h c.1
+few_queries room (wrote n ∷ h) c = few_queries room h c.1
+few_queries room (gave_up ∷ h) c = few_queries room h c.1
+few_queries room (turned t ∷ h) c = few_queries room h c.1

@@ -39,16 +39,9 @@ use Rattle.stream_host.proofs.Epochs.{all_lines, answered_live, banner_test, beg
 -- ---- a reply
 
 pub is_no_answer : (r : Reply) → (r ≡ replies.Ok → ⊥) → ((n : ℕ) → r ≡ replies.Error n → ⊥) → (is_answer r ≡ false) × (is_error r ≡ false)
-is_no_answer replies.Banner o e = (refl, refl)
 is_no_answer replies.Ok o e = absurd (o refl)
 is_no_answer (replies.Error n) o e = absurd (e n refl)
-is_no_answer (replies.Alarm n) o e = (refl, refl)
-is_no_answer (replies.Message m) o e = (refl, refl)
-is_no_answer (replies.Report t) o e = (refl, refl)
-is_no_answer (replies.Setting n v) o e = (refl, refl)
-is_no_answer (replies.Modes m) o e = (refl, refl)
-is_no_answer (replies.Offset row at) o e = (refl, refl)
-is_no_answer replies.Bye o e = (refl, refl)
+is_no_answer _ o e = (refl, refl)
 
 errors_push : (rs : List Reply) (r : Reply) → errors_among (rs ++ r ∷ []) ≡ errors_among rs + cond {A = ℕ} (is_error r) 1 0
 errors_push rs r = let e = sum_by-append (λ x. cond {A = ℕ} (is_error x) 1 0) rs (r ∷ []) in omega arith
@@ -87,9 +80,9 @@ counted_other c r cuts rs k is none =
     }
 
 -- the numbers fit
-pub few_counted : (s : Host) (h : Journal) → HostFits s h → (s.counts.answered + 1 < 2 ^ 32) × (s.counts.errors + 1 < 2 ^ 32)
-few_counted s h f =
-    let n = sending.counts_are h f.conducted in let a = n.0 in let b = n.1 in let d = n.2 in let every = all_lines h f.conducted in
+pub few_counted : {room : ℕ} (s : Host) (h : Journal) → HostFits room s h → (s.counts.answered + 1 < 2 ^ 32) × (s.counts.errors + 1 < 2 ^ 32)
+few_counted {room} s h f =
+    let n = sending.counts_are room h f.conducted in let a = n.0 in let b = n.1 in let d = n.2 in let every = all_lines room h f.conducted in
     let e = f.counts_are.answered_is in let g = f.counts_are.errors_are in (omega arith, omega arith)
 
 text_push : (rs : List Reply) (r : Reply) → replies_text (rs ++ r ∷ []) ≡ replies_text rs ++ reply_text r
@@ -123,8 +116,8 @@ shown_asked v r bye none is = by_bye (is_bye r) (ap (λ b. b || is_bye r) (sym n
     by_bye true e = refl
     by_bye false e = absurd cc
 
-got_text : (s : Host) (w : Writing) (r : Reply) (h : Journal) → HostFits s h → s.bye ≡ false → w ≡ shown s.text r → KeepsText w (text_of (at_port (got r) ∷ h)) (written_of h) (has_given_up h) (has_bye (at_port (got r) ∷ h))
-got_text s w r h f going is = record {
+got_text : {room : ℕ} (s : Host) (w : Writing) (r : Reply) (h : Journal) → HostFits room s h → s.bye ≡ false → w ≡ shown s.text r → KeepsText w (text_of (at_port (got r) ∷ h)) (written_of h) (has_given_up h) (has_bye (at_port (got r) ∷ h))
+got_text {room} s w r h f going is = record {
   failed_is = ap (λ v. v.failed) is ∙ shown_failed s.text r ∙ f.text_is.failed_is;
   waits = λ e.
       let well : s.text.failed ≡ false = sym (ap (λ v. v.failed) is ∙ shown_failed s.text r) ∙ e in
@@ -157,11 +150,11 @@ pub record IsTurned (s t : Host) (r : Reply) (h : Journal) : Type 0 where
   pub held : t.held ≡ holds_of (at_port (got r) ∷ h)
   pub resets : KeepsResets t.resets (resets_of h) (banners_of (at_port (got r) ∷ h)) (length (marks_of h))
 
-begins_same : (s : Host) (r : Reply) (h : Journal) → HostFits s h → begins_by s.resets r ≡ begins r (port_log h)
-begins_same s r h f = ap (λ n. is_banner r && nat_lt 0 n) f.resets_are.banners_are ∙ ap (λ t. is_banner r && t) (banner_test (latest_got (port_log h)))
+begins_same : {room : ℕ} (s : Host) (r : Reply) (h : Journal) → HostFits room s h → begins_by s.resets r ≡ begins r (port_log h)
+begins_same {room} s r h f = ap (λ n. is_banner r && nat_lt 0 n) f.resets_are.banners_are ∙ ap (λ t. is_banner r && t) (banner_test (latest_got (port_log h)))
 
-resets_told : (s t : Host) (r : Reply) (h : Journal) → HostFits s h → t.resets ≡ with_banner s.resets r → KeepsResets t.resets (resets_of h) (banners_of (at_port (got r) ∷ h)) (length (marks_of h))
-resets_told s t r h f is = record {
+resets_told : {room : ℕ} (s t : Host) (r : Reply) (h : Journal) → HostFits room s h → t.resets ≡ with_banner s.resets r → KeepsResets t.resets (resets_of h) (banners_of (at_port (got r) ∷ h)) (length (marks_of h))
+resets_told {room} s t r h f is = record {
   raised_is = ap (λ k. k.raised) is ∙ f.resets_are.raised_is;
   banners_are = ap (λ k. k.banners) is ∙ ap (λ n. cond (is_banner r) (n + 1) n) f.resets_are.banners_are ∙ one_more_if (is_banner r) (banners_of h) ∙ turn (banners_first r (latest_got (port_log h)));
   marked_is = ap (λ k. k.marked) is ∙ f.resets_are.marked_is;
@@ -171,10 +164,10 @@ resets_told s t r h f is = record {
     turn e = omega arith
 
 -- the lines without an answer are forgotten
-counts_begun : (c d : Counts) (r : Reply) (h : Journal) (s : Host) → HostFits s h → begins r (port_log h) ≡ true → KeepsCounts c (live_of h) (got_of h ++ r ∷ []) → lengths d.unanswered ≡ [] → IsSummed d.unanswered
+counts_begun : {room : ℕ} (c d : Counts) (r : Reply) (h : Journal) (s : Host) → HostFits room s h → begins r (port_log h) ≡ true → KeepsCounts c (live_of h) (got_of h ++ r ∷ []) → lengths d.unanswered ≡ [] → IsSummed d.unanswered
     → d.lines ≡ c.answered → d.answered ≡ c.answered → d.errors ≡ c.errors → KeepsCounts d (take (answered_of h) (live_of h)) (got_of h ++ r ∷ [])
-counts_begun c d r h s f is k none summed lines answered errors =
-    let few = answered_live h f.conducted in
+counts_begun {room} c d r h s f is k none summed lines answered errors =
+    let few = answered_live room h f.conducted in
     let l = length-take (answered_of h) (live_of h) in
     let p = sending.answers_push (got_of h) r in let n = ap (λ t. cond {A = ℕ} t 1 0) (begins_none r (port_log h) is) in
     let a = k.answered_is in
@@ -192,9 +185,9 @@ turn k held c s = record s { resets = k; held = held; counts = c }
 abbrev turn_resets : Resets → Host → Host
 turn_resets k s = record s { resets = k }
 
-pub turned_epoch : (s u t : Host) (r : Reply) (h : Journal) → HostFits s h → u ≡ record s { counts = u.counts } → KeepsCounts u.counts (live_of h) (got_of h ++ r ∷ []) → u.counts.pause_at ≡ s.counts.pause_at → u.counts.all ≡ s.counts.all
+pub turned_epoch : {room : ℕ} (s u t : Host) (r : Reply) (h : Journal) → HostFits room s h → u ≡ record s { counts = u.counts } → KeepsCounts u.counts (live_of h) (got_of h ++ r ∷ []) → u.counts.pause_at ≡ s.counts.pause_at → u.counts.all ≡ s.counts.all
     → TurnsEpoch u t r → IsTurned s t r h
-turned_epoch s u t r h f was counts pause all turns = by_begins (begins r (port_log h)) refl
+turned_epoch {room} s u t r h f was counts pause all turns = by_begins (begins r (port_log h)) refl
   where
     resets : u.resets ≡ s.resets
     resets = ap (λ x. x.resets) was
@@ -236,9 +229,11 @@ turned_epoch s u t r h f was counts pause all turns = by_begins (begins r (port_
           resets = told;
         }
 
-pub got_reply : (s t : Host) (w : Writing) (a : Asking) (bye alarm : Bool) (r : Reply) (h : Journal) → HostFits s h → s.bye ≡ false → AnswersLines (got r ∷ port_log h) → IsTurned s t r h → w ≡ shown s.text r → bye ≡ (s.bye || is_bye r) → alarm ≡ (s.alarm || is_limit r)
-    → a ≡ cond (is_report r) (got_one s.asking) s.asking → HostFits (record s { counts = t.counts; held = t.held; resets = t.resets; text = w; asking = a; polls = 0; bye = bye; greeted = true; alarm = alarm }) (at_port (got r) ∷ h)
-got_reply s t w a bye alarm r h f going lines turned text is alarms asks = record {
+pub got_reply : {room : ℕ} (s t : Host) (w : Writing) (a : Asking) (bye alarm : Bool) (r : Reply) (h : Journal) → HostFits room s h → s.bye ≡ false → AnswersLines (got r ∷ port_log h) → IsTurned s t r h → w ≡ shown s.text r → bye ≡ (s.bye || is_bye r) → alarm ≡ (s.alarm || is_limit r)
+    → a ≡ cond (is_report r) (got_one s.asking) s.asking → HostFits room (record s { counts = t.counts; held = t.held; resets = t.resets; text = w; asking = a; polls = 0; bye = bye; greeted = true; alarm = alarm }) (at_port (got r) ∷ h)
+got_reply {room} s t w a bye alarm r h f going lines turned text is alarms asks = record {
+  sized = f.sized;
+  room_is = f.room_is;
   conducted = (record { poll = record { going = sym f.bye_is ∙ going; rested = f.polls_are.few }; lines = lines }, f.conducted);
   job_is = f.job_is;
   line_is = f.line_is;

@@ -100,8 +100,8 @@ no_query b false due tired next none = by_or (nat_eq b query) (has_query (drop 1
     by_or true y e = absurd cc
     by_or false y e = (refl, e)
 
-raised_asked : (b : ℕ) (down : Bool) (h : Journal) → Conducted h → MayRaise b h → AreAsked h → AreAsked (at_port (raised b down) ∷ h)
-raised_asked b down h c may was = (
+raised_asked : (room : ℕ) (b : ℕ) (down : Bool) (h : Journal) → Conducted room h → MayRaise b h → AreAsked h → AreAsked (at_port (raised b down) ∷ h)
+raised_asked room b down h c may was = (
   (λ some. on_raise b (nat_eq (polls_of h) empty_polls) (nat_eq b query) (asking_of h) (due_of h) (raw_of h) (length (live_of h)) (reports_in (length (live_of h)) (got_of h)) (answered_of h) refl tired next
       (λ e. let f = may.after (ap waits_for_lines (is_same b e)) in omega arith) (was.0 some)),
   (λ f. let w = was.1 f in let n = no_query b (nat_eq (polls_of h) empty_polls) (due_of h) tired next w.1 in (
@@ -115,7 +115,7 @@ raised_asked b down h c may was = (
     tired e = may.resumes (is_enough (polls_of h) e)
 
     next : nat_eq (polls_of h) empty_polls ≡ false → due_of h ≡ b ∷ drop 1 (due_of h)
-    next e = may.next (is_fewer (polls_of h) (few_polls h c) e)
+    next e = may.next (is_fewer (polls_of h) (few_polls room h c) e)
 
     is_same : (b : ℕ) → nat_eq b query ≡ true → b ≡ query
     is_same b e = grind (arith, nat_tests)
@@ -159,15 +159,7 @@ on_got r false a due cur i rs is few was = record {
 
 no_report : (r : Reply) → is_banner r ≡ true → is_report r ≡ false
 no_report replies.Banner e = refl
-no_report replies.Ok e = absurd cc
-no_report (replies.Error n) e = absurd cc
-no_report (replies.Alarm n) e = absurd cc
-no_report (replies.Message m) e = absurd cc
-no_report (replies.Report t) e = absurd cc
-no_report (replies.Setting n v) e = absurd cc
-no_report (replies.Modes m) e = absurd cc
-no_report (replies.Offset row at) e = absurd cc
-no_report replies.Bye e = absurd cc
+no_report _ e = absurd cc
 
 -- an epoch begins: a line that has asked was the next to be answered, and is
 on_begin : (r : Reply) (a : Asking) (due cur : List ℕ) (i j : ℕ) (rs : List Reply) → is_banner r ≡ true → (j ≡ answers_in rs) × (answers_in rs ≤ i)
@@ -184,20 +176,20 @@ on_begin r a due cur i j rs banner at was = by_report (is_report r) (no_report r
           let n = at.0 in let m = at.1 in let same : i ≡ j = omega arith in let s = ap (λ k. reports_in k rs) same in omega arith;
     }
 
-got_asked : (r : Reply) (h : Journal) → Conducted (at_port (got r) ∷ h) → AreAsked h → AreAsked (at_port (got r) ∷ h)
-got_asked r h c was = by_begins (begins r (port_log h)) refl
+got_asked : (room : ℕ) (r : Reply) (h : Journal) → Conducted room (at_port (got r) ∷ h) → AreAsked h → AreAsked (at_port (got r) ∷ h)
+got_asked room r h c was = by_begins (begins r (port_log h)) refl
   where
     by_begins : (t : Bool) → begins r (port_log h) ≡ t
         → (0 < length (raw_of h) → IsAsked (cond (is_report r) (got_one (asking_of h)) (asking_of h)) (due_of h) (raw_of h) (length (cond t (take (answered_of h) (live_of h)) (live_of h))) (reports_in (length (cond t (take (answered_of h) (live_of h)) (live_of h))) (got_of h ++ r ∷ [])) (answers_in (got_of h ++ r ∷ [])))
         × ((f : IsFresh (cond t (take (answered_of h) (live_of h)) (live_of h)) (cond t (take (answered_of h) (begun_of h)) (begun_of h)) (to_store h)) → IsAsked (cond (is_report r) (got_one (asking_of h)) (asking_of h)) (due_of h) f.line (length (cond t (take (answered_of h) (begun_of h)) (begun_of h))) (reports_in (length (cond t (take (answered_of h) (begun_of h)) (begun_of h))) (got_of h ++ r ∷ [])) (answers_in (got_of h ++ r ∷ [])) × (has_query (due_of h) ≡ false))
     by_begins false is = (
-      (λ some. on_got r (is_report r) (asking_of h) (due_of h) (raw_of h) (length (live_of h)) (got_of h) refl (counts_are h c.1).1 (was.0 some)),
-      (λ f. let w = was.1 f in (on_got r (is_report r) (asking_of h) (due_of h) f.line (length (begun_of h)) (got_of h) refl (few_fresh h c.1 f) w.0, w.1)),
+      (λ some. on_got r (is_report r) (asking_of h) (due_of h) (raw_of h) (length (live_of h)) (got_of h) refl (counts_are room h c.1).1 (was.0 some)),
+      (λ f. let w = was.1 f in (on_got r (is_report r) (asking_of h) (due_of h) f.line (length (begun_of h)) (got_of h) refl (few_fresh room h c.1 f) w.0, w.1)),
     )
     by_begins true is = (
       (λ some. on_begin r (asking_of h) (due_of h) (raw_of h) (length (live_of h)) (length (take (answered_of h) (live_of h))) (got_of h) (both_true (is_banner r) (has_banner (latest_got (port_log h))) is).0
-          (let l = length-take (answered_of h) (live_of h) in let few = answered_live h c.1 in ((omega arith), few)) (was.0 some)),
-      (λ f. absurd (let e = ap length (sym f.all ∙ begins_free r h c is) in let l = length-append (sent_text f.line) (10 ∷ []) in omega arith)),
+          (let l = length-take (answered_of h) (live_of h) in let few = answered_live room h c.1 in ((omega arith), few)) (was.0 some)),
+      (λ f. absurd (let e = ap length (sym f.all ∙ begins_free room r h c is) in let l = length-append (sent_text f.line) (10 ∷ []) in omega arith)),
     )
 
 -- ---- a byte is scanned
@@ -241,9 +233,9 @@ calm h none was some = subst (λ (due : List ℕ). IsAsked (asking_of h) due (ra
 due_is : (h : Journal) (b : ℕ) → due_of h ≡ [] → due_of h ++ more_served (raw_of h) b ≡ more_served (raw_of h) b
 due_is h b none = ap (λ (d : List ℕ). d ++ more_served (raw_of h) b) none
 
-scan_asked : (b : ℕ) (h : Journal) → Conducted h → MayScanNext b h → AreAsked h → AreAsked (scanned b ∷ h)
+scan_asked : (room : ℕ) (b : ℕ) (h : Journal) → Conducted room h → MayScanNext b h → AreAsked h → AreAsked (scanned b ∷ h)
 unfolding has_query
-scan_asked b h c may was = by_test (nat_eq b 10) refl
+scan_asked room b h c may was = by_test (nat_eq b 10) refl
   where
     by_test : (t : Bool) → nat_eq b 10 ≡ t
         → (0 < length (cond t [] (raw_of h ++ b ∷ [])) → IsAsked (cond (nat_eq (length (raw_of h)) 0) Nothing (asking_of h)) (due_of h ++ more_served (raw_of h) b) (cond t [] (raw_of h ++ b ∷ [])) (length (cond t (live_of h ++ raw_of h ∷ []) (live_of h))) (reports_in (length (cond t (live_of h ++ raw_of h ∷ []) (live_of h))) (got_of h)) (answered_of h))
@@ -251,7 +243,7 @@ scan_asked b h c may was = by_test (nat_eq b 10) refl
     by_test true e = (
       (λ some. absurd (let s : 0 < 0 = some in omega arith)),
       (λ f.
-          let begun = all_begun h may.free (begun_is h c) in
+          let begun = all_begun h may.free (begun_is room h c) in
           let same = same_from_push (live_of h) (begun_of h) (raw_of h) f.line f.one in
           let none = due_is h b may.none_due ∙ none_at_lf (raw_of h) b e in
           let i = ap length (sym begun) in (
@@ -273,16 +265,16 @@ scan_asked b h c may was = by_test (nat_eq b 10) refl
 
         no_fresh : IsFresh (live_of h) (begun_of h) (to_store (scanned b ∷ h)) → nat_eq b 10 ≡ false → ⊥
         no_fresh f e =
-            let begun = all_begun h may.free (begun_is h c) in
+            let begun = all_begun h may.free (begun_is room h c) in
             let l = ap length f.one in let m = length-append (begun_of h) (f.line ∷ []) in let n = ap length begun in
             absurd (omega arith)
 
-end_asked : (h : Journal) → Conducted h → MayEndLine h → AreAsked h → AreAsked (line_over ∷ h)
+end_asked : (room : ℕ) (h : Journal) → Conducted room h → MayEndLine h → AreAsked h → AreAsked (line_over ∷ h)
 unfolding has_query
-end_asked h c may was = (
+end_asked room h c may was = (
   (λ some. absurd (let s : 0 < 0 = some in omega arith)),
   (λ f.
-      let begun = all_begun h may.free (begun_is h c) in
+      let begun = all_begun h may.free (begun_is room h c) in
       let same = same_from_push (live_of h) (begun_of h) (raw_of h) f.line f.one in
       let w = was.0 may.some in (
         subst (λ (n : ℕ). IsAsked (asking_of h) (due_of h) f.line n (reports_in n (got_of h)) (answered_of h)) (ap length (sym begun))
@@ -291,23 +283,23 @@ end_asked h c may was = (
       )),
 )
 
-asked_is : (h : Journal) → Conducted h → AreAsked h
-asked_is [] c = ((λ some. absurd (let s : 0 < 0 = some in omega arith)), (λ f. absurd (let l = ap length f.one in omega arith)))
-asked_is (at_port (stored b) ∷ h) c = ((asked_is h c.1).0, (λ f. absurd (let l = ap length f.one in let m = length-append (live_of h) (f.line ∷ []) in omega arith)))
-asked_is (at_port (dropped b) ∷ h) c = absurd c.0
-asked_is (at_port marked ∷ h) c = asked_is h c.1
-asked_is (at_port (raised b down) ∷ h) c = raised_asked b down h c.1 c.0 (asked_is h c.1)
-asked_is (at_port (got r) ∷ h) c = got_asked r h c (asked_is h c.1)
-asked_is (at_port no_reply ∷ h) c = asked_is h c.1
-asked_is (at_port shut ∷ h) c = asked_is h c.1
-asked_is (read_some bytes ∷ h) c = asked_is h c.1
-asked_is (read_end ∷ h) c = asked_is h c.1
-asked_is (read_failed ∷ h) c = asked_is h c.1
-asked_is (scanned b ∷ h) c = scan_asked b h c.1 c.0 (asked_is h c.1)
-asked_is (line_over ∷ h) c = end_asked h c.1 c.0 (asked_is h c.1)
-asked_is (wrote n ∷ h) c = asked_is h c.1
-asked_is (gave_up ∷ h) c = asked_is h c.1
-asked_is (turned t ∷ h) c = asked_is h c.1
+asked_is : (room : ℕ) (h : Journal) → Conducted room h → AreAsked h
+asked_is room [] c = ((λ some. absurd (let s : 0 < 0 = some in omega arith)), (λ f. absurd (let l = ap length f.one in omega arith)))
+asked_is room (at_port (stored b) ∷ h) c = ((asked_is room h c.1).0, (λ f. absurd (let l = ap length f.one in let m = length-append (live_of h) (f.line ∷ []) in omega arith)))
+asked_is room (at_port (dropped b) ∷ h) c = absurd c.0
+asked_is room (at_port marked ∷ h) c = asked_is room h c.1
+asked_is room (at_port (raised b down) ∷ h) c = raised_asked room b down h c.1 c.0 (asked_is room h c.1)
+asked_is room (at_port (got r) ∷ h) c = got_asked room r h c (asked_is room h c.1)
+asked_is room (at_port no_reply ∷ h) c = asked_is room h c.1
+asked_is room (at_port shut ∷ h) c = asked_is room h c.1
+asked_is room (read_some bytes ∷ h) c = asked_is room h c.1
+asked_is room (read_end ∷ h) c = asked_is room h c.1
+asked_is room (read_failed ∷ h) c = asked_is room h c.1
+asked_is room (scanned b ∷ h) c = scan_asked room b h c.1 c.0 (asked_is room h c.1)
+asked_is room (line_over ∷ h) c = end_asked room h c.1 c.0 (asked_is room h c.1)
+asked_is room (wrote n ∷ h) c = asked_is room h c.1
+asked_is room (gave_up ∷ h) c = asked_is room h c.1
+asked_is room (turned t ∷ h) c = asked_is room h c.1
 
 -- ---- each line that is begun has its report
 
@@ -351,30 +343,30 @@ begun_reported : (h : Journal) → IsBegun h → AreAsked h → awaits_report h 
 begun_reported h (inl e) asked none are = subst (λ (ls : List (List ℕ)). HaveReports ls (got_of h)) e are
 begun_reported h (inr f) asked none are = fresh_reported h f asked none are
 
-begun_have : (h : Journal) → Conducted h → HaveReports (begun_of h) (got_of h)
+begun_have : (room : ℕ) (h : Journal) → Conducted room h → HaveReports (begun_of h) (got_of h)
 unfolding HaveReports
-begun_have [] c = λ k inside asked. absurd (let s : k < 0 = inside in omega arith)
-begun_have (at_port (stored b) ∷ h) c = begun_reported h (begun_is h c.1) (asked_is h c.1) c.0.reported (begun_have h c.1)
-begun_have (at_port (dropped b) ∷ h) c = absurd c.0
-begun_have (at_port marked ∷ h) c = begun_have h c.1
-begun_have (at_port (raised b down) ∷ h) c = begun_have h c.1
-begun_have (at_port (got r) ∷ h) c = by_begins (begins r (port_log h)) (more_reports (begun_of h) r (got_of h) (begun_have h c.1))
+begun_have room [] c = λ k inside asked. absurd (let s : k < 0 = inside in omega arith)
+begun_have room (at_port (stored b) ∷ h) c = begun_reported h (begun_is room h c.1) (asked_is room h c.1) c.0.reported (begun_have room h c.1)
+begun_have room (at_port (dropped b) ∷ h) c = absurd c.0
+begun_have room (at_port marked ∷ h) c = begun_have room h c.1
+begun_have room (at_port (raised b down) ∷ h) c = begun_have room h c.1
+begun_have room (at_port (got r) ∷ h) c = by_begins (begins r (port_log h)) (more_reports (begun_of h) r (got_of h) (begun_have room h c.1))
   where
     by_begins : (t : Bool) → HaveReports (begun_of h) (got_of h ++ r ∷ []) → HaveReports (cond t (take (answered_of h) (begun_of h)) (begun_of h)) (got_of h ++ r ∷ [])
     by_begins true are = λ k inside asked.
         let l = length-take (answered_of h) (begun_of h) in
         are k (omega arith) (ap asks (sym (get_or-take (answered_of h) (begun_of h) k [] (omega arith))) ∙ asked)
     by_begins false are = are
-begun_have (at_port no_reply ∷ h) c = begun_have h c.1
-begun_have (at_port shut ∷ h) c = begun_have h c.1
-begun_have (read_some bytes ∷ h) c = begun_have h c.1
-begun_have (read_end ∷ h) c = begun_have h c.1
-begun_have (read_failed ∷ h) c = begun_have h c.1
-begun_have (scanned b ∷ h) c = begun_have h c.1
-begun_have (line_over ∷ h) c = begun_have h c.1
-begun_have (wrote n ∷ h) c = begun_have h c.1
-begun_have (gave_up ∷ h) c = begun_have h c.1
-begun_have (turned t ∷ h) c = begun_have h c.1
+begun_have room (at_port no_reply ∷ h) c = begun_have room h c.1
+begun_have room (at_port shut ∷ h) c = begun_have room h c.1
+begun_have room (read_some bytes ∷ h) c = begun_have room h c.1
+begun_have room (read_end ∷ h) c = begun_have room h c.1
+begun_have room (read_failed ∷ h) c = begun_have room h c.1
+begun_have room (scanned b ∷ h) c = begun_have room h c.1
+begun_have room (line_over ∷ h) c = begun_have room h c.1
+begun_have room (wrote n ∷ h) c = begun_have room h c.1
+begun_have room (gave_up ∷ h) c = begun_have room h c.1
+begun_have room (turned t ∷ h) c = begun_have room h c.1
 
 -- a `?` outside comments is raised
 asks_is : (line : List ℕ) → asks line ≡ asks_report line
@@ -382,14 +374,14 @@ unfolding asks
 asks_is line = refl
 
 -- each line that asks for a report and has its answer has a report behind the answers to the lines before it
-pub reported_is : (h : Journal) → Conducted h → AreReported (live_of h) (got_of h)
+pub reported_is : (room : ℕ) (h : Journal) → Conducted room h → AreReported (live_of h) (got_of h)
 unfolding HaveReports reports_in
-reported_is h c k inside wants = by_begun (begun_is h c)
+reported_is room h c k inside wants = by_begun (begun_is room h c)
   where
     by_begun : IsBegun h → 0 < reports_in k (got_of h)
     by_begun (inl e) =
-        let few = (counts_are h c).1 in let l = ap length e in
-        begun_have h c k (omega arith) (ap (λ (ls : List (List ℕ)). asks (get_or ls k [])) e ∙ asks_is (get_or (live_of h) k []) ∙ wants)
+        let few = (counts_are room h c).1 in let l = ap length e in
+        begun_have room h c k (omega arith) (ap (λ (ls : List (List ℕ)). asks (get_or ls k [])) e ∙ asks_is (get_or (live_of h) k []) ∙ wants)
     by_begun (inr f) =
-        let few = few_fresh h c f in let l : k < length (begun_of h) = omega arith in
-        begun_have h c k l (ap asks (sym (ap (λ (ls : List (List ℕ)). get_or ls k []) f.one ∙ get_or_append_left (begun_of h) (f.line ∷ []) [] k l)) ∙ asks_is (get_or (live_of h) k []) ∙ wants)
+        let few = few_fresh room h c f in let l : k < length (begun_of h) = omega arith in
+        begun_have room h c k l (ap asks (sym (ap (λ (ls : List (List ℕ)). get_or ls k []) f.one ∙ get_or_append_left (begun_of h) (f.line ∷ []) [] k l)) ∙ asks_is (get_or (live_of h) k []) ∙ wants)

@@ -67,26 +67,26 @@ record IsSentOut (h : Journal) : Type 0 where
   pub epoch : awaits_banner h ≡ false
 
 -- a host that has closed the link and has got no alarm has sent all
-sent_out : (h : Journal) → Conducted h → is_sent_out (is_shut h) (got_of h) ≡ true → IsSentOut h
-sent_out h c out = by_shut (is_shut h) (has_limit h) refl refl out
+sent_out : (room : ℕ) (h : Journal) → Conducted room h → is_sent_out (is_shut h) (got_of h) ≡ true → IsSentOut h
+sent_out room h c out = by_shut (is_shut h) (has_limit h) refl refl out
   where
     by_shut : (t u : Bool) → is_shut h ≡ t → has_limit h ≡ u → (t && not u) ≡ true → IsSentOut h
-    by_shut true false e calm out = record { all = shut_is h c e calm; none_due = none_due_shut h c e calm; stop = stop_calm h calm; epoch = calm_shut h c e calm }
+    by_shut true false e calm out = record { all = shut_is room h c e calm; none_due = none_due_shut room h c e calm; stop = stop_calm h calm; epoch = calm_shut room h c e calm }
     by_shut true true e calm out = absurd cc
     by_shut false u e calm out = absurd cc
 
 -- all that was cut is stored, and nothing is due: all is sent, or a Banner is awaited
-out_is : (h : Journal) → Conducted h → is_out (is_shut h) (raises_of h) (got_of h) ≡ true → IsWaiting h
-out_is h c out = by_sent (is_sent_out (is_shut h) (got_of h)) refl out
+out_is : (room : ℕ) (h : Journal) → Conducted room h → is_out (is_shut h) (raises_of h) (got_of h) ≡ true → IsWaiting h
+out_is room h c out = by_sent (is_sent_out (is_shut h) (got_of h)) refl out
   where
     by_sent : (t : Bool) → is_sent_out (is_shut h) (got_of h) ≡ t → (t || lacks_banner (count_by is_reset (raises_of h)) (banners_in (got_of h))) ≡ true → IsWaiting h
-    by_sent true e out = let s = sent_out h c e in record { free = s.all.free; none_due = s.none_due }
-    by_sent false e out = waiting_is h c (ap (λ n. lacks_banner n (banners_of h)) (sym (raised_resets h)) ∙ ap (lacks_banner (count_by is_reset (raises_of h))) (sym (banners_got h)) ∙ out)
+    by_sent true e out = let s = sent_out room h c e in record { free = s.all.free; none_due = s.none_due }
+    by_sent false e out = waiting_is room h c (ap (λ n. lacks_banner n (banners_of h)) (sym (raised_resets h)) ∙ ap (lacks_banner (count_by is_reset (raises_of h))) (sym (banners_got h)) ∙ out)
 
 -- what it has scanned is what its journal says
-pub has_run_of : (h : Journal) (job_was job_is : SourceState) (console_was console_is : SinkState) → Conducted h → HasFinished h → TellsJob h job_was job_is → TellsConsole h console_was console_is
-    → (ran : HostRan job_was job_is console_was console_is (stored_of h) (marks_of h) (is_shut h) (raises_of h) (got_of h) (end_of h)) × (ran.scanned ≡ scanned_of h)
-has_run_of h job_was job_is console_was console_is c finished job console = (
+pub has_run_of : (room : ℕ) (h : Journal) (job_was job_is : SourceState) (console_was console_is : SinkState) → Conducted room h → HasFinished h → TellsJob h job_was job_is → TellsConsole h console_was console_is
+    → (ran : HostRan room job_was job_is console_was console_is (stored_of h) (marks_of h) (is_shut h) (raises_of h) (got_of h) (end_of h)) × (ran.scanned ≡ scanned_of h)
+has_run_of room h job_was job_is console_was console_is c finished job console = (
   record {
     read = read_of h;
     reading = reading_of h;
@@ -94,30 +94,30 @@ has_run_of h job_was job_is console_was console_is c finished job console = (
     lines = cut_of h;
     live = live_of h;
     forgotten = forgotten_of h;
-    all = all_lines h c;
+    all = all_lines room h c;
     ended = ended_of h;
     now = epoch_now h;
-    epochs = epochs_are h c;
-    ends = ends_by h c;
-    all_ended = λ out. let s = sent_out h c out in ends_all h c s.epoch s.none_due;
-    awaited = awaited_got h c;
+    epochs = epochs_are room h c;
+    ends = ends_by room h c;
+    all_ended = λ out. let s = sent_out room h c out in ends_all room h c s.epoch s.none_due;
+    awaited = awaited_got room h c;
     taken = job.taken;
     at_end = job.at_end;
-    so_far = let s = sent_so_far h c in record { fits = s.fits; scans = s.scans; later = s.later; sent = s.sent; cause = refl };
-    stop = stop_behind h c;
+    so_far = let s = sent_so_far room h c in record { fits = s.fits; scans = s.scans; later = s.later; sent = s.sent; cause = refl };
+    stop = stop_behind room h c;
     left = to_store h;
-    front = stored_is h c;
-    borders = borders_are h c;
-    marks_are = marks_of_resets h c;
-    all_marked = λ out. all_marks h c (sent_out h c out).none_due;
+    front = stored_is room h c;
+    borders = borders_are room h c;
+    marks_are = marks_of_resets room h c;
+    all_marked = λ out. all_marks room h c (sent_out room h c out).none_due;
     due = due_of h;
-    raises_so_far = raised_is h c;
-    sent = λ out. let s = sent_out h c out in sent_all h c s.all s.stop;
-    link = λ out. whole_by h c (out_is h c out).free;
-    few = λ out. few_unanswered h c (out_is h c out).free;
+    raises_so_far = raised_is room h c;
+    sent = λ out. let s = sent_out room h c out in sent_all room h c s.all s.stop;
+    link = λ out. whole_by room h c (out_is room h c out).free;
+    few = λ out. few_unanswered room h c (out_is room h c out).free;
     resumes = resumes_of h;
-    raises = λ out. subst (λ due. AreRaised (scanned_of h) (raises_of h) due (resumes_of h)) (out_is h c out).none_due (raised_is h c);
-    reported = reported_is h c;
+    raises = λ out. subst (λ due. AreRaised (scanned_of h) (raises_of h) due (resumes_of h)) (out_is room h c out).none_due (raised_is room h c);
+    reported = reported_is room h c;
     bye = finished.bye;
     console = took_of console_was console_is (has_given_up h) (drop (written_of h) (text_of h)) (text_of h) console (wrote_all h finished.written);
     answered = refl;
@@ -130,23 +130,19 @@ has_run_of h job_was job_is console_was console_is c finished job console = (
 )
 
 -- so are its lines
-pub ran_lines : (h : Journal) (job_was job_is : SourceState) (console_was console_is : SinkState) (c : Conducted h) (finished : HasFinished h) (job : TellsJob h job_was job_is) (console : TellsConsole h console_was console_is)
-    → (has_run_of h job_was job_is console_was console_is c finished job console).0.lines ≡ cut_of h
+pub ran_lines : (room : ℕ) (h : Journal) (job_was job_is : SourceState) (console_was console_is : SinkState) (c : Conducted room h) (finished : HasFinished h) (job : TellsJob h job_was job_is) (console : TellsConsole h console_was console_is)
+    → (has_run_of room h job_was job_is console_was console_is c finished job console).0.lines ≡ cut_of h
 unfolding has_run_of
-ran_lines h job_was job_is console_was console_is c finished job console = refl
+ran_lines room h job_was job_is console_was console_is c finished job console = refl
 
-pub ran_forgotten : (h : Journal) (job_was job_is : SourceState) (console_was console_is : SinkState) (c : Conducted h) (finished : HasFinished h) (job : TellsJob h job_was job_is) (console : TellsConsole h console_was console_is)
-    → (has_run_of h job_was job_is console_was console_is c finished job console).0.forgotten ≡ forgotten_of h
+pub ran_forgotten : (room : ℕ) (h : Journal) (job_was job_is : SourceState) (console_was console_is : SinkState) (c : Conducted room h) (finished : HasFinished h) (job : TellsJob h job_was job_is) (console : TellsConsole h console_was console_is)
+    → (has_run_of room h job_was job_is console_was console_is c finished job console).0.forgotten ≡ forgotten_of h
 unfolding has_run_of
-ran_forgotten h job_was job_is console_was console_is c finished job console = refl
+ran_forgotten room h job_was job_is console_was console_is c finished job console = refl
 
-pub has_run : (h : Journal) (job_was job_is : SourceState) (console_was console_is : SinkState) → Conducted h → HasFinished h → TellsJob h job_was job_is → TellsConsole h console_was console_is
-    → HostRan job_was job_is console_was console_is (stored_of h) (marks_of h) (is_shut h) (raises_of h) (got_of h) (end_of h)
-has_run h job_was job_is console_was console_is c finished job console = (has_run_of h job_was job_is console_was console_is c finished job console).0
-
-pub runs_so_far : (h : Journal) (job_was job_is : SourceState) (console_was console_is : SinkState) → Conducted h → TellsJob h job_was job_is → TellsConsole h console_was console_is
-    → HostRuns job_was job_is console_was console_is (stored_of h) (marks_of h) (raises_of h) (got_of h)
-runs_so_far h job_was job_is console_was console_is c job console = record {
+pub runs_so_far : (room : ℕ) (h : Journal) (job_was job_is : SourceState) (console_was console_is : SinkState) → Conducted room h → TellsJob h job_was job_is → TellsConsole h console_was console_is
+    → HostRuns room job_was job_is console_was console_is (stored_of h) (marks_of h) (raises_of h) (got_of h)
+runs_so_far room h job_was job_is console_was console_is c job console = record {
   read = read_of h;
   reading = reading_of h;
   scanned = scanned_of h;
@@ -154,36 +150,36 @@ runs_so_far h job_was job_is console_was console_is c job console = record {
   live = live_of h;
   ended = ended_of h;
   now = epoch_now h;
-  epochs = epochs_are h c;
-  awaited = awaited_got h c;
+  epochs = epochs_are room h c;
+  awaited = awaited_got room h c;
   stop = job_stop_of h;
   taken = job.taken;
-  sent = sent_so_far h c;
+  sent = sent_so_far room h c;
   left = to_store h;
-  link = stored_is h c;
-  borders = borders_are h c;
+  link = stored_is room h c;
+  borders = borders_are room h c;
   due = due_of h;
   resumes = resumes_of h;
-  raises = raised_is h c;
-  reported = reported_is h c;
+  raises = raised_is room h c;
+  reported = reported_is room h c;
   failed = has_given_up h;
   waiting = drop (written_of h) (text_of h);
   console = console;
 }
 
 -- by what it has scanned, and the lines that it has cut
-pub runs_of : (h : Journal) (job_was job_is : SourceState) (console_was console_is : SinkState) → Conducted h → TellsJob h job_was job_is → TellsConsole h console_was console_is
-    → (runs : HostRuns job_was job_is console_was console_is (stored_of h) (marks_of h) (raises_of h) (got_of h)) × (runs.scanned ≡ scanned_of h) × (runs.lines ≡ cut_of h)
+pub runs_of : (room : ℕ) (h : Journal) (job_was job_is : SourceState) (console_was console_is : SinkState) → Conducted room h → TellsJob h job_was job_is → TellsConsole h console_was console_is
+    → (runs : HostRuns room job_was job_is console_was console_is (stored_of h) (marks_of h) (raises_of h) (got_of h)) × (runs.scanned ≡ scanned_of h) × (runs.lines ≡ cut_of h)
 unfolding runs_so_far
-runs_of h job_was job_is console_was console_is c job console = (runs_so_far h job_was job_is console_was console_is c job console, refl, refl)
+runs_of room h job_was job_is console_was console_is c job console = (runs_so_far room h job_was job_is console_was console_is c job console, refl, refl)
 
-pub finished_by : (s : Host) (h : Journal) → HostFits s h → HostRests s → HasFinished h
-finished_by s h f rests =
+pub finished_by : {room : ℕ} (s : Host) (h : Journal) → HostFits room s h → HostRests s → HasFinished h
+finished_by {room} s h f rests =
     let bye : has_bye h ≡ true = sym f.bye_is ∙ rests.bye in
     record { bye = bye; written = has_written s h f (record { asked = f.text_is.all_asked bye; none = rests.none }) }
 
-pub console_by : (s : Host) (h : Journal) (was is : SinkState) → HostFits s h → TellsText s.text h was is → TellsConsole h was is
-console_by s h was is f wrote =
+pub console_by : {room : ℕ} (s : Host) (h : Journal) (was is : SinkState) → HostFits room s h → TellsText s.text h was is → TellsConsole h was is
+console_by {room} s h was is f wrote =
     let same = f.text_is.failed_is in
     record {
       front = wrote.front;
@@ -208,8 +204,8 @@ pub shows_nothing : (console : SinkState) → TellsConsole [] console console
 shows_nothing console = record { front = []; back = []; whole = refl; held = Appends-nil console.held; all = λ e. refl; same = λ e. refl; later = omega arith; cause = λ e. absurd cc }
 
 -- nor is anything waiting in the text of a host that has done nothing
-pub new_shows_nothing : (host : Host) (now : SinkState) → HostFits host [] → TellsText host.text [] now now
-new_shows_nothing host now f = let failed = f.text_is.failed_is in record {
+pub new_shows_nothing : {room : ℕ} (host : Host) (now : SinkState) → HostFits room host [] → TellsText host.text [] now now
+new_shows_nothing {room} host now f = let failed = f.text_is.failed_is in record {
   front = [];
   back = [];
   whole = refl;

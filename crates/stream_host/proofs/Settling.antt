@@ -1,5 +1,5 @@
 -- When a host reads its job on, by what is awaited.
-use Rattle.std.proofs.Common.{◌≡◌, ◌⊎◌, ◌||◌, inl, inr, true, false, [], length, nat_lt, refl, sym, ap, ◌∙◌, subst}
+use Rattle.std.proofs.Common.{◌≡◌, ℕ, ◌⊎◌, ◌||◌, inl, inr, true, false, [], length, nat_lt, refl, sym, ap, ◌∙◌, subst}
 use Rattle.outside.specs.declared.On.TheVariants.{Answer}
 use Rattle.outside.specs.declared.Turn.TheVariants.{Wait}
 use Rattle.stream_host.specs.declared.Reading.{Reading}
@@ -16,8 +16,8 @@ use Rattle.stream_host.proofs.Turns.{has_written, one_turn}
 
 -- ---- the machine may be held
 
-pub held_now : (s : Host) (h : Journal) → HostFits s h → (s.held || nat_lt s.counts.answered s.counts.pause_at) ≡ may_be_held h
-held_now s h f =
+pub held_now : {room : ℕ} (s : Host) (h : Journal) → HostFits room s h → (s.held || nat_lt s.counts.answered s.counts.pause_at) ≡ may_be_held h
+held_now {room} s h f =
     ap (λ b. b || nat_lt s.counts.answered s.counts.pause_at) f.held_is
     ∙ ap (λ n. holds_of h || nat_lt n s.counts.pause_at) f.counts_are.answered_is
     ∙ ap (λ n. holds_of h || nat_lt (answered_of h) n) f.pause_is
@@ -28,8 +28,8 @@ still_sends : (h : Journal) → reading_of h ≡ Stopped → ends_sending (raw_o
 still_sends h on sends (inl ends) = absurd (let e = sym sends ∙ ends in cc)
 still_sends h on sends (inr more) = subst (λ (r : Reading). HasNoMore r (unscanned_of h) (raw_of h) (length (scanned_of h))) on more
 
-pub waits_unsettled : (s : Host) (h : Journal) → HostFits s h → s.alarm ≡ false → HasPolled h → HasShown s.text → MayReadOn s → (IsSettled h → ⊥) → HostWorked (Wait Answer) s s h h
-waits_unsettled s h f calm polled shown may busy =
+pub waits_unsettled : {room : ℕ} (s : Host) (h : Journal) → HostFits room s h → s.alarm ≡ false → HasPolled h → HasShown s.text → MayReadOn s → (IsSettled h → ⊥) → HostWorked room (Wait Answer) s s h h
+waits_unsettled {room} s h f calm polled shown may busy =
     let free = (f.line_is.scanning may.scanning).1 in
     let used : unscanned_of h ≡ [] = used_up s h f may.used in
     let on : reading_of h ≡ Stopped = sym f.job_is.reading_is ∙ may.on in

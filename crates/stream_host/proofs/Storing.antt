@@ -23,22 +23,22 @@ not_waiting a Awaits is none = absurd (none is)
 not_waiting a HasOne is none = refl
 not_waiting a AsksAgain is none = refl
 
-pub may_store : (s : Host) (b : ℕ) (h : Journal) → HostFits s h → s.alarm ≡ false → awaits_by s.resets ≡ false → s.line.whole ≡ true → (s.asking ≡ Awaits → ⊥) → s.counts.unanswered.total ≤ 128 → drop s.line.place (s.line.kept.items ++ 10 ∷ []) ≡ b ∷ drop (s.line.place + 1) (s.line.kept.items ++ 10 ∷ []) → MayStore b h
-may_store s b h f calm epoch whole reported room next =
+pub may_store : {room : ℕ} (s : Host) (b : ℕ) (h : Journal) → HostFits room s h → s.alarm ≡ false → awaits_by s.resets ≡ false → s.line.whole ≡ true → (s.asking ≡ Awaits → ⊥) → s.counts.unanswered.total ≤ s.room → drop s.line.place (s.line.kept.items ++ 10 ∷ []) ≡ b ∷ drop (s.line.place + 1) (s.line.kept.items ++ 10 ∷ []) → MayStore room b h
+may_store {room} s b h f calm epoch whole reported free next =
     let left = (f.line_is.storing whole).left_is in
     record {
       calm = calm_now s h f calm;
       epoch = calm_epoch s h f epoch;
       next = left ∙ next ∙ ap (λ (t : List ℕ). b ∷ drop 1 t) (sym next ∙ sym left);
       reported = not_waiting s.asking (asking_of h) f.asking_is reported;
-      room = (let t = total_is s h f in omega arith);
+      few = (let t = total_is s h f in let e = f.room_is in omega arith);
     }
 
-pub takes_byte : (s : Host) (b : ℕ) (h : Journal) → HostFits s h → MayStore b h → TakesByte (port_log h)
-takes_byte s b h f may = record { going = open_is b h f.conducted may.calm may.next; few = (let n = sending.few_stored h f.conducted in omega arith) }
+pub takes_byte : {room : ℕ} (s : Host) (b : ℕ) (h : Journal) → HostFits room s h → MayStore room b h → TakesByte (port_log h)
+takes_byte {room} s b h f may = record { going = open_is room b h f.conducted may.calm may.next; few = (let n = sending.few_stored room h f.conducted in omega arith) }
 
-pub not_dropped : (s : Host) (b : ℕ) (h : Journal) → HostFits s h → MayStore b h → SeemsFull (port_log h) → ⊥
-not_dropped s b h f may full = room_is b h f.conducted may full
+pub not_dropped : {room : ℕ} (s : Host) (b : ℕ) (h : Journal) → HostFits room s h → MayStore room b h → SeemsFull room (port_log h) → ⊥
+not_dropped {room} s b h f may full = room_is room b h f.conducted may full
 
 -- the line after the byte
 pub record Advances (l m : SentLine) : Type 0 where
@@ -67,9 +67,11 @@ line_stored l m b raw left whole stores is next = by_place (nat_lt l.place (leng
           storing = λ w. absurd (let g = sym end.1 ∙ w in cc);
         }
 
-pub stored_byte : (s : Host) (m : SentLine) (b : ℕ) (h : Journal) → HostFits s h → s.line.whole ≡ true → MayStore b h → Advances s.line m → drop s.line.place (s.line.kept.items ++ 10 ∷ []) ≡ b ∷ drop (s.line.place + 1) (s.line.kept.items ++ 10 ∷ [])
-    → HostFits (record s { line = m }) (at_port (stored b) ∷ h)
-stored_byte s m b h f whole may stores next = record {
+pub stored_byte : {room : ℕ} (s : Host) (m : SentLine) (b : ℕ) (h : Journal) → HostFits room s h → s.line.whole ≡ true → MayStore room b h → Advances s.line m → drop s.line.place (s.line.kept.items ++ 10 ∷ []) ≡ b ∷ drop (s.line.place + 1) (s.line.kept.items ++ 10 ∷ [])
+    → HostFits room (record s { line = m }) (at_port (stored b) ∷ h)
+stored_byte {room} s m b h f whole may stores next = record {
+  sized = f.sized;
+  room_is = f.room_is;
   conducted = (may, f.conducted);
   job_is = f.job_is;
   line_is = line_stored s.line m b (raw_of h) (to_store h) whole stores (f.line_is.storing whole) next;

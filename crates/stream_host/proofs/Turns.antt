@@ -47,8 +47,8 @@ none_waits v none asked well = by_test v.failed (nat_lt 0 (length v.waiting)) v.
     by_test false true false true d well asked is e = absurd cc
     by_test false true false false d well asked is e = absurd cc
 
-pub has_written : (s : Host) (h : Journal) → HostFits s h → HasShown s.text → HasWritten h
-has_written s h f shown = by_failed s.text.failed refl
+pub has_written : {room : ℕ} (s : Host) (h : Journal) → HostFits room s h → HasShown s.text → HasWritten h
+has_written {room} s h f shown = by_failed s.text.failed refl
   where
     by_failed : (b : Bool) → s.text.failed ≡ b → HasWritten h
     by_failed true e = inl (sym f.text_is.failed_is ∙ e)
@@ -57,18 +57,6 @@ has_written s h f shown = by_failed s.text.failed refl
         let is = ap length (f.text_is.waits e) ∙ length-drop (written_of h) (text_of h) in
         let within = f.text_is.within in
         inr (omega arith)
-
-pub holds : (t : Bool) → (t ≡ false → ⊥) → t ≡ true
-holds true never = refl
-holds false never = absurd (never refl)
-
-pub none_left : (s : Host) (h : Journal) → HostFits s h → s.text.failed ≡ false → (t : Bool) → t ≡ nat_lt 0 (length s.text.waiting) → HasWritten h → not t ≡ true
-none_left s h f well false some written = refl
-none_left s h f well true some (inl given) = absurd (let e = sym well ∙ f.text_is.failed_is ∙ given in cc)
-none_left s h f well true some (inr all) =
-    let is = ap length (f.text_is.waits well) ∙ length-drop (written_of h) (text_of h) in
-    let more : 0 < length s.text.waiting = grind (arith, nat_tests) in
-    absurd (omega arith)
 
 -- ---- what a turn does
 
@@ -86,12 +74,12 @@ one_step s h none polled =
     at_most true = omega arith
     at_most false = omega arith
 
-pub did_alone : (s t : Host) (h next : Journal) → NothingPublished h → count_by polling (this_turn h) ≤ 1 → DidAlone s t h next → HostWorked Did s t h next
-did_alone s t h next quiet once d = record { fits = d.fits; steps = d.steps; are = d.are; inner = d.inner; may = record { once = (let q = d.quiet quiet in omega arith); polls = (let l = d.looks in omega arith) }; moves = λ e. d.moves }
+pub did_alone : {room : ℕ} (s t : Host) (h next : Journal) → NothingPublished h → count_by polling (this_turn h) ≤ 1 → DidAlone room s t h next → HostWorked room Did s t h next
+did_alone {room} s t h next quiet once d = record { fits = d.fits; steps = d.steps; are = d.are; inner = d.inner; may = record { once = (let q = d.quiet quiet in omega arith); polls = (let l = d.looks in omega arith) }; moves = λ e. d.moves }
 
 -- one step at the port
-pub did_at_port : (s t : Host) (p : Step) (h : Journal) → moving p ≡ true → ends_turn p ≡ false → HostFits t (p ∷ h) → IsOneTurn (p ∷ h) → HostWorked Did s t h (p ∷ h)
-did_at_port s t p h moves inner fits one = record { fits = fits; steps = p ∷ []; are = refl; inner = ap (λ b. b || false) inner; may = one; moves = λ e. inl (ap (λ b. b || false) moves) }
+pub did_at_port : {room : ℕ} (s t : Host) (p : Step) (h : Journal) → moving p ≡ true → ends_turn p ≡ false → HostFits room t (p ∷ h) → IsOneTurn (p ∷ h) → HostWorked room Did s t h (p ∷ h)
+did_at_port {room} s t p h moves inner fits one = record { fits = fits; steps = p ∷ []; are = refl; inner = ap (λ b. b || false) inner; may = one; moves = λ e. inl (ap (λ b. b || false) moves) }
 
 pub few_stored_now : (b : ℕ) (h : Journal) → HasPolled h → IsOneTurn (at_port (stored b) ∷ h)
 few_stored_now b h polled = let o = one_step (at_port (stored b)) h refl polled in record { once = o.0; polls = o.1 }
@@ -133,8 +121,8 @@ some_left xs n ys is within none =
     let a = ap length (sym is ∙ none) in let b = length-drop n (ys ++ 10 ∷ []) in let d = length-append ys (10 ∷ []) in absurd (omega arith)
 
 -- a byte that is due waits for the answers to the lines before its own
-pub waits_early : (s : Host) (b : ℕ) (h : Journal) → HostFits s h → s.alarm ≡ false → HasPolled h → HasShown s.text → s.line.due ≡ Some b → ((waits_for_lines b ≡ true → AreAnswered h) → ⊥) → HostWorked (Wait Answer) s s h h
-waits_early s b h f calm polled shown is early =
+pub waits_early : {room : ℕ} (s : Host) (b : ℕ) (h : Journal) → HostFits room s h → s.alarm ≡ false → HasPolled h → HasShown s.text → s.line.due ≡ Some b → ((waits_for_lines b ≡ true → AreAnswered h) → ⊥) → HostWorked room (Wait Answer) s s h h
+waits_early {room} s b h f calm polled shown is early =
     let due = due_next s b h f is in
     let busy : due_of h ≡ [] → ⊥ = (λ e. absurd (let g = sym due ∙ e in cc)) in
     record {
@@ -151,7 +139,7 @@ waits_early s b h f calm polled shown is early =
           no_line = λ m. busy m.none_due;
           no_mark = λ m. early (λ q. absurd (let x = same_first 0x18 b (drop 1 (due_of h)) (sym m.next ∙ due) in let g = ap waits_for_lines x ∙ q in cc));
           no_raise = λ d m. early (subst (λ x. waits_for_lines x ≡ true → AreAnswered h) (same_first d b (drop 1 (due_of h)) (sym (m.next f.polls_are.few) ∙ due)) m.after);
-          no_store = λ d m. busy (none_due_first d h f.conducted m);
+          no_store = λ d m. busy (none_due_first room d h f.conducted m);
           no_close = λ m. busy (calm_one h (calm_now s h f calm) m.all_raised);
           written = has_written s h f shown;
         },
@@ -163,8 +151,8 @@ waits_early s b h f calm polled shown is early =
     same_first x y xs e = cc
 
 -- a line waits for a report, or for room
-pub waits_held_back : (s : Host) (h : Journal) → HostFits s h → s.alarm ≡ false → HasPolled h → HasShown s.text → s.line.due ≡ None → s.line.whole ≡ true → ((awaits_report h ≡ false) × (s.counts.unanswered.total ≤ 128) → ⊥) → HostWorked (Wait Answer) s s h h
-waits_held_back s h f calm polled shown none whole held =
+pub waits_held_back : {room : ℕ} (s : Host) (h : Journal) → HostFits room s h → s.alarm ≡ false → HasPolled h → HasShown s.text → s.line.due ≡ None → s.line.whole ≡ true → ((awaits_report h ≡ false) × (s.counts.unanswered.total ≤ room) → ⊥) → HostWorked room (Wait Answer) s s h h
+waits_held_back {room} s h f calm polled shown none whole held =
     let is = f.line_is.storing whole in
     let busy : to_store h ≡ [] → ⊥ = some_left (to_store h) s.line.place s.line.kept.items is.left_is is.within in
     record {
@@ -181,7 +169,7 @@ waits_held_back s h f calm polled shown none whole held =
           no_line = λ m. busy m.free;
           no_mark = λ m. absurd (let e = sym (none_due_by s h f none) ∙ m.next in cc);
           no_raise = λ b m. never_raised s b h f (none_due_by s h f none) m;
-          no_store = λ b m. held (m.reported, (let t = total_is s h f in let r = m.room in omega arith));
+          no_store = λ b m. held (m.reported, (let t = total_is s h f in let r = m.few in omega arith));
           no_close = λ m. busy (calm_one h (calm_now s h f calm) m.sent).free;
           written = has_written s h f shown;
         },
@@ -189,8 +177,8 @@ waits_held_back s h f calm polled shown none whole held =
       moves = λ e. absurd cc;
     }
 
-pub waits_shut : (s : Host) (h : Journal) → HostFits s h → HasPolled h → HasShown s.text → s.line.due ≡ None → s.line.whole ≡ false → s.shut ≡ true → HostWorked (Wait Answer) s s h h
-waits_shut s h f polled shown none whole closed =
+pub waits_shut : {room : ℕ} (s : Host) (h : Journal) → HostFits room s h → HasPolled h → HasShown s.text → s.line.due ≡ None → s.line.whole ≡ false → s.shut ≡ true → HostWorked room (Wait Answer) s s h h
+waits_shut {room} s h f polled shown none whole closed =
     let over : is_shut h ≡ false → ⊥ = (λ e. absurd (let g = sym closed ∙ f.shut_is ∙ e in cc)) in
     let free = (f.line_is.scanning whole).1 in
     record {
@@ -216,8 +204,8 @@ waits_shut s h f polled shown none whole closed =
     }
 
 -- behind an alarm nothing is done where the link may not be closed
-pub waits_at_alarm : (s : Host) (h : Journal) → HostFits s h → HasPolled h → HasShown s.text → s.alarm ≡ true → (MayShut h → ⊥) → HostWorked (Wait Answer) s s h h
-waits_at_alarm s h f polled shown alarm no_shut =
+pub waits_at_alarm : {room : ℕ} (s : Host) (h : Journal) → HostFits room s h → HasPolled h → HasShown s.text → s.alarm ≡ true → (MayShut h → ⊥) → HostWorked room (Wait Answer) s s h h
+waits_at_alarm {room} s h f polled shown alarm no_shut =
     let loud : has_limit h ≡ false → ⊥ = (λ e. absurd (let g = sym alarm ∙ f.alarm_is ∙ e in cc)) in
     record {
       fits = f;
@@ -242,11 +230,11 @@ waits_at_alarm s h f polled shown alarm no_shut =
     }
 
 -- it may not where it is closed, nor where a Banner is awaited
-pub shut_already : (s : Host) (h : Journal) → HostFits s h → s.shut ≡ true → MayShut h → ⊥
-shut_already s h f closed may = absurd (let g = sym closed ∙ f.shut_is ∙ may.going in cc)
+pub shut_already : {room : ℕ} (s : Host) (h : Journal) → HostFits room s h → s.shut ≡ true → MayShut h → ⊥
+shut_already {room} s h f closed may = absurd (let g = sym closed ∙ f.shut_is ∙ may.going in cc)
 
-pub shut_later : (s : Host) (h : Journal) → HostFits s h → awaits_by s.resets ≡ true → MayShut h → ⊥
-shut_later s h f awaits may = absurd (let g = sym awaits ∙ epoch_now s h f ∙ may.epoch in cc)
+pub shut_later : {room : ℕ} (s : Host) (h : Journal) → HostFits room s h → awaits_by s.resets ≡ true → MayShut h → ⊥
+shut_later {room} s h f awaits may = absurd (let g = sym awaits ∙ epoch_now s h f ∙ may.epoch in cc)
 
 -- a reset whose mark is not stored
 pub wants : (t : Bool) (b : ℕ) (marked_now : Bool) → t ≡ (is_reset b && not marked_now) → t ≡ true → (b ≡ 0x18) × (marked_now ≡ false)
@@ -265,8 +253,8 @@ wants_none t b m is none reset = by_tests m (sym (ap (λ u. u && not m) reset) �
     by_tests false f = absurd cc
 
 -- a Banner is waited for
-pub waits_for_banner : (s : Host) (h : Journal) → HostFits s h → HasPolled h → HasShown s.text → s.line.due ≡ None → awaits_by s.resets ≡ true → HostWorked (Wait Answer) s s h h
-waits_for_banner s h f polled shown none awaits =
+pub waits_for_banner : {room : ℕ} (s : Host) (h : Journal) → HostFits room s h → HasPolled h → HasShown s.text → s.line.due ≡ None → awaits_by s.resets ≡ true → HostWorked room (Wait Answer) s s h h
+waits_for_banner {room} s h f polled shown none awaits =
     let busy : awaits_banner h ≡ false → ⊥ = (λ e. absurd (let g = sym awaits ∙ epoch_now s h f ∙ e in cc)) in
     record {
       fits = f;
@@ -292,8 +280,10 @@ waits_for_banner s h f polled shown none awaits =
 
 -- ---- the whole turn
 
-pub all_asked : (s : Host) (h : Journal) → HostFits s h → HostFits (record s { text = with_all_asked s.text }) h
-all_asked s h f = record {
+pub all_asked : {room : ℕ} (s : Host) (h : Journal) → HostFits room s h → HostFits room (record s { text = with_all_asked s.text }) h
+all_asked {room} s h f = record {
+  sized = f.sized;
+  room_is = f.room_is;
   conducted = f.conducted;
   job_is = f.job_is;
   line_is = f.line_is;
@@ -323,8 +313,8 @@ pub has_polled : (h : Journal) → IsBetween h → HasPolled (at_port no_reply �
 has_polled h between = record { poll = refl; once = (let e = ap (λ (n : Journal). count_by polling (at_port no_reply ∷ n)) between in omega arith); quiet = quiet_on (at_port no_reply) h refl (quiet_between h between) }
 
 -- what is done behind a poll is done in the turn
-pub worked_on : (t : Turn) (s v u : Host) (h next : Journal) → v.text ≡ s.text → HostWorked t v u (at_port no_reply ∷ h) next → HostWorked t s u h next
-worked_on t s v u h next same w = record {
+pub worked_on : {room : ℕ} (t : Turn) (s v u : Host) (h next : Journal) → v.text ≡ s.text → HostWorked room t v u (at_port no_reply ∷ h) next → HostWorked room t s u h next
+worked_on {room} t s v u h next same w = record {
   fits = w.fits;
   steps = w.steps ++ at_port no_reply ∷ [];
   are = w.are ∙ sym (append_assoc w.steps (at_port no_reply ∷ []) h);
@@ -342,8 +332,8 @@ tells_polled s v u h next job later now after same t = record {
   console = λ before j. t.console before (rw same j);
 }
 
-pub is_done : (s : Host) (h : Journal) → HostFits s h → IsBetween h → HostRests s → HostWorked Done s s h h
-is_done s h f between rests =
+pub is_done : {room : ℕ} (s : Host) (h : Journal) → HostFits room s h → IsBetween h → HostRests s → HostWorked room Done s s h h
+is_done {room} s h f between rests =
     let bye : has_bye h ≡ true = sym f.bye_is ∙ rests.bye in
     record {
       fits = f;
@@ -354,9 +344,11 @@ is_done s h f between rests =
       moves = λ e. absurd cc;
     }
 
-pub ends : (t : Turn) (s u : Host) (h next : Journal) → HostWorked t s u h next → HostFits u (turned t ∷ next) × HostTurned t s u h (turned t ∷ next)
-ends t s u h next w = (
+pub ends : {room : ℕ} (t : Turn) (s u : Host) (h next : Journal) → HostWorked room t s u h next → HostFits room u (turned t ∷ next) × HostTurned t s u h (turned t ∷ next)
+ends {room} t s u h next w = (
   record {
+    sized = w.fits.sized;
+    room_is = w.fits.room_is;
     conducted = (w.may, w.fits.conducted);
     job_is = w.fits.job_is;
     line_is = w.fits.line_is;
@@ -386,11 +378,11 @@ tells_turned t s u h next job later now after tells = record {
 
 -- ---- all text is asked for, and then something is done
 
-pub asked_now : (s : Host) (w : Writing) (h : Journal) → w ≡ with_all_asked s.text → HostFits s h → HostFits (record s { text = w }) h
-asked_now s w h e f = subst (λ v. HostFits (record s { text = v }) h) (sym e) (all_asked s h f)
+pub asked_now : {room : ℕ} (s : Host) (w : Writing) (h : Journal) → w ≡ with_all_asked s.text → HostFits room s h → HostFits room (record s { text = w }) h
+asked_now {room} s w h e f = subst (λ v. HostFits room (record s { text = v }) h) (sym e) (all_asked s h f)
 
-pub worked_asked : (t : Turn) (s u : Host) (w : Writing) (h next : Journal) → w ≡ with_all_asked s.text → HostWorked t (record s { text = w }) u h next → HostWorked t s u h next
-worked_asked t s u w h next e d = record {
+pub worked_asked : {room : ℕ} (t : Turn) (s u : Host) (w : Writing) (h next : Journal) → w ≡ with_all_asked s.text → HostWorked room t (record s { text = w }) u h next → HostWorked room t s u h next
+worked_asked {room} t s u w h next e d = record {
   fits = d.fits;
   steps = d.steps;
   are = d.are;

@@ -10,7 +10,6 @@ use Rattle.outside.specs.declared.Turn.TheVariants.{Did, Wait, Done}
 use Rattle.stream_host.specs.declared.Reading.{Reading}
 use Rattle.stream_host.specs.declared.Reading.TheVariants.{Ended, Failed, Large, Stopped}
 use Rattle.stream_host.specs.Links.{on_link}
-use Rattle.status_report.specs.Answering.{receive_room}
 use Rattle.stream_host.specs.Jobs.{resume, cancel, is_reset, ends_sending}
 use Rattle.stream_host.specs.Ports.{AnswersLines}
 use Rattle.stream_host.specs.Steps.{PortStep, Step, Journal, port_log, has_limit, is_shut, has_bye, is_greeted, answered_of, marks_of, resets_of, awaits_banner, reading_of, scanned_of, unscanned_of, raw_of, live_of, unanswered_of, begun_of, to_store, due_of, awaits_report, awaits_any_report, polls_of, empty_polls, held_polls, holds_of, pause_of, text_of, written_of, has_given_up, this_turn}
@@ -111,14 +110,15 @@ pub record MayRaise (b : ℕ) (h : Journal) : Type 0 where
   pub after : waits_for_lines b ≡ true → AreAnswered h
   pub behind_mark : is_reset b ≡ true → resets_of h < length (marks_of h)
 
--- The next byte of the line in hand is stored: the lines that have no answer, this one among them, take at most 128
--- bytes, and where the line asked for a report, one was got since it first did. No alarm was got, and no Banner is awaited.
-pub record MayStore (b : ℕ) (h : Journal) : Type 0 where
+-- The next byte of the line in hand is stored: the lines that have no answer, this one among them, take no more bytes than the
+-- link has room for, and where the line asked for a report, one was got since it first did. No alarm was got, and no Banner is
+-- awaited.
+pub record MayStore (room b : ℕ) (h : Journal) : Type 0 where
   pub calm : has_limit h ≡ false
   pub epoch : awaits_banner h ≡ false
   pub next : to_store h ≡ b ∷ drop 1 (to_store h)
   pub reported : awaits_report h ≡ false
-  pub room : length (on_link (unanswered_of h)) ≤ receive_room
+  pub few : length (on_link (unanswered_of h)) ≤ room
 
 -- nothing more of the job is to be scanned, nor to be made a line: by what is read and not scanned, the line that is being
 -- scanned, and how many bytes are scanned
@@ -152,14 +152,14 @@ pub record MayGet (r : Reply) (h : Journal) : Type 0 where
   pub lines : AnswersLines (got r ∷ port_log h)
 
 -- no byte is ever dropped
-abbrev pub MayAtPort : PortStep → Journal → Type 0
-MayAtPort (stored b) h = MayStore b h
-MayAtPort (dropped b) h = ⊥
-MayAtPort marked h = MayMark h
-MayAtPort (raised b down) h = MayRaise b h
-MayAtPort (got r) h = MayGet r h
-MayAtPort no_reply h = MayPoll h
-MayAtPort shut h = MayShut h
+abbrev pub MayAtPort : ℕ → PortStep → Journal → Type 0
+MayAtPort room (stored b) h = MayStore room b h
+MayAtPort room (dropped b) h = ⊥
+MayAtPort room marked h = MayMark h
+MayAtPort room (raised b down) h = MayRaise b h
+MayAtPort room (got r) h = MayGet r h
+MayAtPort room no_reply h = MayPoll h
+MayAtPort room shut h = MayShut h
 
 -- more of the replies' text is written, and none behind a write that failed
 pub record MayWrite (n : ℕ) (h : Journal) : Type 0 where
@@ -207,14 +207,14 @@ found_none (at_port no_reply) = true
 found_none _ = false
 
 -- A reply is waited for: none was found in this turn, and nothing else may be done.
-pub record Waits (h : Journal) : Type 0 where
+pub record Waits (room : ℕ) (h : Journal) : Type 0 where
   pub poll : list_any found_none (this_turn h) ≡ true
   pub no_read : MayRead h → ⊥
   pub no_scan : (b : ℕ) → MayScanNext b h → ⊥
   pub no_line : MayEndLine h → ⊥
   pub no_mark : MayMark h → ⊥
   pub no_raise : (b : ℕ) → MayRaise b h → ⊥
-  pub no_store : (b : ℕ) → MayStore b h → ⊥
+  pub no_store : (b : ℕ) → MayStore room b h → ⊥
   pub no_close : MayShut h → ⊥
   pub written : HasWritten h
 
@@ -230,25 +230,25 @@ pub record IsOneTurn (h : Journal) : Type 0 where
   pub polls : count_by polling (this_turn h) ≤ 1
 
 -- what a turn answers; one that moves nothing and answers Did lowers the host's number, as the turn says itself
-abbrev pub MayTurn : Turn → Journal → Type 0
-MayTurn Did h = IsOneTurn h
-MayTurn (Wait Answer) h = IsOneTurn h × Waits h
-MayTurn (Wait on) h = ⊥
-MayTurn Done h = IsDone h
+abbrev pub MayTurn : ℕ → Turn → Journal → Type 0
+MayTurn room Did h = IsOneTurn h
+MayTurn room (Wait Answer) h = IsOneTurn h × Waits room h
+MayTurn room (Wait on) h = ⊥
+MayTurn room Done h = IsDone h
 
 -- the rule of each kind of step
-abbrev pub MayStep : Step → Journal → Type 0
-MayStep (at_port e) h = MayAtPort e h
-MayStep (read_some bytes) h = MayRead h × (0 < length bytes) × (length bytes ≤ largest_piece)
-MayStep read_end h = MayRead h
-MayStep read_failed h = MayRead h
-MayStep (scanned b) h = MayScanNext b h
-MayStep line_over h = MayEndLine h
-MayStep (wrote n) h = MayWrite n h
-MayStep gave_up h = MayGiveUp h
-MayStep (turned t) h = MayTurn t h
+abbrev pub MayStep : ℕ → Step → Journal → Type 0
+MayStep room (at_port e) h = MayAtPort room e h
+MayStep room (read_some bytes) h = MayRead h × (0 < length bytes) × (length bytes ≤ largest_piece)
+MayStep room read_end h = MayRead h
+MayStep room read_failed h = MayRead h
+MayStep room (scanned b) h = MayScanNext b h
+MayStep room line_over h = MayEndLine h
+MayStep room (wrote n) h = MayWrite n h
+MayStep room gave_up h = MayGiveUp h
+MayStep room (turned t) h = MayTurn room t h
 
--- each step of a journal might come when it came
-abbrev pub Conducted : Journal → Type 0
-Conducted [] = Unit {0}
-Conducted (s ∷ h) = MayStep s h × Conducted h
+-- each step of a journal might come when it came, where the link has room for so many bytes
+abbrev pub Conducted : ℕ → Journal → Type 0
+Conducted room [] = Unit {0}
+Conducted room (s ∷ h) = MayStep room s h × Conducted room h

@@ -2,7 +2,7 @@
 use Rattle.std.specs.Prelude.{◌≡◌, ℕ, ◌+◌, ◌-◌, ◌≤◌, cond, List, [], ◌∷◌, ◌++◌, length, take, drop, nat_eq}
 use Rattle.std.specs.List.{AllByRecursion}
 use Rattle.status_report.specs.declared.Reply.{Reply}
-use Rattle.status_report.specs.Answering.{receive_room, answers_in}
+use Rattle.status_report.specs.Answering.{answers_in}
 use Rattle.stream_host.specs.Links.{on_link, banners_in}
 use Rattle.stream_host.specs.Steps.{Journal, port_log, begins, raw_of}
 use Rattle.stream_host.specs.Steps.PortStep.{got}
@@ -35,10 +35,10 @@ abbrev pub replies_in : List Epoch → List Reply
 replies_in [] = []
 replies_in (e ∷ earlier) = replies_in earlier ++ e.got
 
--- an epoch is over: the lines that its end drops take at most 128 bytes on the link, each with its LF
-pub record IsOver (e : Epoch) : Type 0 where
+-- an epoch is over: the lines that its end drops take no more bytes on the link than it has room for, each with its LF
+pub record IsOver (room : ℕ) (e : Epoch) : Type 0 where
   pub few : answers_in e.got ≤ length e.lines
-  pub small : length (on_link (dropped_lines e)) ≤ receive_room
+  pub small : length (on_link (dropped_lines e)) ≤ room
 
 -- each of these marks, by how many bytes were stored before it, ends one of these epochs, both the latest first
 abbrev pub AreEnds : List ℕ → List Epoch → Type 0
@@ -49,12 +49,12 @@ AreEnds (bytes ∷ marks) (e ∷ earlier) = (bytes ≡ length (on_link (lines_in
 
 -- Lines, those of them that live, and replies are those of some epochs that are over and one that goes on. Each Banner but the first
 -- begins one.
-pub record AreEpochs (lines live : List (List ℕ)) (replies : List Reply) (ended : List Epoch) (now : Epoch) : Type 0 where
+pub record AreEpochs (room : ℕ) (lines live : List (List ℕ)) (replies : List Reply) (ended : List Epoch) (now : Epoch) : Type 0 where
   pub lines_are : lines ≡ lines_in ended ++ now.lines
   pub live_are : live ≡ told_in ended ++ now.lines
   pub replies_are : replies ≡ replies_in ended ++ now.got
   pub count : answers_in replies ≡ length (told_in ended) + answers_in now.got
-  pub over : AllByRecursion IsOver ended
+  pub over : AllByRecursion (IsOver room) ended
   pub begun : length ended ≡ banners_in replies - 1
 
 -- ---- the epochs of a journal

@@ -25,6 +25,7 @@ use Rattle.std.specs.declared.option.Option.{Option}
 use Rattle.stream_host.specs.Jobs.{is_long, sent_text}
 use Rattle.stream_host.specs.Steps.{Step, Journal, port_log, got_of, has_limit, is_shut, has_bye, read_of, reading_of, scanned_of, unscanned_of, raw_of, cut_of, live_of, banners_of, resets_of, marks_of, to_store, due_of, asking_of, polls_of, empty_polls, holds_of, pause_of, is_greeted, text_of, written_of, has_given_up, this_turn}
 use Rattle.stream_host.specs.Steps.Step.{turned}
+use Rattle.serial_ring.specs.Lists.{IsRoom}
 use Rattle.stream_host.specs.Conduct.{Conducted, MayTurn, publishing, polling, moving, found_none}
 
 -- ---- the piece that was read last
@@ -151,9 +152,11 @@ pub record KeepsText (w : Writing) (text : List ℕ) (written : ℕ) (given_up b
 abbrev pub HasNone : List ℕ → List ℕ → Type 0
 HasNone left raw = (left ≡ []) × (raw ≡ [])
 
--- What the fields of a host keep of all that it did, which its rules allow.
-pub record HostFits (host : Host) (h : Journal) : Type 0 where
-  pub conducted : Conducted h
+-- What the fields of a host keep of all that it did, which its rules allow, at a link that has room for so many bytes.
+pub record HostFits (room : ℕ) (host : Host) (h : Journal) : Type 0 where
+  pub sized : IsRoom room
+  pub room_is : host.room ≡ room
+  pub conducted : Conducted room h
   pub job_is : KeepsJob host.job (unscanned_of h) (reading_of h) (length (scanned_of h))
   pub line_is : KeepsLine host.line (raw_of h) (to_store h)
   pub due_is : KeepsDue host.line.due (due_of h)
@@ -198,12 +201,12 @@ rank host = cond host.text.failed 0 1
 
 -- What was done in a turn: the host keeps it, it allows the answer, and where the host answers Did, something moves or its
 -- number falls.
-pub record HostWorked (t : Turn) (old new : Host) (h next : Journal) : Type 0 where
-  pub fits : HostFits new next
+pub record HostWorked (room : ℕ) (t : Turn) (old new : Host) (h next : Journal) : Type 0 where
+  pub fits : HostFits room new next
   pub steps : List Step
   pub are : next ≡ steps ++ h
   pub inner : list_any ends_turn steps ≡ false
-  pub may : MayTurn t next
+  pub may : MayTurn room t next
   pub moves : t ≡ Did → (list_any moving steps ≡ true) ⊎ (rank new < rank old)
 
 -- a turn adds what was done in it, which ends no other turn, and its answer
@@ -237,8 +240,8 @@ pub record HostTellsOn (old new : Host) (h next : Journal) (job_now job_later : 
 
 -- What a host did by itself: it keeps it, the port knows nothing of it, nothing is published by it, and something moves or
 -- the host's number falls.
-pub record DidAlone (old new : Host) (h next : Journal) : Type 0 where
-  pub fits : HostFits new next
+pub record DidAlone (room : ℕ) (old new : Host) (h next : Journal) : Type 0 where
+  pub fits : HostFits room new next
   pub steps : List Step
   pub are : next ≡ steps ++ h
   pub inner : list_any ends_turn steps ≡ false
@@ -249,8 +252,8 @@ pub record DidAlone (old new : Host) (h next : Journal) : Type 0 where
 
 -- a line more may be counted
 pub record HasRoom (c : Counts) : Type 0 where
-  pub few : length (lengths c.unanswered) < 129
-  pub small : c.unanswered.total ≤ 128
+  pub few : length (lengths c.unanswered) < 256
+  pub small : c.unanswered.total ≤ 255
   pub summed : IsSummed c.unanswered
   pub lines : c.lines + 1 < 2 ^ 32
   pub all : c.all + 1 < 2 ^ 32

@@ -1,7 +1,7 @@
 -- What a host owes its port, and what the port promises.
 use Rattle.std.specs.Prelude.{◌≡◌, ℕ, ◌+◌, ◌^◌, ◌≤◌, ◌<◌, Bool, true, false, cond, nat_eq, List, [], ◌∷◌, ◌++◌, length, reverse}
 use Rattle.code_table.specs.Tables.{query}
-use Rattle.status_report.specs.Answering.{receive_room, lfs_in}
+use Rattle.status_report.specs.Answering.{lfs_in}
 use Rattle.status_report.specs.declared.Reply.{Reply}
 use Rattle.serial_ring.specs.declared.view.LinkStep.{LinkStep}
 use Rattle.serial_ring.specs.Logs.{AnswersWell, taken_in, marked_in, answered_in, greeted_in, taken_at_banners}
@@ -40,11 +40,11 @@ pub record AreGreeted (h : HostLog) (greeted : List Mark) : Type 0 where
   pub stored : AreGreetings (marks_at_banners h) greeted
 
 -- So many bytes may not be taken yet: those stored behind the last mark whose Banner was got, after the last line that was
--- answered since. A byte is dropped only where they leave no room.
-pub record SeemsFull (h : HostLog) : Type 0 where
+-- answered since. A byte is dropped only where they leave no room on the link, which has room for so many.
+pub record SeemsFull (room : ℕ) (h : HostLog) : Type 0 where
   pub greeted : List Mark
   pub are : AreGreeted h greeted
-  pub full : receive_room ≤ length (behind_lf (answers_behind_mark (latest_got h)) (behind_mark greeted (stored_in h)))
+  pub full : room ≤ length (behind_lf (answers_behind_mark (latest_got h)) (behind_mark greeted (stored_in h)))
 
 -- since the last Banner of a mark each answer is to a line that was stored behind that mark
 pub record AnswersLines (h : HostLog) : Type 0 where

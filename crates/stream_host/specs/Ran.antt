@@ -12,7 +12,7 @@ use Rattle.stream_host.specs.declared.Reading.{Reading}
 use Rattle.stream_host.specs.declared.Reading.TheVariants.{Ended, Failed, Large, Stopped}
 use Rattle.stream_host.specs.declared.Stop.{Stop}
 use Rattle.stream_host.specs.Links.{on_link, banners_in}
-use Rattle.status_report.specs.Answering.{receive_room, answers_in, is_bye}
+use Rattle.status_report.specs.Answering.{answers_in, is_bye}
 use Rattle.stream_host.specs.Jobs.{resume, is_reset, is_long, marks_behind, resets_scanned, lacks_banner, served, served_in, stop_by, IsSent, IsSentSoFar}
 use Rattle.run_rules.specs.Work.{is_limit}
 use Rattle.stream_host.specs.Steps.{Journal, stored_of, marks_of, line_raises_of, has_bye, answered_of, errors_of, read_of, reading_of, scanned_of, cut_of, or_alarm, stop_of, text_of, written_of, has_given_up}
@@ -78,14 +78,14 @@ pub record AreMarks (marks scanned : List ℕ) : Type 0 where
 
 -- A host has run: it read a job so far, raised its realtime bytes but for those that are due, stored a front of its lines,
 -- stored marks at borders of its lines, closed the link or not, and got replies up to Bye. Some of its lines are forgotten, the
--- others live: in each of its epochs that is over, the lines without an answer are forgotten, which take at most 128 bytes, each
+-- others live: in each of its epochs that is over, the lines without an answer are forgotten, which the link has room for, each
 -- with its LF, and it ends at its mark; the latest mark may have no Banner yet. Why it sent no more is what the job says, or
 -- else an alarm, at the first line that is neither answered nor forgotten. Where the link is closed
 -- and no alarm was got, all that is sent of the job is raised and stored; so is all that was cut and scanned where the Banner of a
--- reset is lacking; and the lines that live and have no answer take at most 128 bytes then, each with its LF. Each line that asks for
+-- reset is lacking; and the lines that live and have no answer fit on the link then, each with its LF. Each line that asks for
 -- a report and is answered has one, behind the answers to the lines before it. The console has the text of the replies, all of it
 -- where no write failed. The source's count of faults rose where a read failed, and is as before where none did.
-pub record HostRan (job_was job_is : SourceState) (console_was console_is : SinkState) (stored marks : List ℕ) (shut : Bool) (raised : List ℕ) (got : List Reply) (end : HostEnd) : Type 0 where
+pub record HostRan (room : ℕ) (job_was job_is : SourceState) (console_was console_is : SinkState) (stored marks : List ℕ) (shut : Bool) (raised : List ℕ) (got : List Reply) (end : HostEnd) : Type 0 where
   pub read : List ℕ
   pub reading : Reading
   pub scanned : List ℕ
@@ -97,7 +97,7 @@ pub record HostRan (job_was job_is : SourceState) (console_was console_is : Sink
   pub all : length lines ≡ length live + forgotten
   pub ended : List Epoch
   pub now : Epoch
-  pub epochs : AreEpochs lines live got ended now
+  pub epochs : AreEpochs room lines live got ended now
   pub ends : AreEnds marks ended ⊎ AreEnds (drop 1 marks) ended
   pub all_ended : is_sent_out shut got ≡ true → AreEnds marks ended
   pub awaited : AreAwaited scanned lines (banners_in got)
@@ -113,7 +113,7 @@ pub record HostRan (job_was job_is : SourceState) (console_was console_is : Sink
   pub raises_so_far : AreRaised scanned raised due resumes
   pub sent : is_sent_out shut got ≡ true → IsSent read reading scanned lines end.stop
   pub link : is_out shut raised got ≡ true → stored ≡ on_link lines
-  pub few : is_out shut raised got ≡ true → length (on_link (drop end.answered live)) ≤ receive_room
+  pub few : is_out shut raised got ≡ true → length (on_link (drop end.answered live)) ≤ room
   pub raises : is_out shut raised got ≡ true → AreRaised scanned raised [] resumes
   pub reported : AreReported live got
   pub bye : list_any is_bye got ≡ true
@@ -126,7 +126,7 @@ pub record HostRan (job_was job_is : SourceState) (console_was console_is : Sink
 
 -- A host runs: it has read a job so far, raised its realtime bytes but for those that are due, and stored a front of its lines,
 -- and marks at their borders. The console has a front of the replies' text.
-pub record HostRuns (job_was job_is : SourceState) (console_was console_is : SinkState) (stored marks raised : List ℕ) (got : List Reply) : Type 0 where
+pub record HostRuns (room : ℕ) (job_was job_is : SourceState) (console_was console_is : SinkState) (stored marks raised : List ℕ) (got : List Reply) : Type 0 where
   pub read : List ℕ
   pub reading : Reading
   pub scanned : List ℕ
@@ -134,7 +134,7 @@ pub record HostRuns (job_was job_is : SourceState) (console_was console_is : Sin
   pub live : List (List ℕ)
   pub ended : List Epoch
   pub now : Epoch
-  pub epochs : AreEpochs lines live got ended now
+  pub epochs : AreEpochs room lines live got ended now
   pub awaited : AreAwaited scanned lines (banners_in got)
   pub stop : Stop
   pub taken : Consumes job_was.left job_is.left read

@@ -40,8 +40,8 @@ impl Counts {
 
     /// A line of this length is to be sent, which asks for a pause or not.
     pub(crate) fn add_line(&mut self, size: u8, pauses: bool)
-        requires few { length (lengths self.old.unanswered) < 129 }
-        requires small { self.old.unanswered.total ≤ 128 }
+        requires few { length (lengths self.old.unanswered) < 256 }
+        requires small { self.old.unanswered.total ≤ 255 }
         requires summed { IsSummed self.old.unanswered }
         requires lines { self.old.lines + 1 < 2 ^ 32 }
         requires all { self.old.all + 1 < 2 ^ 32 }

@@ -30,9 +30,6 @@ use status_report::{Reply, put_reply};
 use text_writer::TextWriter;
 use units::Text;
 
-/// So many bytes on the link at most are of lines that have no answer.
-const RECEIVE_ROOM: usize = 128;
-
 /// So many polls in a row that find no reply are enough to resume the machine.
 const EMPTY_POLLS: u16 = 4096;
 
@@ -45,6 +42,8 @@ const HELD_POLLS: u16 = 2048;
 /// Reads a job, raises its realtime bytes, sends its lines by counting characters, and shows the replies.
 #[derive(Drop)]
 pub struct Host {
+    /// So many bytes on the link at most are of lines that have no answer.
+    pub(crate) room: u8,
     pub(crate) job: Reader,
     pub(crate) line: SentLine,
     pub(crate) asking: Asking,
@@ -62,11 +61,14 @@ pub struct Host {
 }
 
 impl Host {
-    /// A host that has done nothing.
-    pub fn new() -> Host
-        ensures { HostFits result [] }
+    /// A host that has done nothing, at a link that has room for `room` bytes, at least 128: so that the longest line that is sent,
+    /// 127 bytes and its LF, has its place there.
+    pub fn new(room: u8) -> Host
+        requires { 128 ≤ room }
+        ensures { HostFits room result [] }
     {
         Host {
+            room,
             job: Reader::new(),
             line: SentLine::new(),
             asking: Asking::Nothing,
@@ -85,7 +87,7 @@ impl Host {
     /// Makes one call of the console with what waits.
     fn write<Co: Sink>(&mut self, console: &mut Co)
         requires { is_due self.old.text ≡ true }
-        ensures { (h : Journal) → HostFits self.old h → (next : Journal) × DidAlone self.old self.new h next
+        ensures { (room : ℕ) (h : Journal) → HostFits room self.old h → (next : Journal) × DidAlone room self.old self.new h next
             × ((job : SourceState) → HostTellsOn self.old self.new h next job job (Co.state console.old) (Co.state console.new)) }
     {
         self.text.write(console);
@@ -93,8 +95,8 @@ impl Host {
 
     /// Counts a reply.
     fn count(&mut self, reply: &Reply)
-        requires { (h : Journal) × HostFits self.old h × AnswersLines (got reply.now ∷ port_log h) }
-        ensures counts { (h : Journal) → HostFits self.old h → AnswersLines (got reply.now ∷ port_log h) → KeepsCounts self.new.counts (live_of h) (got_of h ++ reply.now ∷ []) }
+        requires { (room : ℕ) × (h : Journal) × HostFits room self.old h × AnswersLines (got reply.now ∷ port_log h) }
+        ensures counts { (room : ℕ) (h : Journal) → HostFits room self.old h → AnswersLines (got reply.now ∷ port_log h) → KeepsCounts self.new.counts (live_of h) (got_of h ++ reply.now ∷ []) }
         ensures pause { self.new.counts.pause_at ≡ self.old.counts.pause_at }
         ensures all { self.new.counts.all ≡ self.old.counts.all }
         ensures same { self.new ≡ record self.old { counts = self.new.counts } }
@@ -144,8 +146,8 @@ impl Host {
         requires reply { IsReply reply.now }
         requires ready { is_due self.old.text ≡ false }
         requires going { self.old.bye ≡ false }
-        requires fits { (h : Journal) × HostFits self.old h × AnswersLines (got reply.now ∷ port_log h) }
-        ensures fits { (h : Journal) → HostFits self.old h → AnswersLines (got reply.now ∷ port_log h) → HostFits self.new (at_port (got reply.now) ∷ h) }
+        requires fits { (room : ℕ) × (h : Journal) × HostFits room self.old h × AnswersLines (got reply.now ∷ port_log h) }
+        ensures fits { (room : ℕ) (h : Journal) → HostFits room self.old h → AnswersLines (got reply.now ∷ port_log h) → HostFits room self.new (at_port (got reply.now) ∷ h) }
         ensures tells { (h : Journal) (job : SourceState) (console : SinkState) → HostTellsOn self.old self.new h (at_port (got reply.now) ∷ h) job job console console }
     {
         self.count(reply);
@@ -175,8 +177,8 @@ impl Host {
         requires going { self.old.shut ≡ false }
         requires calm { self.old.alarm ≡ false }
         requires epoch { awaits_by self.old.resets ≡ false }
-        requires fits { (h : Journal) × HostFits self.old h }
-        ensures fits { (h : Journal) → HostFits self.old h → (b : ℕ) × HostFits self.new (scanned b ∷ h) }
+        requires fits { (room : ℕ) × (h : Journal) × HostFits room self.old h }
+        ensures fits { (room : ℕ) (h : Journal) → HostFits room self.old h → (b : ℕ) × HostFits room self.new (scanned b ∷ h) }
         ensures text { self.new.text ≡ self.old.text }
         ensures shut { self.new.shut ≡ self.old.shut }
         ensures alarm { self.new.alarm ≡ self.old.alarm }
@@ -198,8 +200,8 @@ impl Host {
         requires going { self.old.shut ≡ false }
         requires calm { self.old.alarm ≡ false }
         requires epoch { awaits_by self.old.resets ≡ false }
-        requires fits { (h : Journal) × HostFits self.old h }
-        ensures { (h : Journal) → HostFits self.old h → (next : Journal) × DidAlone self.old self.new h next
+        requires fits { (room : ℕ) × (h : Journal) × HostFits room self.old h }
+        ensures { (room : ℕ) (h : Journal) → HostFits room self.old h → (next : Journal) × DidAlone room self.old self.new h next
             × ((job : SourceState) (console : SinkState) → HostTellsOn self.old self.new h next job job console console) }
     {
         self.scan_byte();
@@ -215,9 +217,9 @@ impl Host {
         requires going { self.old.shut ≡ false }
         requires calm { self.old.alarm ≡ false }
         requires epoch { awaits_by self.old.resets ≡ false }
-        requires settled { (h : Journal) → HostFits self.old h → IsSettled h }
-        requires fits { (h : Journal) × HostFits self.old h }
-        ensures { (h : Journal) → HostFits self.old h → (next : Journal) × DidAlone self.old self.new h next
+        requires settled { (room : ℕ) (h : Journal) → HostFits room self.old h → IsSettled h }
+        requires fits { (room : ℕ) × (h : Journal) × HostFits room self.old h }
+        ensures { (room : ℕ) (h : Journal) → HostFits room self.old h → (next : Journal) × DidAlone room self.old self.new h next
             × ((console : SinkState) → HostTellsOn self.old self.new h next (So.state job.old) (So.state job.new) console console) }
     {
         match self.job.read(job) {
@@ -233,7 +235,7 @@ impl Host {
     /// Whether a byte that is due is not raised yet: a `?` or a cancel waits until each line of the epoch before its own is
     /// answered.
     fn is_early(&self, byte: u8) -> bool
-        ensures { (h : Journal) → HostFits self.now h → (result ≡ false) ↔ (waits_for_lines byte ≡ true → AreAnswered h) }
+        ensures { (room : ℕ) (h : Journal) → HostFits room self.now h → (result ≡ false) ↔ (waits_for_lines byte ≡ true → AreAnswered h) }
     {
         waits_for_lines(byte) && self.counts.answered < self.counts.lines
     }
@@ -241,9 +243,9 @@ impl Host {
     /// Whether the line in hand is not stored yet: it waits for a report that it asked for, or the lines that have no answer
     /// leave no room for it.
     fn is_held_back(&self) -> bool
-        ensures { (h : Journal) → HostFits self.now h → (result ≡ false) ↔ ((awaits_report h ≡ false) × (self.now.counts.unanswered.total ≤ 128)) }
+        ensures { (room : ℕ) (h : Journal) → HostFits room self.now h → (result ≡ false) ↔ ((awaits_report h ≡ false) × (self.now.counts.unanswered.total ≤ room)) }
     {
-        self.asking == Asking::Awaits || self.counts.unanswered.total > RECEIVE_ROOM
+        self.asking == Asking::Awaits || self.counts.unanswered.total > usize::from(self.room)
     }
 
     /// Stores the mark of the reset that is due.
@@ -251,9 +253,9 @@ impl Host {
         requires due { self.old.line.due ≡ Some 0x18 }
         requires fresh { self.old.resets.marked ≡ false }
         requires calm { self.old.alarm ≡ false }
-        requires stands { (rest : P.Rest) × (h : Journal) × P.stands port.old rest (port_log h) × HostFits self.old h }
-        ensures marked { (rest : P.Rest) (h : Journal) → P.stands port.old rest (port_log h) → HostFits self.old h → P.stands port.new rest (marked ∷ port_log h)
-            × HostFits self.new (at_port marked ∷ h) }
+        requires stands { (rest : P.Rest) × (h : Journal) × P.stands port.old rest (port_log h) × HostFits P.room self.old h }
+        ensures marked { (rest : P.Rest) (h : Journal) → P.stands port.old rest (port_log h) → HostFits P.room self.old h → P.stands port.new rest (marked ∷ port_log h)
+            × HostFits P.room self.new (at_port marked ∷ h) }
         ensures text { self.new.text ≡ self.old.text }
     {
         port.mark();
@@ -265,10 +267,10 @@ impl Host {
         requires due { self.old.line.due ≡ Some byte }
         requires calm { self.old.alarm ≡ false }
         requires behind_mark { is_reset byte ≡ true → self.old.resets.marked ≡ true }
-        requires after { (h : Journal) → HostFits self.old h → waits_for_lines byte ≡ true → AreAnswered h }
-        requires stands { (rest : P.Rest) × (h : Journal) × P.stands port.old rest (port_log h) × HostFits self.old h }
-        ensures raised { (rest : P.Rest) (h : Journal) → P.stands port.old rest (port_log h) → HostFits self.old h → (down : Bool) × P.stands port.new rest (raised byte down ∷ port_log h)
-            × HostFits self.new (at_port (raised byte down) ∷ h) }
+        requires after { (room : ℕ) (h : Journal) → HostFits room self.old h → waits_for_lines byte ≡ true → AreAnswered h }
+        requires stands { (rest : P.Rest) × (h : Journal) × P.stands port.old rest (port_log h) × HostFits P.room self.old h }
+        ensures raised { (rest : P.Rest) (h : Journal) → P.stands port.old rest (port_log h) → HostFits P.room self.old h → (down : Bool) × P.stands port.new rest (raised byte down ∷ port_log h)
+            × HostFits P.room self.new (at_port (raised byte down) ∷ h) }
         ensures text { self.new.text ≡ self.old.text }
     {
         port.raise(byte);
@@ -282,10 +284,10 @@ impl Host {
     /// A poll found no reply. Where so many have, the machine is resumed. Answers whether it is.
     fn count_poll<P: HostPort>(&mut self, port: &mut P) -> bool
         requires going { self.old.bye ≡ false }
-        requires stands { (rest : P.Rest) × (h : Journal) × P.stands port.old rest (no_reply ∷ port_log h) × HostFits self.old h }
-        ensures resumed { result ≡ true → (rest : P.Rest) (h : Journal) → P.stands port.old rest (no_reply ∷ port_log h) → HostFits self.old h
-            → (down : Bool) × P.stands port.new rest (raised resume down ∷ no_reply ∷ port_log h) × HostFits self.new (at_port (raised resume down) ∷ at_port no_reply ∷ h) }
-        ensures counted { result ≡ false → (port.new ≡ port.old) × ((h : Journal) → HostFits self.old h → HostFits self.new (at_port no_reply ∷ h)) }
+        requires stands { (rest : P.Rest) × (h : Journal) × P.stands port.old rest (no_reply ∷ port_log h) × HostFits P.room self.old h }
+        ensures resumed { result ≡ true → (rest : P.Rest) (h : Journal) → P.stands port.old rest (no_reply ∷ port_log h) → HostFits P.room self.old h
+            → (down : Bool) × P.stands port.new rest (raised resume down ∷ no_reply ∷ port_log h) × HostFits P.room self.new (at_port (raised resume down) ∷ at_port no_reply ∷ h) }
+        ensures counted { result ≡ false → (port.new ≡ port.old) × ((room : ℕ) (h : Journal) → HostFits room self.old h → HostFits room self.new (at_port no_reply ∷ h)) }
         ensures text { self.new.text ≡ self.old.text }
     {
         self.polls += 1;
@@ -304,11 +306,11 @@ impl Host {
         requires storing { self.old.line.whole ≡ true }
         requires calm { self.old.alarm ≡ false }
         requires epoch { awaits_by self.old.resets ≡ false }
-        requires room { self.old.counts.unanswered.total ≤ 128 }
+        requires room { self.old.counts.unanswered.total ≤ self.old.room }
         requires reported { self.old.asking ≢ Asking.Awaits }
-        requires stands { (rest : P.Rest) × (h : Journal) × P.stands port.old rest (port_log h) × HostFits self.old h }
-        ensures stored { (rest : P.Rest) (h : Journal) → P.stands port.old rest (port_log h) → HostFits self.old h → (b : ℕ) × P.stands port.new rest (stored b ∷ port_log h)
-            × HostFits self.new (at_port (stored b) ∷ h) }
+        requires stands { (rest : P.Rest) × (h : Journal) × P.stands port.old rest (port_log h) × HostFits P.room self.old h }
+        ensures stored { (rest : P.Rest) (h : Journal) → P.stands port.old rest (port_log h) → HostFits P.room self.old h → (b : ℕ) × P.stands port.new rest (stored b ∷ port_log h)
+            × HostFits P.room self.new (at_port (stored b) ∷ h) }
         ensures text { self.new.text ≡ self.old.text }
     {
         let byte = self.line.next_byte();
@@ -321,10 +323,10 @@ impl Host {
     /// Closes the link.
     fn close<P: HostPort>(&mut self, port: &mut P)
         requires going { self.old.shut ≡ false }
-        requires may { (h : Journal) → HostFits self.old h → MayShut h }
-        requires stands { (rest : P.Rest) × (h : Journal) × P.stands port.old rest (port_log h) × HostFits self.old h }
-        ensures closed { (rest : P.Rest) (h : Journal) → P.stands port.old rest (port_log h) → HostFits self.old h → P.stands port.new rest (shut ∷ port_log h)
-            × HostFits self.new (at_port shut ∷ h) }
+        requires may { (room : ℕ) (h : Journal) → HostFits room self.old h → MayShut h }
+        requires stands { (rest : P.Rest) × (h : Journal) × P.stands port.old rest (port_log h) × HostFits P.room self.old h }
+        ensures closed { (rest : P.Rest) (h : Journal) → P.stands port.old rest (port_log h) → HostFits P.room self.old h → P.stands port.new rest (shut ∷ port_log h)
+            × HostFits P.room self.new (at_port shut ∷ h) }
         ensures text { self.new.text ≡ self.old.text }
     {
         port.close();
@@ -333,7 +335,7 @@ impl Host {
 
     /// Whether the first banner is awaited: nothing was got, and the board may still tell it.
     fn awaits_greeting(&self) -> bool
-        ensures { (h : Journal) → HostFits self.now h → (result ≡ false) ↔ IsGreeted h }
+        ensures { (room : ℕ) (h : Journal) → HostFits room self.now h → (result ≡ false) ↔ IsGreeted h }
     {
         !self.greeted && self.polls < HELD_POLLS
     }
@@ -341,14 +343,14 @@ impl Host {
     /// Whether the machine may be held: a `!` was raised and no `~` since, or a line that has no answer asks for a pause, and
     /// no `~` was raised since it was scanned.
     fn may_be_held(&self) -> bool
-        ensures { (h : Journal) → HostFits self.now h → result ≡ may_be_held h }
+        ensures { (room : ℕ) (h : Journal) → HostFits room self.now h → result ≡ may_be_held h }
     {
         self.held || self.counts.answered < self.counts.pause_at
     }
 
     /// Whether nothing is awaited, or only the answers of a machine that seems held.
     fn is_settled(&self) -> bool
-        ensures { (h : Journal) → HostFits self.now h → (result ≡ true) ↔ IsSettled h }
+        ensures { (room : ℕ) (h : Journal) → HostFits room self.now h → (result ≡ true) ↔ IsSettled h }
     {
         if self.awaits_greeting() {
             return false;
@@ -378,9 +380,9 @@ impl Host {
     fn send_no_more<P: HostPort>(&mut self, port: &mut P) -> Turn
         requires alarm { self.old.alarm ≡ true }
         requires shown { HasShown self.old.text }
-        requires stands { (rest : P.Rest) × (h : Journal) × P.stands port.old rest (port_log h) × HostFits self.old h × HasPolled h }
-        ensures goes_on { (rest : P.Rest) (h : Journal) → P.stands port.old rest (port_log h) → HostFits self.old h → HasPolled h
-            → (next : Journal) × P.stands port.new rest (port_log next) × HostWorked result self.old self.new h next
+        requires stands { (rest : P.Rest) × (h : Journal) × P.stands port.old rest (port_log h) × HostFits P.room self.old h × HasPolled h }
+        ensures goes_on { (rest : P.Rest) (h : Journal) → P.stands port.old rest (port_log h) → HostFits P.room self.old h → HasPolled h
+            → (next : Journal) × P.stands port.new rest (port_log next) × HostWorked P.room result self.old self.new h next
             × ((job : SourceState) (console : SinkState) → HostTellsOn self.old self.new h next job job console console) }
         ensures going { result ≢ Turn.Done }
     {
@@ -397,9 +399,9 @@ impl Host {
     /// Takes one step of sending, or none behind an alarm.
     fn send<P: HostPort, So: Source>(&mut self, port: &mut P, job: &mut So) -> Turn
         requires shown { HasShown self.old.text }
-        requires stands { (rest : P.Rest) × (h : Journal) × P.stands port.old rest (port_log h) × HostFits self.old h × HasPolled h }
-        ensures goes_on { (rest : P.Rest) (h : Journal) → P.stands port.old rest (port_log h) → HostFits self.old h → HasPolled h
-            → (next : Journal) × P.stands port.new rest (port_log next) × HostWorked result self.old self.new h next
+        requires stands { (rest : P.Rest) × (h : Journal) × P.stands port.old rest (port_log h) × HostFits P.room self.old h × HasPolled h }
+        ensures goes_on { (rest : P.Rest) (h : Journal) → P.stands port.old rest (port_log h) → HostFits P.room self.old h → HasPolled h
+            → (next : Journal) × P.stands port.new rest (port_log next) × HostWorked P.room result self.old self.new h next
             × ((console : SinkState) → HostTellsOn self.old self.new h next (So.state job.old) (So.state job.new) console console) }
         ensures going { result ≢ Turn.Done }
     {
@@ -415,9 +417,9 @@ impl Host {
         requires due { self.old.line.due ≡ Some byte }
         requires calm { self.old.alarm ≡ false }
         requires shown { HasShown self.old.text }
-        requires stands { (rest : P.Rest) × (h : Journal) × P.stands port.old rest (port_log h) × HostFits self.old h × HasPolled h }
-        ensures goes_on { (rest : P.Rest) (h : Journal) → P.stands port.old rest (port_log h) → HostFits self.old h → HasPolled h
-            → (next : Journal) × P.stands port.new rest (port_log next) × HostWorked result self.old self.new h next
+        requires stands { (rest : P.Rest) × (h : Journal) × P.stands port.old rest (port_log h) × HostFits P.room self.old h × HasPolled h }
+        ensures goes_on { (rest : P.Rest) (h : Journal) → P.stands port.old rest (port_log h) → HostFits P.room self.old h → HasPolled h
+            → (next : Journal) × P.stands port.new rest (port_log next) × HostWorked P.room result self.old self.new h next
             × ((job : SourceState) (console : SinkState) → HostTellsOn self.old self.new h next job job console console) }
         ensures going { result ≢ Turn.Done }
     {
@@ -436,9 +438,9 @@ impl Host {
     fn send_on<P: HostPort, So: Source>(&mut self, port: &mut P, job: &mut So) -> Turn
         requires calm { self.old.alarm ≡ false }
         requires shown { HasShown self.old.text }
-        requires stands { (rest : P.Rest) × (h : Journal) × P.stands port.old rest (port_log h) × HostFits self.old h × HasPolled h }
-        ensures goes_on { (rest : P.Rest) (h : Journal) → P.stands port.old rest (port_log h) → HostFits self.old h → HasPolled h
-            → (next : Journal) × P.stands port.new rest (port_log next) × HostWorked result self.old self.new h next
+        requires stands { (rest : P.Rest) × (h : Journal) × P.stands port.old rest (port_log h) × HostFits P.room self.old h × HasPolled h }
+        ensures goes_on { (rest : P.Rest) (h : Journal) → P.stands port.old rest (port_log h) → HostFits P.room self.old h → HasPolled h
+            → (next : Journal) × P.stands port.new rest (port_log next) × HostWorked P.room result self.old self.new h next
             × ((console : SinkState) → HostTellsOn self.old self.new h next (So.state job.old) (So.state job.new) console console) }
         ensures going { result ≢ Turn.Done }
     {
@@ -457,9 +459,9 @@ impl Host {
         requires calm { self.old.alarm ≡ false }
         requires epoch { awaits_by self.old.resets ≡ false }
         requires shown { HasShown self.old.text }
-        requires stands { (rest : P.Rest) × (h : Journal) × P.stands port.old rest (port_log h) × HostFits self.old h × HasPolled h }
-        ensures goes_on { (rest : P.Rest) (h : Journal) → P.stands port.old rest (port_log h) → HostFits self.old h → HasPolled h
-            → (next : Journal) × P.stands port.new rest (port_log next) × HostWorked result self.old self.new h next
+        requires stands { (rest : P.Rest) × (h : Journal) × P.stands port.old rest (port_log h) × HostFits P.room self.old h × HasPolled h }
+        ensures goes_on { (rest : P.Rest) (h : Journal) → P.stands port.old rest (port_log h) → HostFits P.room self.old h → HasPolled h
+            → (next : Journal) × P.stands port.new rest (port_log next) × HostWorked P.room result self.old self.new h next
             × ((console : SinkState) → HostTellsOn self.old self.new h next (So.state job.old) (So.state job.new) console console) }
         ensures going { result ≢ Turn.Done }
     {
@@ -495,9 +497,9 @@ impl Host {
         job: &mut So,
         console: &mut Co,
     ) -> Turn
-        requires stands { (rest : P.Rest) × (h : Journal) × P.stands port.old rest (port_log h) × HostFits self.old h × HasPolled h }
-        ensures goes_on { (rest : P.Rest) (h : Journal) → P.stands port.old rest (port_log h) → HostFits self.old h → HasPolled h
-            → (next : Journal) × P.stands port.new rest (port_log next) × HostWorked result self.old self.new h next
+        requires stands { (rest : P.Rest) × (h : Journal) × P.stands port.old rest (port_log h) × HostFits P.room self.old h × HasPolled h }
+        ensures goes_on { (rest : P.Rest) (h : Journal) → P.stands port.old rest (port_log h) → HostFits P.room self.old h → HasPolled h
+            → (next : Journal) × P.stands port.new rest (port_log next) × HostWorked P.room result self.old self.new h next
             × HostTellsOn self.old self.new h next (So.state job.old) (So.state job.new) (Co.state console.old) (Co.state console.new) }
         ensures going { result ≢ Turn.Done }
     {
@@ -517,9 +519,9 @@ impl Host {
         job: &mut So,
         console: &mut Co,
     ) -> Turn
-        requires stands { (rest : P.Rest) × (h : Journal) × P.stands port.old rest (port_log h) × HostFits self.old h × IsBetween h }
-        ensures goes_on { (rest : P.Rest) (h : Journal) → P.stands port.old rest (port_log h) → HostFits self.old h → IsBetween h
-            → (next : Journal) × P.stands port.new rest (port_log next) × HostWorked result self.old self.new h next
+        requires stands { (rest : P.Rest) × (h : Journal) × P.stands port.old rest (port_log h) × HostFits P.room self.old h × IsBetween h }
+        ensures goes_on { (rest : P.Rest) (h : Journal) → P.stands port.old rest (port_log h) → HostFits P.room self.old h → IsBetween h
+            → (next : Journal) × P.stands port.new rest (port_log next) × HostWorked P.room result self.old self.new h next
             × HostTellsOn self.old self.new h next (So.state job.old) (So.state job.new) (Co.state console.old) (Co.state console.new) }
         ensures done { (result ≡ Turn.Done) ↔ HostRests self.old }
         ensures still { HostRests self.old → (self.new ≡ self.old) × (port.new ≡ port.old) × (job.new ≡ job.old) × (console.new ≡ console.old) }
@@ -563,9 +565,9 @@ impl Host {
         job: &mut So,
         console: &mut Co,
     ) -> Turn
-        requires stands { (rest : P.Rest) × (h : Journal) × P.stands port.old rest (port_log h) × HostFits self.old h × IsBetween h }
-        ensures goes_on { (rest : P.Rest) (h : Journal) → P.stands port.old rest (port_log h) → HostFits self.old h → IsBetween h
-            → (next : Journal) × P.stands port.new rest (port_log next) × HostFits self.new next × IsBetween next × HostTurned result self.old self.new h next
+        requires stands { (rest : P.Rest) × (h : Journal) × P.stands port.old rest (port_log h) × HostFits P.room self.old h × IsBetween h }
+        ensures goes_on { (rest : P.Rest) (h : Journal) → P.stands port.old rest (port_log h) → HostFits P.room self.old h → IsBetween h
+            → (next : Journal) × P.stands port.new rest (port_log next) × HostFits P.room self.new next × IsBetween next × HostTurned result self.old self.new h next
             × HostTellsOn self.old self.new h next (So.state job.old) (So.state job.new) (Co.state console.old) (Co.state console.new) }
         ensures done { (result ≡ Turn.Done) ↔ HostRests self.old }
         ensures still { HostRests self.old → (self.new ≡ self.old) × (port.new ≡ port.old) × (job.new ≡ job.old) × (console.new ≡ console.old) }

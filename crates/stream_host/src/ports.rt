@@ -1,6 +1,6 @@
 //! The port of a host.
 
-ghost use Rattle.std.specs.Prelude.{◌≡◌, ◌∷◌, Bool, IfSome, IfNone};
+ghost use Rattle.std.specs.Prelude.{◌≡◌, ◌∷◌, ℕ, Bool, IfSome, IfNone};
 ghost use Rattle.status_report.specs.Replies.{IsReply};
 ghost use Rattle.realtime_flags.specs.Bytes.{raised_by};
 ghost use Rattle.stream_host.specs.Ports.{IsOpen, TakesByte, TakesMark, TakesRaise, SeemsFull, AnswersLines};
@@ -17,6 +17,9 @@ pub trait HostPort {
     /// What this side does not change.
     ghost Rest: { Type 0 };
 
+    /// So many bytes may be on the link at once.
+    ghost room: { ℕ };
+
     /// This side of the port has done what the log tells, the latest first.
     ghost stands: { Self → Rest → HostLog → Type 0 };
 
@@ -26,7 +29,7 @@ pub trait HostPort {
     fn store(&mut self, byte: u8) -> Stored
         requires { (rest : Rest) × (h : HostLog) × stands self.old rest h × TakesByte h }
         ensures stored { result ≡ Stored.Stored → (rest : Rest) (h : HostLog) → stands self.old rest h → TakesByte h → stands self.new rest (stored byte ∷ h) }
-        ensures dropped { result ≡ Stored.Dropped → (rest : Rest) (h : HostLog) → stands self.old rest h → TakesByte h → stands self.new rest (dropped byte ∷ h) × SeemsFull h };
+        ensures dropped { result ≡ Stored.Dropped → (rest : Rest) (h : HostLog) → stands self.old rest h → TakesByte h → stands self.new rest (dropped byte ∷ h) × SeemsFull room h };
 
     /// Stores a mark behind the bytes so far: its number, counted from 1, and how many these are. Fewer than 2^32 - 1 marks must
     /// have been stored.

@@ -6,7 +6,7 @@ ghost use Rattle.stream_host.specs.Hosts.{lengths, IsSummed};
 use arrayvec::ArrayVec;
 
 /// So many lines have no answer at most: each of those that are sent has a byte, and one more may be in hand.
-type Lengths = ArrayVec<u8, 129>;
+type Lengths = ArrayVec<u8, 256>;
 
 /// The lengths of some lines, the oldest first, and their sum.
 #[derive(Drop)]
@@ -22,7 +22,7 @@ pub(crate) struct Unanswered {
 #[tactic(auto, using(crate::proofs::Counting::turned_over))]
 fn turn_over(newer: &mut Lengths, older: &mut Lengths)
     requires none { older.old.items ≡ [] }
-    requires few { length newer.old.items ≤ 129 }
+    requires few { length newer.old.items ≤ 256 }
     ensures older { older.new.items ≡ reverse newer.old.items }
     ensures newer { newer.new.items ≡ [] }
 {
@@ -57,8 +57,8 @@ impl Unanswered {
     /// A line of this length is sent.
     #[tactic(auto, using(crate::proofs::Counting::sum_push))]
     pub(crate) fn push(&mut self, size: u8)
-        requires few { length (lengths self.old) < 129 }
-        requires small { self.old.total ≤ 128 }
+        requires few { length (lengths self.old) < 256 }
+        requires small { self.old.total ≤ 255 }
         requires summed { IsSummed self.old }
         ensures more { lengths self.new ≡ lengths self.old ++ size ∷ [] }
         ensures summed { IsSummed self.new }

@@ -20,22 +20,22 @@ pub returns-clause-behind : goal.returns-clause-behind
 returns-clause-behind c = behind_own
 
 pub returns-clause-awaits : goal.returns-clause-awaits
-returns-clause-awaits c = λ h conducted awaits. let w = waiting_is h conducted awaits in (whole_by h conducted w.free, w.none_due, few_unanswered h conducted w.free)
+returns-clause-awaits c = λ room h conducted awaits. let w = waiting_is room h conducted awaits in (whole_by room h conducted w.free, w.none_due, few_unanswered room h conducted w.free)
 
 pub returns-clause-banners : goal.returns-clause-banners
-returns-clause-banners c = λ h conducted. (banners_low h conducted, banners_past h)
+returns-clause-banners c = λ room h conducted. (banners_low room h conducted, banners_past h)
 
 pub returns-clause-lines : goal.returns-clause-lines
 returns-clause-lines c = all_lines
 
 pub returns-clause-epochs : goal.returns-clause-epochs
-returns-clause-epochs c = λ h conducted. (epochs_are h conducted, low_now h conducted)
+returns-clause-epochs c = λ room h conducted. (epochs_are room h conducted, low_now room h conducted)
 
 pub returns-clause-places : goal.returns-clause-places
-returns-clause-places c = λ h conducted. (marks_of_resets h conducted, all_marks h conducted)
+returns-clause-places c = λ room h conducted. (marks_of_resets room h conducted, all_marks room h conducted)
 
 pub returns-clause-awaited : goal.returns-clause-awaited
 returns-clause-awaited c = awaited_is
 
 pub returns-clause-ends : goal.returns-clause-ends
-returns-clause-ends c = λ h conducted. (ends_by h conducted, ends_all h conducted)
+returns-clause-ends c = λ room h conducted. (ends_by room h conducted, ends_all room h conducted)

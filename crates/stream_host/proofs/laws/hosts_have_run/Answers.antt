@@ -8,10 +8,10 @@ pub returns-clause-whole : goal.returns-clause-whole
 returns-clause-whole c = has_run_of
 
 pub returns-clause-finished : goal.returns-clause-finished
-returns-clause-finished c = finished_by
+returns-clause-finished c = λ room host h fits rests. finished_by host h fits rests
 
 pub returns-clause-console : goal.returns-clause-console
-returns-clause-console c = console_by
+returns-clause-console c = λ room host h was is fits tells. console_by host h was is fits tells
 
 pub returns-clause-beginning : goal.returns-clause-beginning
 returns-clause-beginning c = λ job console. (tells_nothing job, shows_nothing console)

@@ -7,13 +7,13 @@ pub returns-clause-count : goal.returns-clause-count
 returns-clause-count c = sum_is
 
 pub returns-clause-room : goal.returns-clause-room
-returns-clause-room c = λ b h conducted may. (open_is b h conducted may.calm may.next, room_is b h conducted may)
+returns-clause-room c = λ room b h conducted may. (open_is room b h conducted may.calm may.next, room_is room b h conducted may)
 
 pub returns-clause-answers : goal.returns-clause-answers
 returns-clause-answers c = counts_are
 
 pub returns-clause-read : goal.returns-clause-read
-returns-clause-read c = λ h conducted. (few_scanned h conducted, few_read h conducted)
+returns-clause-read c = λ room h conducted. (few_scanned room h conducted, few_read room h conducted)
 
 pub returns-clause-bytes : goal.returns-clause-bytes
 returns-clause-bytes c = few_stored

@@ -16,7 +16,7 @@ pub returns-clause-closed : goal.returns-clause-closed
 returns-clause-closed c = none_due_shut
 
 pub returns-clause-after : goal.returns-clause-after
-returns-clause-after c = λ b h down waits conducted. all_now h conducted.1 (conducted.0.after waits)
+returns-clause-after c = λ room b h down waits conducted. all_now room h conducted.1 (conducted.0.after waits)
 
 pub returns-clause-reported : goal.returns-clause-reported
 returns-clause-reported c = reported_is

@@ -12,5 +12,5 @@ pub returns-clause-stop : goal.returns-clause-stop
 returns-clause-stop c = stop_behind
 
 pub returns-clause-whole : goal.returns-clause-whole
-returns-clause-whole c = λ h conducted closed calm.
-    (let all = shut_is h conducted closed calm in (sent_all h conducted all (stop_calm h calm), all_stored h conducted all))
+returns-clause-whole c = λ room h conducted closed calm.
+    (let all = shut_is room h conducted closed calm in (sent_all room h conducted all (stop_calm h calm), all_stored room h conducted all))

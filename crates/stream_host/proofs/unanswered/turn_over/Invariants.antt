@@ -4,7 +4,7 @@ use Rattle.stream_host.proofs.unanswered.turn_over.Given as goal
 abbrev pub invariant-loop-size : goal.invariant-loop-size
 invariant-loop-size l = record {
   list : reverse l.fn.newer.items ≡ l.older.items ++ reverse l.newer.items;
-  few : length l.older.items + length l.newer.items ≤ 129;
+  few : length l.older.items + length l.newer.items ≤ 256;
 }
 
 abbrev pub decreases-loop-size : goal.decreases-loop-size

@@ -3,4 +3,4 @@ use Rattle.stream_host.proofs.Hosting.{early_by}
 use Rattle.stream_host.proofs.host.Host.is_early.Goals as goal
 
 pub returns-then-waits_for_lines : goal.returns-then-waits_for_lines
-returns-then-waits_for_lines c = λ h f. early_by c.args.self.now c.args.byte h _ f (sym c.waits_for_lines.ensures ∙ c.if-waits_for_lines.true) refl
+returns-then-waits_for_lines c = λ room h f. early_by c.args.self.now c.args.byte h _ f (sym c.waits_for_lines.ensures ∙ c.if-waits_for_lines.true) refl

@@ -7,7 +7,7 @@ use Rattle.stream_host.proofs.host.Host.raise_due.Goals as goal
 
 pub returns-then-is_early-clause-goes_on : goal.returns-then-is_early-clause-goes_on
 returns-then-is_early-clause-goes_on g c = λ rest h stands f polled.
-    let early : (waits_for_lines c.args.byte ≡ true → AreAnswered h) → ⊥ = (λ after. not_both _ ((c.is_early.ensures h f).1 after) c.if-is_early.true) in
+    let early : (waits_for_lines c.args.byte ≡ true → AreAnswered h) → ⊥ = (λ after. not_both _ ((c.is_early.ensures _ h f).1 after) c.if-is_early.true) in
     (h, stands, waits_early c.args.self.now c.args.byte h f c.requires.calm polled c.requires.shown c.requires.due early, λ job console. tells_same c.args.self.now h job console)
 
 pub returns-then-is_early-clause-going : goal.returns-then-is_early-clause-going
@@ -38,7 +38,7 @@ raise-requires g c =
       due = c.requires.due;
       calm = c.requires.calm;
       behind_mark = wants_none c.wants_mark.result c.args.byte c.args.self.now.resets.marked c.wants_mark.ensures c.if-wants_mark.false;
-      after = λ h f. (c.is_early.ensures h f).0 c.if-is_early.false;
+      after = λ room h f. (c.is_early.ensures room h f).0 c.if-is_early.false;
       stands = (r.0, r.1, r.2, r.3);
     }
 

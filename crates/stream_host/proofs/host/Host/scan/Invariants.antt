@@ -10,7 +10,7 @@ invariant-loop-self l = record {
   calm : l.self.alarm ≡ false;
   epoch : awaits_by l.self.resets ≡ false;
   text : l.self.text ≡ l.fn.self.text;
-  scans : (h : Journal) → HostFits l.fn.self h → (bytes : List ℕ) × (0 < length bytes) × HostFits l.self (map scanned bytes ++ h);
+  scans : (room : ℕ) (h : Journal) → HostFits room l.fn.self h → (bytes : List ℕ) × (0 < length bytes) × HostFits room l.self (map scanned bytes ++ h);
 }
 
 abbrev pub decreases-loop-self : goal.decreases-loop-self

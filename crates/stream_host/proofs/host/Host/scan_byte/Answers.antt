@@ -5,10 +5,10 @@ use Rattle.stream_host.proofs.Hosting.{has_room, scanned_byte, scanned_lf, few_a
 use Rattle.stream_host.proofs.host.Host.scan_byte.Goals as goal
 
 pub finish_line-requires-clause-room : goal.finish_line-requires-clause-room
-finish_line-requires-clause-room c = let r = c.requires.fits in has_room c.args.self.now r.0 r.1 (r.1.line_is.scanning c.requires.may.scanning).1
+finish_line-requires-clause-room c = let r = c.requires.fits in has_room c.args.self.now r.1 r.2 (r.2.line_is.scanning c.requires.may.scanning).1
 
 pub returns-then-byte-eq10-clause-fits : goal.returns-then-byte-eq10-clause-fits
-returns-then-byte-eq10-clause-fits c = λ h f.
+returns-then-byte-eq10-clause-fits c = λ room h f.
     let n = c.next_byte-byte.ensures in
     let s = c.args.self.now in
     let has = (f.line_is.scanning c.requires.may.scanning).0 in (
@@ -18,7 +18,7 @@ returns-then-byte-eq10-clause-fits c = λ h f.
     )
 
 pub returns-else-byte-eq10-clause-fits : goal.returns-else-byte-eq10-clause-fits
-returns-else-byte-eq10-clause-fits c = λ h f.
+returns-else-byte-eq10-clause-fits c = λ room h f.
     let n = c.next_byte-byte.ensures in (
       c.next_byte-byte.result,
       scanned_byte c.args.self.now _ _ _ c.next_byte-byte.result h f c.requires.may c.requires.going c.requires.calm c.requires.epoch n.byte n.piece n.scanned n.reading (grind (arith, nat_tests, c.if-byte-eq10.false))

@@ -1,5 +1,4 @@
-use Rattle.std.proofs.Common.{◌≡◌, ◌≤◌, false, ◌∷◌, refl}
-use Rattle.stream_host.specs.Steps.{awaits_report}
+use Rattle.std.proofs.Common.{◌∷◌, refl, arith}
 use Rattle.stream_host.specs.Conduct.{IsSettled}
 use Rattle.stream_host.specs.Steps.PortStep.{stored, shut}
 use Rattle.stream_host.specs.Steps.Step.{at_port}
@@ -10,8 +9,7 @@ use Rattle.stream_host.proofs.host.Host.send_line.Goals as goal
 
 pub returns-then-is_held_back-clause-goes_on : goal.returns-then-is_held_back-clause-goes_on
 returns-then-is_held_back-clause-goes_on g c = λ rest h stands f polled.
-    let held : (awaits_report h ≡ false) × (c.args.self.now.counts.unanswered.total ≤ 128) → ⊥ = (λ free. not_both _ ((c.is_held_back.ensures h f).1 free) c.if-is_held_back.true) in
-    (h, stands, waits_held_back c.args.self.now h f c.requires.calm polled c.requires.shown c.requires.none_due c.if-self.true held, λ console. tells_same c.args.self.now h _ console)
+    (h, stands, waits_held_back c.args.self.now h f c.requires.calm polled c.requires.shown c.requires.none_due c.if-self.true (λ free. not_both _ ((c.is_held_back.ensures _ h f).1 free) c.if-is_held_back.true), λ console. tells_same c.args.self.now h _ console)
 
 pub returns-then-self-clause-goes_on : goal.returns-then-self-clause-goes_on
 returns-then-self-clause-goes_on g c = λ rest h stands f polled.
@@ -28,19 +26,19 @@ returns-then-self-2-clause-goes_on g c = λ rest h stands f polled.
 
 pub returns-then-may_scan-clause-goes_on : goal.returns-then-may_scan-clause-goes_on
 returns-then-may_scan-clause-goes_on g c = λ rest h stands f polled.
-    let n = c.scan.ensures h f in (n.0, rw n.1.port stands, did_alone c.args.self.now _ h n.0 polled.quiet polled.once n.1, λ console. n.2 _ console)
+    let n = c.scan.ensures _ h f in (n.0, rw n.1.port stands, did_alone c.args.self.now _ h n.0 polled.quiet polled.once n.1, λ console. n.2 _ console)
 
 pub returns-then-not-is_settled-clause-goes_on : goal.returns-then-not-is_settled-clause-goes_on
 returns-then-not-is_settled-clause-goes_on g c = λ rest h stands f polled.
-    let busy : IsSettled h → ⊥ = (λ settled. not_both _ c.if-not-is_settled.true ((c.is_settled.ensures h f).1 settled)) in
+    let busy : IsSettled h → ⊥ = (λ settled. not_both _ c.if-not-is_settled.true ((c.is_settled.ensures _ h f).1 settled)) in
     (h, stands, waits_unsettled c.args.self.now h f c.requires.calm polled c.requires.shown (c.may_read.ensures.may c.if-may_read.true) busy, λ console. tells_same c.args.self.now h _ console)
 
 pub returns-then-may_read-clause-goes_on : goal.returns-then-may_read-clause-goes_on
 returns-then-may_read-clause-goes_on g c = λ rest h stands f polled.
-    let n = c.read.ensures h f in (n.0, rw n.1.port stands, did_alone c.args.self.now _ h n.0 polled.quiet polled.once n.1, λ console. n.2 console)
+    let n = c.read.ensures _ h f in (n.0, rw n.1.port stands, did_alone c.args.self.now _ h n.0 polled.quiet polled.once n.1, λ console. n.2 console)
 
 pub close-requires-clause-may : goal.close-requires-clause-may
-close-requires-clause-may g c = λ h f.
+close-requires-clause-may g c = λ room h f.
     may_shut c.args.self.now h f c.if-self.false c.if-self-2.false c.requires.epoch c.requires.none_due (c.may_scan.ensures.may_not c.if-may_scan.false) (c.may_read.ensures.may_not c.if-may_read.false)
 
 pub returns-clause-goes_on : goal.returns-clause-goes_on
@@ -80,13 +78,13 @@ pub store-requires-clause-calm : goal.store-requires-clause-calm
 store-requires-clause-calm g c = c.requires.calm
 
 pub store-requires-clause-room : goal.store-requires-clause-room
-store-requires-clause-room g c = let r = c.requires.stands in ((c.is_held_back.ensures r.1 r.3).0 c.if-is_held_back.false).1
+store-requires-clause-room g c = let r = c.requires.stands in let e = r.3.room_is in let few = ((c.is_held_back.ensures _ r.1 r.3).0 c.if-is_held_back.false).1 in omega arith
 
 pub store-requires-clause-stands : goal.store-requires-clause-stands
 store-requires-clause-stands g c = let r = c.requires.stands in (r.0, r.1, r.2, r.3)
 
 pub scan-requires : goal.scan-requires
-scan-requires g c = let r = c.requires.stands in record { may = c.may_scan.ensures.may c.if-may_scan.true; going = c.if-self-2.false; calm = c.requires.calm; epoch = c.requires.epoch; fits = (r.1, r.3) }
+scan-requires g c = let r = c.requires.stands in record { may = c.may_scan.ensures.may c.if-may_scan.true; going = c.if-self-2.false; calm = c.requires.calm; epoch = c.requires.epoch; fits = (_, r.1, r.3) }
 
 pub read-requires : goal.read-requires
 read-requires g c =
@@ -97,8 +95,8 @@ read-requires g c =
       going = c.if-self-2.false;
       calm = c.requires.calm;
       epoch = c.requires.epoch;
-      settled = λ h f. (c.is_settled.ensures h f).0 c.if-not-is_settled.false;
-      fits = (r.1, r.3);
+      settled = λ room h f. (c.is_settled.ensures room h f).0 c.if-not-is_settled.false;
+      fits = (_, r.1, r.3);
     }
 
 pub close-requires-clause-going : goal.close-requires-clause-going

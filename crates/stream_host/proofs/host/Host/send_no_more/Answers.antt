@@ -16,7 +16,7 @@ returns-then-awaits-clause-goes_on g c = λ rest h stands f polled.
     (h, stands, waits_at_alarm s h f polled c.requires.shown c.requires.alarm (shut_later s h f (sym c.awaits.ensures ∙ c.if-awaits.true)), λ job console. tells_same s h job console)
 
 pub close-requires-clause-may : goal.close-requires-clause-may
-close-requires-clause-may g c = λ h f. may_shut_at_alarm c.args.self.now h f c.if-self.false (sym c.awaits.ensures ∙ c.if-awaits.false) c.requires.alarm
+close-requires-clause-may g c = λ room h f. may_shut_at_alarm c.args.self.now h f c.if-self.false (sym c.awaits.ensures ∙ c.if-awaits.false) c.requires.alarm
 
 pub returns-clause-goes_on : goal.returns-clause-goes_on
 returns-clause-goes_on g c = λ rest h stands f polled.

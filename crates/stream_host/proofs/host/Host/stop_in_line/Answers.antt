@@ -5,10 +5,10 @@ use Rattle.stream_host.proofs.Hosting.{is_long_now, few_lines}
 use Rattle.stream_host.proofs.host.Host.stop_in_line.Goals as goal
 
 pub returns-then-self : goal.returns-then-self
-returns-then-self c = λ h f.
+returns-then-self c = λ room h f.
     let few = few_lines c.args.self.now h f in
     let e = c.saturating_add.ensures in
     ap LongLine (omega arith) ∙ ap (λ b. cond b (LongLine (length (cut_of h) + 1)) End) (sym c.if-self.true ∙ is_long_now c.args.self.now h f)
 
 pub returns-else-self : goal.returns-else-self
-returns-else-self c = λ h f. ap (λ b. cond b (LongLine (length (cut_of h) + 1)) End) (sym c.if-self.false ∙ is_long_now c.args.self.now h f)
+returns-else-self c = λ room h f. ap (λ b. cond b (LongLine (length (cut_of h) + 1)) End) (sym c.if-self.false ∙ is_long_now c.args.self.now h f)

@@ -4,7 +4,7 @@ use Rattle.stream_host.proofs.host.Host.without_reply.Goals as goal
 pub returns-then-shows-clause-goes_on : goal.returns-then-shows-clause-goes_on
 returns-then-shows-clause-goes_on g c = λ rest h stands f polled.
     let s = c.args.self.now in
-    let n = c.write.ensures h (asked_now s _ h c.ask.ensures f) in
+    let n = c.write.ensures _ h (asked_now s _ h c.ask.ensures f) in
     (n.0, rw n.1.port stands, worked_asked _ s _ _ h n.0 c.ask.ensures (did_alone _ _ h n.0 polled.quiet polled.once n.1), tells_asked s _ _ h n.0 _ _ _ _ c.ask.ensures (n.2 _))
 
 pub returns-clause-goes_on : goal.returns-clause-goes_on

@@ -8,7 +8,7 @@ use Rattle.stream_host.proofs.host.Host.work.Goals as goal
 
 pub returns-then-is_due-clause-goes_on : goal.returns-then-is_due-clause-goes_on
 returns-then-is_due-clause-goes_on g c = λ rest h stands f between.
-    let n = c.write.ensures h f in
+    let n = c.write.ensures _ h f in
     (n.0, rw n.1.port stands, did_alone _ _ h n.0 (quiet_between h between) (polls_between h between) n.1, n.2 _)
 
 pub returns-then-self-clause-goes_on : goal.returns-then-self-clause-goes_on
@@ -33,18 +33,18 @@ pub without_reply-requires : goal.without_reply-requires
 without_reply-requires g c =
     let r = c.requires.stands in
     let n = c.count_poll.ensures.counted c.if-count_poll.false in
-    record { stands = (r.0, at_port no_reply ∷ r.1, rw n.0 (c.in-None.ensures.none r.0 (port_log r.1) r.2), n.1 r.1 r.3, has_polled r.1 r.4) }
+    record { stands = (r.0, at_port no_reply ∷ r.1, rw n.0 (c.in-None.ensures.none r.0 (port_log r.1) r.2), n.1 _ r.1 r.3, has_polled r.1 r.4) }
 
 pub returns-else-count_poll-clause-goes_on : goal.returns-else-count_poll-clause-goes_on
 returns-else-count_poll-clause-goes_on g c = λ rest h stands f between.
     let counted = c.count_poll.ensures.counted c.if-count_poll.false in
-    let n = c.without_reply.ensures.goes_on rest (at_port no_reply ∷ h) (rw counted.0 (c.in-None.ensures.none rest (port_log h) stands)) (counted.1 h f) (has_polled h between) in
+    let n = c.without_reply.ensures.goes_on rest (at_port no_reply ∷ h) (rw counted.0 (c.in-None.ensures.none rest (port_log h) stands)) (counted.1 _ h f) (has_polled h between) in
     (n.0, n.1, worked_on _ c.args.self.now _ _ h n.0 c.count_poll.ensures.text n.2, tells_polled c.args.self.now _ _ h n.0 _ _ _ _ c.count_poll.ensures.text n.3)
 
 pub take_reply-requires-clause-fits : goal.take_reply-requires-clause-fits
 take_reply-requires-clause-fits g c =
     let r = c.requires.stands in
-    (r.1, r.3, c.in-Some.ensures.lines r.0 (port_log r.1) r.2)
+    (_, r.1, r.3, c.in-Some.ensures.lines r.0 (port_log r.1) r.2)
 
 pub returns-in-Some-clause-goes_on : goal.returns-in-Some-clause-goes_on
 returns-in-Some-clause-goes_on g c = λ rest h stands f between.
@@ -52,7 +52,7 @@ returns-in-Some-clause-goes_on g c = λ rest h stands f between.
     let lines = c.in-Some.ensures.lines rest (port_log h) stands in (
       at_port (got r) ∷ h,
       c.in-Some.ensures.some rest (port_log h) stands,
-      did_at_port c.args.self.now _ (at_port (got r)) h refl refl (c.take_reply.ensures.fits h f lines) (few_got_now r h between),
+      did_at_port c.args.self.now _ (at_port (got r)) h refl refl (c.take_reply.ensures.fits _ h f lines) (few_got_now r h between),
       c.take_reply.ensures.tells h _ _,
     )
 
