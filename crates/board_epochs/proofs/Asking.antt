@@ -53,15 +53,15 @@ unended_own : (l : BoardLog) (s : Sent) → sent_in l ≡ s → s ≡ onto none_
 unended_own l s is own going =
     ap has_ended (sym (append-nil (reverse (published_in l)))) ∙ ap has_ended (sym (append-nil (reverse (published_in l) ++ []))) ∙ sym (ap (λ (x : Sent). has_ended (ring.published_in x)) (is ∙ own)) ∙ going
 
-pub publish_there : (state : State) (es : NewestFirst Closed) (h : Journal) (p : Piece) → AreConducted state es h → IsInHand p h → MayPublish (log_of (goes es h)) p
-publish_there state es h p c next =
-    let first = opening_behind state es in
+pub publish_there : (blocks : ℕ) (state : State) (es : NewestFirst Closed) (h : Journal) (p : Piece) → AreConducted blocks state es h → IsInHand p h → MayPublish (log_of (goes es h)) p
+publish_there blocks state es h p c next =
+    let first = opening_behind blocks state es in
     let before = closed_log es in
     let conducted = c.1 in
     let never = journals_never_stop first h conducted in
     let own = may_publish_next first h p conducted next in
-    let few = few_behind state es c.0 in
-    let n = few_epochs state es c.0 in
+    let few = few_behind blocks state es c.0 in
+    let n = few_epochs blocks state es c.0 in
     let ticks = own_ticks (port_log h) never in
     let hand = hand_ticks first h p conducted next in
     let all = taken_behind before h in
@@ -69,7 +69,7 @@ publish_there state es h p c next =
     let known = few.ticks in let had = few.pieces in
     let now = pieces_behind first before h conducted in
     let here = pieces_bounded first h conducted (unended_own (port_log h) (sent_in (port_log h)) refl (sent_own (port_log h) never) own.going) in
-    publish_behind before (port_log h) p (begins_behind state es c.0) never own (record {
+    publish_behind before (port_log h) p (begins_behind blocks state es c.0) never own (record {
       ticks = omega (arith, n, ticks, hand, all, bytes, known);
       pieces = omega (arith, n, all, bytes, had, now, here);
     })
@@ -83,14 +83,14 @@ both_taken (took b ∷ l) m =
 both_taken (_ ∷ l) m = both_taken l m
 
 -- as many lines at most as bytes
-lines_there : (state : State) (es : NewestFirst Closed) → AreClosed state es → (opening_behind state es).lines ≤ length (taken_in (closed_log es))
-lines_there state [] c = omega arith
-lines_there state (e ∷ es) c =
-    let first = opening_behind state es in
+pub lines_there : (blocks : ℕ) (state : State) (es : NewestFirst Closed) → AreClosed blocks state es → (opening_behind blocks state es).lines ≤ length (taken_in (closed_log es))
+lines_there blocks state [] c = omega arith
+lines_there blocks state (e ∷ es) c =
+    let first = opening_behind blocks state es in
     let h = e.journal in
     let before = closed_log es in
     let conducted = c.0.resetting.epoch.conducted in
-    let was = lines_there state es c.1 in
+    let was = lines_there blocks state es c.1 in
     let lfs = lfs_of_lines (taken_of h) (lines_of h) (open_of h) (whole_of h) (bytes_are first h conducted) in
     let many = as_many h in
     let below = count_by-le-length (λ (b : ℕ). nat_eq b 10) (taken_of h) in
@@ -99,29 +99,29 @@ lines_there state (e ∷ es) c =
     let all = both_taken (port_log e.work) (log_behind before h) in
     omega (arith, was, lfs, many, below, dropped, taken, all)
 
-pub number_there : (state : State) (es : NewestFirst Closed) (h : Journal) → AreClosed state es → Conducted (opening_behind state es) h → last_line (opening_behind state es) h ≤ length (taken_in (log_behind (closed_log es) h))
-number_there state es h c conducted =
-    let was = lines_there state es c in let lines = lines_in_bytes (opening_behind state es) h conducted in let all = taken_behind (closed_log es) h in omega (arith, was, lines, all)
+pub number_there : (blocks : ℕ) (state : State) (es : NewestFirst Closed) (h : Journal) → AreClosed blocks state es → Conducted (opening_behind blocks state es) h → last_line (opening_behind blocks state es) h ≤ length (taken_in (log_behind (closed_log es) h))
+number_there blocks state es h c conducted =
+    let was = lines_there blocks state es c in let lines = lines_in_bytes (opening_behind blocks state es) h conducted in let all = taken_behind (closed_log es) h in omega (arith, was, lines, all)
 
 unended_all : (before : BoardLog) (ps : List Piece) → Begins before → has_ended ps ≡ false → has_ended (ring.published_in (onto (sent_in before) ps)) ≡ false
 unended_all before ps (a_run sent known) none = ap (λ (s : Sent). has_ended (ring.published_in (onto s ps))) sent ∙ ap has_ended (append-nil (ps ++ []) ∙ append-nil ps) ∙ none
 unended_all before ps (an_epoch m s sent waits since known) none =
     ap (λ (x : Sent). has_ended (ring.published_in (onto x ps))) sent ∙ ended_mark m s.older ps s.since since (ap has_ended (append-nil (ps ++ []) ∙ append-nil ps) ∙ none)
 
-pub mark_there : (state : State) (es : NewestFirst Closed) (h : Journal) (w : Work) → AreEpochs state (resets es h w) → stage_of (log_behind (closed_log es) h) w ≡ publishes
-    → MayPublish (log_of (resets es h w)) (pieces.Mark (marks.Reset (last_line (opening_behind state es) h)))
-mark_there state es h w c stage =
-    let first = opening_behind state es in
+pub mark_there : (blocks : ℕ) (state : State) (es : NewestFirst Closed) (h : Journal) (w : Work) → AreEpochs blocks state (resets es h w) → stage_of (log_behind (closed_log es) h) w ≡ publishes
+    → MayPublish (log_of (resets es h w)) (pieces.Mark (marks.Reset (last_line (opening_behind blocks state es) h)))
+mark_there blocks state es h w c stage =
+    let first = opening_behind blocks state es in
     let before = closed_log es in
     let lb = log_behind before h in
     let conducted = c.1.epoch.conducted in
     let never = journals_never_stop first h conducted in
     let number = last_line first h in
     let alone = publishes_alone number lb w c.1.works stage in
-    let few = few_behind state es c.0 in
-    let n = few_epochs state es c.0 in
+    let few = few_behind blocks state es c.0 in
+    let n = few_epochs blocks state es c.0 in
     let ticks = own_ticks (port_log h) never in
-    let on = ticks_behind before (port_log h) (begins_behind state es c.0) never in
+    let on = ticks_behind before (port_log h) (begins_behind blocks state es c.0) never in
     let bound = ticks_bounded first h conducted in
     let halted = halted_below number lb w c.1.works in
     let all = taken_behind before h in
@@ -131,19 +131,19 @@ mark_there state es h w c stage =
     let going = not_ended (reverse (published_of h)) (no_ends_back (published_of h) (none_ended first h conducted (unended first h c.1.epoch c.1.may))) in
     let now = pieces_behind first before h conducted in
     let here = pieces_bounded first h conducted going in
-    let line = number_there state es h c.0 conducted in
+    let line = number_there blocks state es h c.0 conducted in
     subst (λ (s : Sent). ring.MayPublish s (pieces.Mark (marks.Reset number))) (sym alone.0) (record {
       running = refl;
-      going = ap (λ (s : Sent). has_ended (ring.published_in s)) (sent_on (known_in before) (port_log h) before never) ∙ unended_all before (reverse (published_of h)) (begins_behind state es c.0) going;
+      going = ap (λ (s : Sent). has_ended (ring.published_in s)) (sent_on (known_in before) (port_log h) before never) ∙ unended_all before (reverse (published_of h)) (begins_behind blocks state es c.0) going;
       follows = omega (arith, line, all, more, bytes);
       few = omega (arith, n, ticks, on, bound, halted, all, more, bytes, known);
       room = omega (arith, n, all, more, bytes, had, now, here);
     })
 
 -- and there is room for it
-pub room_for_mark : (state : State) (es : NewestFirst Closed) (h : Journal) (w : Work) (done : ℕ) → AreEpochs state (resets es h w) → stage_of (log_behind (closed_log es) h) w ≡ publishes
+pub room_for_mark : (blocks : ℕ) (state : State) (es : NewestFirst Closed) (h : Journal) (w : Work) (done : ℕ) → AreEpochs blocks state (resets es h w) → stage_of (log_behind (closed_log es) h) w ≡ publishes
     → LacksPieceRoom done (log_of (resets es h w)) → ⊥
-room_for_mark state es h w done c stage lacks =
-    let alone = publishes_alone (last_line (opening_behind state es) h) (log_behind (closed_log es) h) w c.1.works stage in
+room_for_mark blocks state es h w done c stage lacks =
+    let alone = publishes_alone (last_line (opening_behind blocks state es) h) (log_behind (closed_log es) h) w c.1.works stage in
     let none : 0 ≡ most_unfinished = sym (ap (λ (s : Sent). ring.unfinished_in s done) alone.0) ∙ lacks.full in
     absurd (omega (arith, none))

@@ -19,8 +19,7 @@ use Rattle.board_rules.specs.Ports.{BoardLog, asks_report, taken_in, answered_in
 use Rattle.board_rules.specs.Ports.PortStep.{took, found_mark, answered, reported, took_exec, found_halt}
 use Rattle.board_rules.specs.Steps.{Journal, port_log, taken_of, answered_of, published_of, given_of, planned_of, hand_of}
 use Rattle.board_rules.specs.Steps.Step.{at_port, turned}
-use Rattle.board_rules.proofs.Breaking.{planned_none}
-use Rattle.board_rules.proofs.Ending.{NoEnds, no_ends_back, not_ended, published_in_turn}
+use Rattle.board_rules.proofs.Ending.{NoEnds, no_ends_back, not_ended, published_in_turn, planned_none}
 use Rattle.board_rules.proofs.Given.{published_within}
 use Rattle.board_rules.proofs.Keeping.{hand_is}
 use Rattle.board_rules.proofs.Limits.{given_by_lines, lines_in_bytes, answered_by_lines}
@@ -39,8 +38,8 @@ use Rattle.board_epochs.proofs.Prompting.{unended}
 use Rattle.board_epochs.proofs.Working.{all_of, never, works_end, holds, Holds}
 
 -- the open epoch keeps to its rules, promptly or not, and the port gives so much at most
-abbrev pub AreConducted : State → NewestFirst Closed → Journal → Type 0
-AreConducted state es h = AreClosed state es × Conducted (opening_behind state es) h × IsBounded (log_behind (closed_log es) h)
+abbrev pub AreConducted : (blocks : ℕ) → State → NewestFirst Closed → Journal → Type 0
+AreConducted blocks state es h = AreClosed blocks state es × Conducted (opening_behind blocks state es) h × IsBounded (log_behind (closed_log es) h)
 
 -- ---- the marks
 
@@ -89,10 +88,10 @@ marks_on first before e n is m =
       greeted = answered_none (last_line first e.journal) lb e.work is.resetting.works ∙ greeted_then first e.journal before c is.resetting.may;
     }
 
-pub marked_behind : (state : State) (es : NewestFirst Closed) → AreClosed state es → Marked (closed_log es) (length es)
-marked_behind state [] c = inl (refl, refl)
-marked_behind state (e ∷ es) c =
-    let is = marks_on (opening_behind state es) (closed_log es) e (length es) c.0 (marked_behind state es c.1) in
+pub marked_behind : (blocks : ℕ) (state : State) (es : NewestFirst Closed) → AreClosed blocks state es → Marked (closed_log es) (length es)
+marked_behind blocks state [] c = inl (refl, refl)
+marked_behind blocks state (e ∷ es) c =
+    let is = marks_on (opening_behind blocks state es) (closed_log es) e (length es) c.0 (marked_behind blocks state es c.1) in
     let one : length es + 1 ≡ length (e ∷ es) = omega arith in
     inr (subst (AreMarked (closed_log (e ∷ es))) one is)
 
@@ -196,15 +195,15 @@ few_on first before e n is b m =
       replies = omega (arith, replies, told, none, lines, bytes, asked, later, taken, more);
     }
 
-pub few_behind : (state : State) (es : NewestFirst Closed) → AreClosed state es → IsFew (closed_log es) (length es)
-few_behind state [] c = record { ticks = omega arith; pieces = omega arith; replies = omega arith }
-few_behind state (e ∷ es) c =
+pub few_behind : (blocks : ℕ) (state : State) (es : NewestFirst Closed) → AreClosed blocks state es → IsFew (closed_log es) (length es)
+few_behind blocks state [] c = record { ticks = omega arith; pieces = omega arith; replies = omega arith }
+few_behind blocks state (e ∷ es) c =
     let one : length es + 1 ≡ length (e ∷ es) = omega arith in
-    subst (IsFew (closed_log (e ∷ es))) one (few_on (opening_behind state es) (closed_log es) e (length es) c.0 (begins_behind state es c.1) (few_behind state es c.1))
+    subst (IsFew (closed_log (e ∷ es))) one (few_on (opening_behind blocks state es) (closed_log es) e (length es) c.0 (begins_behind blocks state es c.1) (few_behind blocks state es c.1))
 
 -- fewer epochs are closed than there are marks
-pub few_epochs : (state : State) (es : NewestFirst Closed) → AreClosed state es → length es < 2 ^ 32
-few_epochs state es c = by_marks (marked_behind state es c)
+pub few_epochs : (blocks : ℕ) (state : State) (es : NewestFirst Closed) → AreClosed blocks state es → length es < 2 ^ 32
+few_epochs blocks state es c = by_marks (marked_behind blocks state es c)
   where
     by_marks : Marked (closed_log es) (length es) → length es < 2 ^ 32
     by_marks (inl none) = let z = none.0 in omega (arith, z)

@@ -18,10 +18,10 @@ use Rattle.board_epochs.proofs.Onto.Begins.{a_run, an_epoch}
 use Rattle.board_epochs.proofs.Working.{with_mark, works_end, asks_halt, stops_as_before}
 use Rattle.board_epochs.proofs.Seam.{done_behind, room_behind, bytes_behind, reports_behind, stop_behind}
 
-pub begins_behind : (state : State) (es : NewestFirst Closed) → AreClosed state es → Begins (closed_log es)
-begins_behind state [] c = a_run refl refl
-begins_behind state (e ∷ es) c =
-    let first = opening_behind state es in
+pub begins_behind : (blocks : ℕ) (state : State) (es : NewestFirst Closed) → AreClosed blocks state es → Begins (closed_log es)
+begins_behind blocks state [] c = a_run refl refl
+begins_behind blocks state (e ∷ es) c =
+    let first = opening_behind blocks state es in
     let before = log_behind (closed_log es) e.journal in
     let over = works_end (last_line first e.journal) before e.work c.0.resetting.works c.0.worked.done in
     an_epoch (marks.Reset (last_line first e.journal)) (with_mark (last_line first e.journal) (sent_in before) (halted_in e.work)) over.0 refl refl over.1
@@ -30,19 +30,19 @@ begun_ticks : (l : BoardLog) → Begins l → ring.ticks_published (sent_in l) �
 begun_ticks l (a_run sent known) = ap ring.ticks_published sent ∙ sym known
 begun_ticks l (an_epoch m s sent waits since known) = ap ring.ticks_published sent ∙ ap (λ (ps : List Piece). ring.ticks_at s.halts + ticks_together ps) since ∙ sym known
 
-pub known_there : (state : State) (es : NewestFirst Closed) (h : Journal) → AreClosed state es → IsEpoch (opening_behind state es) h → known_in (log_of (goes es h)) ≡ ticks_made es + known_of h
-known_there state es h c is = known_on (port_log h) (closed_log es) (journals_never_stop (opening_behind state es) h is.conducted)
+pub known_there : (blocks : ℕ) (state : State) (es : NewestFirst Closed) (h : Journal) → AreClosed blocks state es → IsEpoch (opening_behind blocks state es) h → known_in (log_of (goes es h)) ≡ ticks_made es + known_of h
+known_there blocks state es h c is = known_on (port_log h) (closed_log es) (journals_never_stop (opening_behind blocks state es) h is.conducted)
 
-pub all_done : (state : State) (es : NewestFirst Closed) → AreClosed state es → ring.ticks_published (sent_in (closed_log es)) ≡ ticks_made es
-all_done state es c = begun_ticks (closed_log es) (begins_behind state es c)
+pub all_done : (blocks : ℕ) (state : State) (es : NewestFirst Closed) → AreClosed blocks state es → ring.ticks_published (sent_in (closed_log es)) ≡ ticks_made es
+all_done blocks state es c = begun_ticks (closed_log es) (begins_behind blocks state es c)
 
-pub done_there : (state : State) (es : NewestFirst Closed) (h : Journal) (k : ℕ) → AreClosed state es → IsEpoch (opening_behind state es) h → MayBeDone k (log_of (goes es h))
+pub done_there : (blocks : ℕ) (state : State) (es : NewestFirst Closed) (h : Journal) (k : ℕ) → AreClosed blocks state es → IsEpoch (opening_behind blocks state es) h → MayBeDone k (log_of (goes es h))
     → (n : ℕ) × (k ≡ ticks_made es + n) × MayBeDone n (port_log h)
-done_there state es h k c is may = done_behind (closed_log es) (port_log h) k (begins_behind state es c) (journals_never_stop (opening_behind state es) h is.conducted) may
+done_there blocks state es h k c is may = done_behind (closed_log es) (port_log h) k (begins_behind blocks state es c) (journals_never_stop (opening_behind blocks state es) h is.conducted) may
 
-pub room_there : (state : State) (es : NewestFirst Closed) (h : Journal) (k : ℕ) → AreClosed state es → IsEpoch (opening_behind state es) h → LacksPieceRoom k (log_of (goes es h))
+pub room_there : (blocks : ℕ) (state : State) (es : NewestFirst Closed) (h : Journal) (k : ℕ) → AreClosed blocks state es → IsEpoch (opening_behind blocks state es) h → LacksPieceRoom k (log_of (goes es h))
     → (n : ℕ) × (k ≡ ticks_made es + n) × LacksPieceRoom n (port_log h)
-room_there state es h k c is may = room_behind (closed_log es) (port_log h) k (begins_behind state es c) (journals_never_stop (opening_behind state es) h is.conducted) may
+room_there blocks state es h k c is may = room_behind (closed_log es) (port_log h) k (begins_behind blocks state es c) (journals_never_stop (opening_behind blocks state es) h is.conducted) may
 
 pub bytes_there : (es : NewestFirst Closed) (h : Journal) → HasTakenFew (log_of (goes es h)) → HasTakenFew (port_log h)
 bytes_there es h few = bytes_behind (ticks_made es) (closed_log es) (port_log h) few
@@ -52,13 +52,13 @@ reports_there es h few = reports_behind (ticks_made es) (closed_log es) (port_lo
 
 -- ---- the work of a reset
 
-pub stop_there : (state : State) (es : NewestFirst Closed) (h : Journal) (w : Work) (n : ℕ) → AreClosed state es → IsResetting (opening_behind state es) (closed_log es) h w
+pub stop_there : (blocks : ℕ) (state : State) (es : NewestFirst Closed) (h : Journal) (w : Work) (n : ℕ) → AreClosed blocks state es → IsResetting (opening_behind blocks state es) (closed_log es) h w
     → stage_of (log_behind (closed_log es) h) w ≡ stops n → MayStop (log_of (resets es h w))
-stop_there state es h w n c is stage =
+stop_there blocks state es h w n c is stage =
     let before = log_behind (closed_log es) h in
-    subst ring.MayStop (sym (stops_as_before (last_line (opening_behind state es) h) before w n is.works stage))
-    (stop_behind (closed_log es) (port_log h) (begins_behind state es c) (journals_never_stop (opening_behind state es) h is.epoch.conducted))
+    subst ring.MayStop (sym (stops_as_before (last_line (opening_behind blocks state es) h) before w n is.works stage))
+    (stop_behind (closed_log es) (port_log h) (begins_behind blocks state es c) (journals_never_stop (opening_behind blocks state es) h is.epoch.conducted))
 
-pub halt_there : (state : State) (es : NewestFirst Closed) (h : Journal) (w : Work) (n : ℕ) → IsResetting (opening_behind state es) (closed_log es) h w
+pub halt_there : (blocks : ℕ) (state : State) (es : NewestFirst Closed) (h : Journal) (w : Work) (n : ℕ) → IsResetting (opening_behind blocks state es) (closed_log es) h w
     → stage_of (log_behind (closed_log es) h) w ≡ awaits_halt n → MayAskHalt (log_of (resets es h w))
-halt_there state es h w n is stage = asks_halt (last_line (opening_behind state es) h) (log_behind (closed_log es) h) w n is.works stage
+halt_there blocks state es h w n is stage = asks_halt (last_line (opening_behind blocks state es) h) (log_behind (closed_log es) h) w n is.works stage

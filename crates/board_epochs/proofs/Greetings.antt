@@ -53,28 +53,28 @@ behind_work : (number : ℕ) (before : BoardLog) (w : Work) → Works number bef
 behind_work number before w works b = begins_by (no_replies number before w works) b
 
 -- an epoch that a reset ends, behind closed ones
-pub banner_at_reset : (state : State) (es : NewestFirst Closed) (h : Journal) → AreClosed state es → Conducted (opening_behind state es) h → MayReset (opening_behind state es) h
+pub banner_at_reset : (blocks : ℕ) (state : State) (es : NewestFirst Closed) (h : Journal) → AreClosed blocks state es → Conducted (opening_behind blocks state es) h → MayReset (opening_behind blocks state es) h
     → BeginsWith (answered_in (log_behind (closed_log es) h)) (Banner ∷ [])
-banner_at_reset state [] h closed c may = begins_by (answered_on 0 (port_log h) []) (greeted_at_reset (opening_behind state []) h c may)
-banner_at_reset state (e ∷ es) h closed c may =
+banner_at_reset blocks state [] h closed c may = begins_by (answered_on 0 (port_log h) []) (greeted_at_reset (opening_behind blocks state []) h c may)
+banner_at_reset blocks state (e ∷ es) h closed c may =
     behind_banner (closed_log (e ∷ es)) h
-    (behind_work (last_line (opening_behind state es) e.journal) (log_behind (closed_log es) e.journal) e.work closed.0.resetting.works
-    (banner_at_reset state es e.journal closed.1 closed.0.resetting.epoch.conducted closed.0.resetting.may))
+    (behind_work (last_line (opening_behind blocks state es) e.journal) (log_behind (closed_log es) e.journal) e.work closed.0.resetting.works
+    (banner_at_reset blocks state es e.journal closed.1 closed.0.resetting.epoch.conducted closed.0.resetting.may))
 
 -- an open one
-banner_now : (state : State) (es : NewestFirst Closed) (h : Journal) → AreClosed state es → Conducted (opening_behind state es) h → IsGreeted (Banner ∷ []) (answered_in (log_behind (closed_log es) h))
-banner_now state [] h closed c = by_own (greeted_now (opening_behind state []) h c)
+banner_now : (blocks : ℕ) (state : State) (es : NewestFirst Closed) (h : Journal) → AreClosed blocks state es → Conducted (opening_behind blocks state es) h → IsGreeted (Banner ∷ []) (answered_in (log_behind (closed_log es) h))
+banner_now blocks state [] h closed c = by_own (greeted_now (opening_behind blocks state []) h c)
   where
     by_own : IsGreeted (Banner ∷ []) (answered_of h) → IsGreeted (Banner ∷ []) (answered_in (log_behind [] h))
     by_own (inl b) = inl (begins_by (answered_on 0 (port_log h) []) b)
     by_own (inr b) = inr (record { rest = b.rest; is = b.is ∙ ap (λ (rs : List Reply). rs ++ b.rest) (sym (answered_on 0 (port_log h) [])) })
-banner_now state (e ∷ es) h closed c =
+banner_now blocks state (e ∷ es) h closed c =
     inl (behind_banner (closed_log (e ∷ es)) h
-    (behind_work (last_line (opening_behind state es) e.journal) (log_behind (closed_log es) e.journal) e.work closed.0.resetting.works
-    (banner_at_reset state es e.journal closed.1 closed.0.resetting.epoch.conducted closed.0.resetting.may)))
+    (behind_work (last_line (opening_behind blocks state es) e.journal) (log_behind (closed_log es) e.journal) e.work closed.0.resetting.works
+    (banner_at_reset blocks state es e.journal closed.1 closed.0.resetting.epoch.conducted closed.0.resetting.may)))
 
-pub banner_first : (state : State) (es : Epochs) → AreEpochs state es → IsGreeted (Banner ∷ []) (answered_in (log_of es))
-banner_first state (goes es h) are = banner_now state es h are.0 are.1.conducted
-banner_first state (resets es h w) are =
-    inl (behind_work (last_line (opening_behind state es) h) (log_behind (closed_log es) h) w are.1.works
-    (banner_at_reset state es h are.0 are.1.epoch.conducted are.1.may))
+pub banner_first : (blocks : ℕ) (state : State) (es : Epochs) → AreEpochs blocks state es → IsGreeted (Banner ∷ []) (answered_in (log_of es))
+banner_first blocks state (goes es h) are = banner_now blocks state es h are.0 are.1.conducted
+banner_first blocks state (resets es h w) are =
+    inl (behind_work (last_line (opening_behind blocks state es) h) (log_behind (closed_log es) h) w are.1.works
+    (banner_at_reset blocks state es h are.0 are.1.epoch.conducted are.1.may))

@@ -73,9 +73,6 @@ pub data Begins (l : BoardLog) : Type 0 where
   a_run : sent_in l ≡ none_sent → known_in l ≡ 0 → Begins l
   an_epoch : (m : Mark) (s : Sent) → sent_in l ≡ s → s.waits ≡ false → s.since ≡ pieces.Mark m ∷ [] → known_in l ≡ ring.ticks_at s.halts + 1 → Begins l
 
-together_one : (m : Mark) → ticks_together (pieces.Mark m ∷ []) ≡ 1
-together_one m = refl
-
 -- the ticks published count on
 ticks_onto : (s : Sent) (base : ℕ) (ps : List Piece) → base ≡ ring.ticks_published s → ring.ticks_published (onto s ps) ≡ base + ring.ticks_published (onto none_sent ps)
 ticks_onto s base ps e =

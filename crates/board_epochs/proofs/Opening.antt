@@ -11,10 +11,13 @@ use Rattle.run_texts.specs.Courses.{Reset}
 use Rattle.run_texts.specs.Told.{told_at_reset}
 use Rattle.status_report.specs.Answering.{is_banner}
 use Rattle.step_line.specs.Logs.{NewestFirst}
-use Rattle.board_rules.specs.Conduct.{MayOpen}
-use Rattle.board_rules.specs.Openings.{IsGreeting, IsPlaced, most_greetings}
+use Rattle.board_rules.specs.Conduct.{Conducted, MayOpen}
+use Rattle.board_rules.specs.Openings.{Opening, IsGreeting, IsPlaced, IsPlanSize, most_greetings}
+use Rattle.board_rules.specs.Steps.{Journal}
 use Rattle.board_rules.specs.Turns.{is_alarm, stands_still}
-use Rattle.board_epochs.specs.Epochs.{Closed, opens_behind, opening_behind, answered_state, reset_of, ticks_made}
+use Rattle.board_rules.proofs.Opening.{opened}
+use Rattle.board_epochs.specs.Epochs.{Closed, opens_behind, opening_behind, next_opening, answered_state, reset_of, ticks_made}
+use Rattle.board_epochs.specs.Work.{Work}
 
 abbrev Greets : Reset → Type 0
 Greets r = AllByRecursion IsGreeting (told_at_reset r) × (count_by is_banner (told_at_reset r) ≡ 1) × (length (told_at_reset r) ≤ most_greetings)
@@ -29,16 +32,25 @@ stands : (locked : Bool) → stands_still (cond locked motions.Alarm motions.Idl
 stands true = refl
 stands false = refl
 
-pub opens_next : (r : Reset) (s : State) → MayOpen (opens_behind r s)
-opens_next r s = let g = greets r.number r.dropped r.alarm r.locked r refl refl in record { stands = stands r.locked; greets = g.0; banner = g.1; few = g.2 }
+pub opens_next : (blocks : ℕ) (r : Reset) (s : State) → IsPlanSize blocks → MayOpen (opens_behind blocks r s)
+opens_next blocks r s sized = let g = greets r.number r.dropped r.alarm r.locked r refl refl in record { stands = stands r.locked; greets = g.0; banner = g.1; few = g.2; sized = sized }
 
-pub opens : (state : State) (es : NewestFirst Closed) → MayOpen (opening_behind state es)
-opens state [] = record { stands = refl; greets = (record { answers = refl; reports = refl; parts = refl }, tt); banner = refl; few = omega arith }
-opens state (e ∷ es) = opens_next (reset_of (ticks_made es) (opening_behind state es) e.journal e.work) (answered_state (opening_behind state es) e.journal)
+pub opens_on : (base : ℕ) (first : Opening) (h : Journal) (w : Work) → Conducted first h → MayOpen (next_opening base first h w)
+opens_on base first h w c = opens_next first.blocks (reset_of base first h w) (answered_state first h) (opened first h c).sized
 
-pub placed : (state : State) (es : NewestFirst Closed) → IsOpening state → IsPlaced (opening_behind state es)
-placed state [] opening = sym (ap (λ (p : Parser). p.pos_steps) opening.parser)
-placed state (e ∷ es) opening = refl
+pub blocks_behind : (blocks : ℕ) (state : State) (es : NewestFirst Closed) → (opening_behind blocks state es).blocks ≡ blocks
+blocks_behind blocks state [] = refl
+blocks_behind blocks state (e ∷ es) = blocks_behind blocks state es
+
+pub opens : (blocks : ℕ) (state : State) (es : NewestFirst Closed) → IsPlanSize blocks → MayOpen (opening_behind blocks state es)
+opens blocks state [] sized = record { stands = refl; greets = (record { answers = refl; reports = refl; parts = refl }, tt); banner = refl; few = omega arith; sized = sized }
+opens blocks state (e ∷ es) sized =
+    let first = opening_behind blocks state es in
+    opens_next first.blocks (reset_of (ticks_made es) first e.journal e.work) (answered_state first e.journal) (opens blocks state es sized).sized
+
+pub placed : (blocks : ℕ) (state : State) (es : NewestFirst Closed) → IsOpening state → IsPlaced (opening_behind blocks state es)
+placed blocks state [] opening = sym (ap (λ (p : Parser). p.pos_steps) opening.parser)
+placed blocks state (e ∷ es) opening = refl
 
 pub locks : (m : Motion) → (m ≡ motions.Stopping → ⊥) → cond (is_moving m || is_alarm m) motions.Alarm motions.Idle ≡ behind_reset m
 locks motions.Stopping other = absurd (other refl)

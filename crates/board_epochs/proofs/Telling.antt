@@ -73,19 +73,19 @@ new_mark first h before n c none m =
 
 -- ---- each reply
 
-few_replies : (state : State) (es : NewestFirst Closed) (h : Journal) → AreConducted state es h → length (link.answered_in (link_steps (port_log h) ++ link_steps (closed_log es))) < 2 ^ 62
-few_replies state es h c =
-    let first = opening_behind state es in
+few_replies : (blocks : ℕ) (state : State) (es : NewestFirst Closed) (h : Journal) → AreConducted blocks state es h → length (link.answered_in (link_steps (port_log h) ++ link_steps (closed_log es))) < 2 ^ 62
+few_replies blocks state es h c =
+    let first = opening_behind blocks state es in
     let before = closed_log es in
     let steps = ap (λ (ss : List LinkStep). length (link.answered_in ss)) (steps_on (known_in before) (port_log h) before) in
     let all = same_answered (log_behind before h) in
     let both = answered_behind before h in
-    let was = (few_behind state es c.0).replies in
+    let was = (few_behind blocks state es c.0).replies in
     let now = answered_by_lines first h c.1 in
     let lines = lines_in_bytes first h c.1 in
     let taken = taken_behind before h in
     let asked = reports_on (known_in before) (port_log h) before in
-    let n = few_epochs state es c.0 in
+    let n = few_epochs blocks state es c.0 in
     let bytes = c.2.bytes in let reports = c.2.reports in
     omega (arith, steps, all, both, was, now, lines, taken, asked, n, bytes, reports)
 
@@ -97,33 +97,33 @@ none_yet first h r c next is =
     let here = banners_first r (tells (drop 1 (left_of first h))) in
     omega (arith, all, left, here, t)
 
-banner_there : (state : State) (es : NewestFirst Closed) (h : Journal) → AreClosed state es → Conducted (opening_behind state es) h → banners_in (answered_of h) ≡ 0
+banner_there : (blocks : ℕ) (state : State) (es : NewestFirst Closed) (h : Journal) → AreClosed blocks state es → Conducted (opening_behind blocks state es) h → banners_in (answered_of h) ≡ 0
     → has_greeted (link_steps (port_log h) ++ link_steps (closed_log es)) ≡ true
     → IsNewMark (link_steps (port_log h) ++ link_steps (closed_log es)) (next_mark (link_steps (port_log h) ++ link_steps (closed_log es)))
-banner_there state es h c conducted none greeted = by_marks (marked_behind state es c)
+banner_there blocks state es h c conducted none greeted = by_marks (marked_behind blocks state es c)
   where
     by_marks : Marked (closed_log es) (length es) → IsNewMark (link_steps (port_log h) ++ link_steps (closed_log es)) (next_mark (link_steps (port_log h) ++ link_steps (closed_log es)))
     by_marks (inl begins) =
-        absurd (let e = sym (ap (λ (l : BoardLog). has_greeted (link_steps l)) begins.1) ∙ sym (ungreeted (opening_behind state es) h (link_steps (closed_log es)) conducted none).has ∙ greeted in cc)
-    by_marks (inr m) = new_mark (opening_behind state es) h (closed_log es) (length es) conducted none m
+        absurd (let e = sym (ap (λ (l : BoardLog). has_greeted (link_steps l)) begins.1) ∙ sym (ungreeted (opening_behind blocks state es) h (link_steps (closed_log es)) conducted none).has ∙ greeted in cc)
+    by_marks (inr m) = new_mark (opening_behind blocks state es) h (closed_log es) (length es) conducted none m
 
-pub answer_there : (state : State) (es : NewestFirst Closed) (h : Journal) (r : Reply) → AreConducted state es h → IsNextTask (opening_behind state es) (tell r) h → IsReply r → MayAnswer (log_of (goes es h)) r
-answer_there state es h r c next text =
-    let first = opening_behind state es in
+pub answer_there : (blocks : ℕ) (state : State) (es : NewestFirst Closed) (h : Journal) (r : Reply) → AreConducted blocks state es h → IsNextTask (opening_behind blocks state es) (tell r) h → IsReply r → MayAnswer (log_of (goes es h)) r
+answer_there blocks state es h r c next text =
+    let first = opening_behind blocks state es in
     let own = may_answer first h r c.1 next text in
     subst (λ (ss : List LinkStep). link.MayAnswer ss r) (sym (steps_on (known_in (closed_log es)) (port_log h) (closed_log es))) (record {
       line = λ is. (let due = own.line is in
           let e = since_same (link_steps (port_log h)) (link_steps (closed_log es)) (greeted_by first h c.1 due) in let a = e.0 in let b = e.1 in omega (arith, due, a, b));
-      banner = λ is greeted. banner_there state es h c.0 c.1 (none_yet first h r c.1 next is) greeted;
+      banner = λ is greeted. banner_there blocks state es h c.0 c.1 (none_yet first h r c.1 next is) greeted;
       text = text;
-      few = few_replies state es h c;
+      few = few_replies blocks state es h c;
     })
 
-pub report_there : (state : State) (es : NewestFirst Closed) (h : Journal) (r : Report) → AreConducted state es h → IsReply (replies.Report r) → MayAnswer (log_of (goes es h)) (replies.Report r)
-report_there state es h r c text =
+pub report_there : (blocks : ℕ) (state : State) (es : NewestFirst Closed) (h : Journal) (r : Report) → AreConducted blocks state es h → IsReply (replies.Report r) → MayAnswer (log_of (goes es h)) (replies.Report r)
+report_there blocks state es h r c text =
     subst (λ (ss : List LinkStep). link.MayAnswer ss (replies.Report r)) (sym (steps_on (known_in (closed_log es)) (port_log h) (closed_log es))) (record {
       line = λ is. absurd cc;
       banner = λ is greeted. absurd cc;
       text = text;
-      few = few_replies state es h c;
+      few = few_replies blocks state es h c;
     })

@@ -21,11 +21,11 @@ locked_so : (locked : Bool) → locked ≡ is_limited (cond locked motions.Alarm
 locked_so true = refl
 locked_so false = refl
 
-behind : (r : Reset) (p : Point) (s : State) → p.before.state ≡ s → behind_the_reset r p ≡ point_of (opens_behind r s)
-behind r p s same = ap (λ (x : State). point_with r x r.locked) same ∙ ap (point_with r s) (locked_so r.locked)
+behind : (blocks : ℕ) (r : Reset) (p : Point) (s : State) → p.before.state ≡ s → behind_the_reset r p ≡ point_of (opens_behind blocks r s)
+behind blocks r p s same = ap (λ (x : State). point_with r x r.locked) same ∙ ap (point_with r s) (locked_so r.locked)
 
 pub point_there : (base : ℕ) (first : Opening) (h : Journal) (w : Work) (p : Point) → p.before.state ≡ answered_state first h → behind_the_reset (reset_of base first h w) p ≡ point_of (next_opening base first h w)
-point_there base first h w p same = behind (reset_of base first h w) p (answered_state first h) same
+point_there base first h w p same = behind first.blocks (reset_of base first h w) p (answered_state first h) same
 
 pub number_is_last : (base : ℕ) (first : Opening) (h : Journal) (w : Work) → Conducted first h → (reset_of base first h w).number + 1 ≡ (before_of first h).number
 number_is_last base first h w c = sym (number_is first h c)

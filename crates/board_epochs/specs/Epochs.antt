@@ -1,10 +1,8 @@
 -- The epochs of a board: each has a journal of its own, and the work of a reset ends it.
-use Rattle.std.specs.Prelude.{ℕ, ◌+◌, ◌-◌, ◌^◌, ◌≤◌, false, ◌||◌, cond, List, [], ◌∷◌, ◌++◌, length}
+use Rattle.std.specs.Prelude.{ℕ, ◌+◌, ◌-◌, ◌^◌, ◌≤◌, false, ◌||◌, cond, [], ◌∷◌, ◌++◌, length}
 use Rattle.feed_hold.specs.declared.Motion.TheVariants as motions
 use Rattle.feed_hold.specs.Motions.{is_moving}
 use Rattle.flight.specs.Places.{machine_from}
-use Rattle.planner_runs.specs.declared.Action.{Action}
-use Rattle.planner_runs.specs.declared.Action.TheVariants.{Reset as Resets}
 use Rattle.run_rules.specs.declared.State.{State}
 use Rattle.run_texts.specs.Courses.{Reset, reset_state}
 use Rattle.run_texts.specs.Points.{Point}
@@ -15,7 +13,7 @@ use Rattle.board_rules.specs.Conduct.{Conducted}
 use Rattle.board_rules.specs.Openings.{Opening, first_opening, before_first}
 use Rattle.board_rules.specs.Ports.{PortStep, BoardLog, taken_in, reports_in, known_in}
 use Rattle.board_rules.specs.Ports.PortStep.{answered, no_piece_room, loaded}
-use Rattle.board_rules.specs.Steps.{Journal, port_log, published_of, outcomes_of, whole_of, actions_of, before_of, motion_of}
+use Rattle.board_rules.specs.Steps.{Journal, port_log, published_of, outcomes_of, whole_of, before_of, motion_of}
 use Rattle.board_rules.specs.Steps.Step.{at_port}
 use Rattle.board_rules.specs.Turns.{is_alarm, is_limited}
 use Rattle.board_epochs.specs.Resets.{MayReset, IsPrompt}
@@ -49,26 +47,23 @@ reset_of base first h w = record {
   at = machine_from first.place (published_of h) (halted_in w - base);
 }
 
--- how the next journal begins behind it
-abbrev pub opens_behind : Reset → State → Opening
-opens_behind r s = record {
+-- how the next journal begins behind it, with a plan of so many blocks
+abbrev pub opens_behind : ℕ → Reset → State → Opening
+opens_behind blocks r s = record {
   lines = r.number + r.dropped;
   state = reset_state r.at s;
   place = r.at;
   motion = cond r.locked motions.Alarm motions.Idle;
   tells = told_at_reset r;
+  blocks = blocks;
 }
 
 abbrev pub next_opening : (base : ℕ) → Opening → Journal → Work → Opening
-next_opening base first h w = opens_behind (reset_of base first h w) (answered_state first h)
+next_opening base first h w = opens_behind first.blocks (reset_of base first h w) (answered_state first h)
 
 -- where a course of texts stands at an opening
 abbrev pub point_of : Opening → Point
 point_of first = record { before = before_first first; locked = is_limited first.motion; has_line = false; unanswered = false }
-
--- what was done to the plan in an epoch that a reset has ended: it is a planner run, whose last action is the reset
-abbrev pub actions_closed : Journal → List Action
-actions_closed h = actions_of h ++ Resets ∷ []
 
 -- ---- the port, which counts on over all epochs
 
@@ -113,10 +108,10 @@ abbrev pub log_of : Epochs → BoardLog
 log_of (goes es h) = log_behind (closed_log es) h
 log_of (resets es h w) = port_log w ++ log_behind (closed_log es) h
 
--- how the epoch behind closed ones begins
-abbrev pub opening_behind : State → NewestFirst Closed → Opening
-opening_behind state [] = first_opening state
-opening_behind state (e ∷ es) = next_opening (ticks_made es) (opening_behind state es) e.journal e.work
+-- how the epoch behind closed ones begins, with a plan of so many blocks
+abbrev pub opening_behind : (blocks : ℕ) → State → NewestFirst Closed → Opening
+opening_behind blocks state [] = first_opening blocks state
+opening_behind blocks state (e ∷ es) = next_opening (ticks_made es) (opening_behind blocks state es) e.journal e.work
 
 -- an epoch that keeps to the rules from an opening on, promptly
 pub record IsEpoch (first : Opening) (h : Journal) : Type 0 where
@@ -134,16 +129,16 @@ pub record IsClosed (first : Opening) (before : BoardLog) (e : Closed) : Type 0 
   pub resetting : IsResetting first before e.journal e.work
   pub worked : IsWorked (log_behind before e.journal) e.work
 
-abbrev pub AreClosed : State → NewestFirst Closed → Type 0
-AreClosed state [] = Unit {0}
-AreClosed state (e ∷ es) = IsClosed (opening_behind state es) (closed_log es) e × AreClosed state es
+abbrev pub AreClosed : (blocks : ℕ) → State → NewestFirst Closed → Type 0
+AreClosed blocks state [] = Unit {0}
+AreClosed blocks state (e ∷ es) = IsClosed (opening_behind blocks state es) (closed_log es) e × AreClosed blocks state es
 
 -- the port gives so many bytes at most, and so many words that ask for a report
 pub record IsBounded (l : BoardLog) : Type 0 where
   pub bytes : length (taken_in l) ≤ 2 ^ 31
   pub reports : reports_in l ≤ 2 ^ 31
 
--- what a board may do over a run, from the first opening on
-abbrev pub AreEpochs : State → Epochs → Type 0
-AreEpochs state (goes es h) = AreClosed state es × IsEpoch (opening_behind state es) h × IsBounded (log_of (goes es h))
-AreEpochs state (resets es h w) = AreClosed state es × IsResetting (opening_behind state es) (closed_log es) h w × IsBounded (log_of (resets es h w))
+-- what a board may do over a run, from the first opening on, with a plan of so many blocks
+abbrev pub AreEpochs : (blocks : ℕ) → State → Epochs → Type 0
+AreEpochs blocks state (goes es h) = AreClosed blocks state es × IsEpoch (opening_behind blocks state es) h × IsBounded (log_of (goes es h))
+AreEpochs blocks state (resets es h w) = AreClosed blocks state es × IsResetting (opening_behind blocks state es) (closed_log es) h w × IsBounded (log_of (resets es h w))

@@ -10,7 +10,7 @@ use Rattle.overrides.specs.declared.Overrides.{Overrides}
 use Rattle.plan_rules.specs.Plans.{Planned}
 use Rattle.planner_runs.specs.declared.Action.{Action}
 use Rattle.planner_runs.specs.declared.Action.TheVariants.{Add, Take, Override, Mark, Rest, Clear, Reset}
-use Rattle.planner_runs.specs.Runs.{IsAtRest, normal_overrides, cleared}
+use Rattle.planner_runs.specs.Runs.{IsAtRest, normal_overrides}
 use Rattle.board_rules.specs.Openings.{Opening}
 use Rattle.run_rules.specs.Work.{Task, Outcome, is_limit, halting_work, asks, telling}
 use Rattle.run_rules.specs.Work.Task.{ask, tell, pause, normal, finish, halt}
@@ -31,15 +31,14 @@ use Rattle.board_rules.proofs.Locking.{stays_alarm}
 use Rattle.run_rules.specs.Finding.{Found}
 use Rattle.run_rules.proofs.Finding.{becomes_locked}
 use Rattle.run_rules.proofs.Locking.{IsStill, locked_still}
+use Rattle.board_rules.proofs.Truths.{by_not}
+pub use Rattle.board_rules.proofs.Truths.{opposite}
 
 -- the journal tells whether a line has raised an alarm
 pub alarmed_is : (first : Opening) (h : Journal) → (before_of first h).alarmed ≡ has_limited h
 alarmed_is first [] = refl
 alarmed_is first (began o ∷ h) = refl
 alarmed_is first (_ ∷ h) = alarmed_is first h
-
-pub opposite : {A : Type 0} (b : Bool) → b ≡ true → b ≡ false → A
-opposite b is none = absurd (let e = sym is ∙ none in cc)
 
 -- ---- tasks that only tell, or end the run
 
@@ -105,14 +104,14 @@ on_calm first h s t next other none alarmed was motion (to_halt a b l) = not_hal
 on_calm first h s t next other none alarmed was motion (was_halted a b l p m) = not_told (left_of first h) t next none l
 on_calm first h s t next other none alarmed was motion (locked a b f l p m) = not_told (left_of first h) t next none l
 
-on_did : (first : Opening) (h : Journal) (a : Action) (ps : List Piece) → MayDo first a h → Gives a ps (plan_of h) → Stage first h → Stage first (did a ps ∷ h)
+on_did : (first : Opening) (h : Journal) (a : Action) (ps : List Piece) → MayDo first a h → Gives first.blocks a ps (plan_of h) → Stage first h → Stage first (did a ps ∷ h)
 on_did first h (Add m) ps may gives st = on_calm first h (did (Add m) ps) (ask (a_move m)) may (λ e. absurd cc) refl refl refl (λ x. x) st
 on_did first h (Mark m) ps may gives st = on_calm first h (did (Mark m) ps) (ask (a_mark m)) may.next (λ e. absurd cc) refl refl refl (λ x. x) st
 on_did first h Rest ps may gives st = on_calm first h (did Rest ps) (ask a_rest) may.next (λ e. absurd cc) refl refl refl (λ x. x) st
 on_did first h (Take mode) ps may gives (calm a b m) = calm a b m
 on_did first h (Take mode) ps may gives (to_halt a b l) = to_halt a b l
-on_did first h (Take mode) ps may gives (was_halted a b l p m) = absurd (none_taken (plan_of h) mode ps (steps.plan_after (Take mode) ps (plan_of h)) p.blocks gives)
-on_did first h (Take mode) ps may gives (locked a b f l p m) = absurd (none_taken (plan_of h) mode ps (steps.plan_after (Take mode) ps (plan_of h)) p.blocks gives)
+on_did first h (Take mode) ps may gives (was_halted a b l p m) = absurd (none_taken first.blocks (plan_of h) mode ps (steps.plan_after (Take mode) ps (plan_of h)) p.blocks gives)
+on_did first h (Take mode) ps may gives (locked a b f l p m) = absurd (none_taken first.blocks (plan_of h) mode ps (steps.plan_after (Take mode) ps (plan_of h)) p.blocks gives)
 on_did first h (Override o) ps may gives (calm a b m) = calm a b m
 on_did first h (Override o) ps may gives (to_halt a b l) = to_halt a b l
 on_did first h (Override o) ps may gives (was_halted a b l p m) = was_halted a b l (record { blocks = p.blocks; speed = p.speed }) m
@@ -157,10 +156,6 @@ unlimited first h call motions.Stopping may none was (inr (runs, is)) = no_limit
 unlimited first h call motions.Alarm may none was (inr (inl (idle, is))) = no_limit first h call may none is
 unlimited first h call motions.Alarm may none was (inr (inr (stops, is))) = absurd (let e = sym (ap is_limited stops) ∙ was in cc)
 unlimited first h call _ may none was (inr how) = refl
-
--- nothing is unlocked behind an alarm
-still_limited : (first : Opening) (h : Journal) (call : Call) → MayHappen first call h → has_limited h ≡ true → call ≡ on_unlock → ⊥
-still_limited first h call may one is = let unlocks : MayHappen first on_unlock h = subst (λ (x : Call). MayHappen first x h) is may in opposite (has_limited h) one unlocks.calm
 
 on_call : (first : Opening) (h : Journal) (call : Call) (m : Motion) → (call ≡ on_unlock → ⊥) → MayHappen first call h → StaysOrReaches m call (motion_of first h) → Stage first h → Stage first (became call m ∷ h)
 on_call first h call m other may how (calm a b was) = calm a b (unlimited first h call m may a was how)
@@ -338,22 +333,18 @@ alarmed_before first h (locked a b f l p m) next alarm = not_told (left_of first
 pub halting_alarmed : (first : Opening) (h : Journal) → Conducted first (halted ∷ h) → has_limited h ≡ true
 halting_alarmed first h c = alarmed_before first h (stage_is first h c.1) c.0.next c.0.alarm
 
-once : (b : Bool) → (b ≡ true → ⊥) → b ≡ false
-once true other = absurd (other refl)
-once false other = refl
-
 pub halted_once : (first : Opening) (h : Journal) → Conducted first (halted ∷ h) → has_halted h ≡ false
-halted_once first h c = once (has_halted h) (λ was. halts_at first h (stage_is first h c.1) c.0.next was)
+halted_once first h c = by_not (has_halted h) (λ was. halts_at first h (stage_is first h c.1) c.0.next was)
 
 -- behind that only overrides change
-pub only_override : (first : Opening) (h : Journal) (a : Action) (ps : List Piece) → MayDo first a h → Gives a ps (plan_of h) → Stage first h → has_halted h ≡ true → (o : Overrides) × (a ≡ Override o) × (ps ≡ [])
+pub only_override : (first : Opening) (h : Journal) (a : Action) (ps : List Piece) → MayDo first a h → Gives first.blocks a ps (plan_of h) → Stage first h → has_halted h ≡ true → (o : Overrides) × (a ≡ Override o) × (ps ≡ [])
 only_override first h a ps may gives (calm x b m) was = opposite (has_halted h) was b
 only_override first h a ps may gives (to_halt x b l) was = opposite (has_halted h) was b
 only_override first h a ps may gives (locked x b f l p alarm) was = opposite (has_halted h) was b
 only_override first h (Add m) ps may gives (was_halted x b l p alarm) was = not_told (left_of first h) (ask (a_move m)) may refl l
 only_override first h (Mark m) ps may gives (was_halted x b l p alarm) was = not_told (left_of first h) (ask (a_mark m)) may.next refl l
 only_override first h Rest ps may gives (was_halted x b l p alarm) was = not_told (left_of first h) (ask a_rest) may.next refl l
-only_override first h (Take mode) ps may gives (was_halted x b l p alarm) was = absurd (none_taken (plan_of h) mode ps (steps.plan_after (Take mode) ps (plan_of h)) p.blocks gives)
+only_override first h (Take mode) ps may gives (was_halted x b l p alarm) was = absurd (none_taken first.blocks (plan_of h) mode ps (steps.plan_after (Take mode) ps (plan_of h)) p.blocks gives)
 only_override first h (Override o) [] may gives (was_halted x b l p alarm) was = (o, refl, refl)
 only_override first h (Override o) (q ∷ ps) may gives (was_halted x b l p alarm) was = absurd gives.1
 only_override first h Clear ps may gives (was_halted x b l p alarm) was = absurd may
@@ -366,7 +357,7 @@ pub part_plan_is : (h : Journal) → has_halted h ≡ false → part_plan h ≡ 
 part_plan_is [] none = refl
 part_plan_is (did a ps ∷ h) none = ap (λ (p : Planned). steps.plan_after a ps p) (part_plan_is h none)
 part_plan_is (evened ∷ h) none = ap (λ (p : Planned). steps.plan_after (Override normal_overrides) [] p) (part_plan_is h none)
-part_plan_is (cut k ∷ h) none = ap cleared (part_plan_is h none)
+part_plan_is (cut k ∷ h) none = refl
 part_plan_is (halted ∷ h) none = absurd cc
 part_plan_is (_ ∷ h) none = part_plan_is h none
 

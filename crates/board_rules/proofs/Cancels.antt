@@ -1,5 +1,5 @@
 -- Each cancel has one cut, and a word of its own; and a cut is made, and is over, where all that is published is done.
-use Rattle.std.proofs.Common.{◌≡◌, ℕ, ◌+◌, ◌≤◌, ◌⊎◌, inl, inr, Bool, true, false, ◌&&◌, ◌||◌, not, cond, List, [], ◌∷◌, ◌++◌, length, sym, refl, ap, ◌∙◌, arith, subst, append-nil}
+use Rattle.std.proofs.Common.{◌≡◌, ℕ, ◌+◌, ◌≤◌, ◌⊎◌, inl, inr, Bool, true, false, ◌&&◌, not, cond, List, [], ◌∷◌, ◌++◌, length, sym, refl, ap, ◌∙◌, arith, subst, append-nil}
 use Rattle.std.specs.List.{count_by, list_any}
 use Rattle.std.proofs.lemmas.List.Sums.{sum_by_push, sum_by-cons}
 use Rattle.code_table.specs.declared.flags.Exec.{Exec}
@@ -24,25 +24,18 @@ use Rattle.board_rules.specs.Conduct.{Conducted, MayHappen, IsStopped, ticks_pub
 use Rattle.board_rules.specs.Whole.{IsKnown}
 use Rattle.board_rules.proofs.Opening.{opens_still}
 use Rattle.board_rules.proofs.Keeping.{hand_is}
-
-and_left : (a b : Bool) → (a && b) ≡ true → a ≡ true
-and_left true b is = refl
-and_left false b is = absurd cc
+use Rattle.board_rules.proofs.Truths.{both_left, by_not, either_left, either_right}
 
 -- jogs were cut since the cancel only while they are cancelled
 cut_in : (first : Opening) (h : Journal) → Conducted first h → has_cut h ≡ true → is_cancelling (motion_of first h) ≡ true
 cut_in first [] c is = absurd cc
 cut_in first (paused ∷ h) c is = absurd cc
-cut_in first (became call m ∷ h) c is = and_left (is_cancelling m) (has_cut h) is
+cut_in first (became call m ∷ h) c is = both_left (is_cancelling m) (has_cut h) is
 cut_in first (cut k ∷ h) c is = ap is_cancelling c.0.cancelled
 cut_in first (_ ∷ h) c is = cut_in first h c.1 is
 
-is_false : (b : Bool) → (b ≡ true → ⊥) → b ≡ false
-is_false true other = absurd (other refl)
-is_false false other = refl
-
 uncut_else : (first : Opening) (h : Journal) → Conducted first h → is_cancelling (motion_of first h) ≡ false → has_cut h ≡ false
-uncut_else first h c other = is_false (has_cut h) (λ is. absurd (let e = sym (cut_in first h c is) ∙ other in cc))
+uncut_else first h c other = by_not (has_cut h) (λ is. absurd (let e = sym (cut_in first h c is) ∙ other in cc))
 
 other_was : {A : Type 0} (m was : Motion) → is_cancelling m ≡ true → m ≡ was → is_cancelling was ≡ false → A
 other_was m was is e none = absurd (let f = sym is ∙ ap is_cancelling e ∙ none in cc)
@@ -110,20 +103,12 @@ begun_by first h call motions.Cancelling (inl same) begins = absurd (let e = sym
 begun_by first h call motions.Cancelling (inr how) begins = how.1
 begun_by first h call _ how begins = absurd cc
 
-or_first : (a b : Bool) → a ≡ true → (a || b) ≡ true
-or_first true b is = refl
-or_first false b is = absurd cc
-
-or_second : (a b : Bool) → b ≡ true → (a || b) ≡ true
-or_second true b is = refl
-or_second false b is = is
-
 same_word : (word other : Exec) (queued q : Bool) → on_exec word queued ≡ on_exec other q → word ≡ other
 same_word word other queued q e = cc
 
 word_asks : (word : Exec) (queued : Bool) → IsBy hold_byte (on_exec word queued) ⊎ IsBy cancel_byte (on_exec word queued) → asks_cancel word ≡ true
-word_asks word queued (inl (other, q, is, asked)) = or_first (asks word hold_byte) (asks word cancel_byte) (ap (λ (w : Exec). asks w hold_byte) (same_word word other queued q is) ∙ asked)
-word_asks word queued (inr (other, q, is, asked)) = or_second (asks word hold_byte) (asks word cancel_byte) (ap (λ (w : Exec). asks w cancel_byte) (same_word word other queued q is) ∙ asked)
+word_asks word queued (inl (other, q, is, asked)) = either_left (asks word hold_byte) (asks word cancel_byte) (ap (λ (w : Exec). asks w hold_byte) (same_word word other queued q is) ∙ asked)
+word_asks word queued (inr (other, q, is, asked)) = either_right (asks word hold_byte) (asks word cancel_byte) (ap (λ (w : Exec). asks w cancel_byte) (same_word word other queued q is) ∙ asked)
 
 no_word : {A : Type 0} (call : Call) → ((word : Exec) (queued : Bool) → call ≡ on_exec word queued → ⊥) → IsBy hold_byte call ⊎ IsBy cancel_byte call → A
 no_word call other (inl (word, queued, is, asked)) = absurd (other word queued is)
@@ -166,7 +151,7 @@ on_obeyed first h word queued m next how false begins due =
 
 no_cancel : (first : Opening) (h : Journal) (call : Call) (m : Motion) → ((word : Exec) (queued : Bool) → call ≡ on_exec word queued → ⊥) → StaysOrReaches m call (motion_of first h) → cancels_of first (became call m ∷ h) ≡ cancels_of first h
 no_cancel first h call m other how =
-    ap (λ (b : Bool). cond b (cancels_of first h + 1) (cancels_of first h)) (is_false (begins_cancel (motion_of first h) m) (λ begins. no_word call other (begun_by first h call m how begins)))
+    ap (λ (b : Bool). cond b (cancels_of first h + 1) (cancels_of first h)) (by_not (begins_cancel (motion_of first h) m) (λ begins. no_word call other (begun_by first h call m how begins)))
 
 on_call : (first : Opening) (h : Journal) (call : Call) (m : Motion) → MayHappen first call h → StaysOrReaches m call (motion_of first h) → Due first h → Due first (became call m ∷ h)
 on_call first h (on_exec word queued) m may how due = on_obeyed first h word queued m may.next how (begins_cancel (motion_of first h) m) refl due

@@ -11,8 +11,7 @@ use Rattle.run_rules.specs.Work.Kind.{of_none}
 use Rattle.run_rules.specs.Work.Task.{tell, pause, normal, halt}
 use Rattle.run_rules.specs.Outcomes.{jogged_behind}
 use Rattle.run_rules.specs.Locking.{BecomesIn}
-use Rattle.run_rules.specs.Finding.{Fate}
-use Rattle.run_rules.specs.Finding.{Fate as fates}
+use Rattle.run_rules.specs.Finding.{Fate, Fate as fates}
 use Rattle.run_rules.proofs.Finding.{IsCaused, found_becomes}
 use Rattle.board_rules.specs.Ports.PortStep.{answered}
 use Rattle.board_rules.specs.Steps.{Journal, plan_of, motion_of, left_of, open_of, before_of, closed_tells}
@@ -27,23 +26,16 @@ use Rattle.board_rules.proofs.Dropping.{none_moves}
 use Rattle.board_rules.proofs.Jogging.{run_is_code, jog_is_last, cancel_is_jog}
 use Rattle.board_rules.proofs.Quieting.{has_moved}
 use Rattle.board_rules.proofs.Standing.{stands, Rested, calm_on, rest_later, rest_behind, rested_did, rested_began, opens_calm}
+use Rattle.board_rules.proofs.Truths.{neither_left, neither_right}
 
 -- ---- queued blocks of a jog start before a line is begun
-
-or_left : (a b : Bool) → (a || b) ≡ false → a ≡ false
-or_left true b none = absurd cc
-or_left false b none = refl
-
-or_right : (a b : Bool) → (a || b) ≡ false → b ≡ false
-or_right true b none = absurd cc
-or_right false b none = none
 
 -- a jog starts at once
 pub jog_starts : (first : Opening) (h : Journal) → has_jogged h ≡ true → starts_cycle first h ≡ false → ⊥
 jog_starts first h is none =
-    let a = or_right (list_any found_none (this_turn h)) (is_full (plan_of h) || (awaits_motion (left_of first h) || has_jogged h)) none in
-    let b = or_right (is_full (plan_of h)) (awaits_motion (left_of first h) || has_jogged h) a in
-    let d = or_right (awaits_motion (left_of first h)) (has_jogged h) b in
+    let a = neither_right (list_any found_none (this_turn h)) (is_full first.blocks (plan_of h) || (awaits_motion (left_of first h) || has_jogged h)) none in
+    let b = neither_right (is_full first.blocks (plan_of h)) (awaits_motion (left_of first h) || has_jogged h) a in
+    let d = neither_right (awaits_motion (left_of first h)) (has_jogged h) b in
     absurd (let e = sym is ∙ d in cc)
 
 no_blocks : (bs : List Block) → (has_blocks bs ≡ true → ⊥) → bs ≡ []
@@ -51,7 +43,7 @@ no_blocks [] none = refl
 no_blocks (b ∷ bs) none = absurd (none refl)
 
 none_queued : (first : Opening) (h : Journal) (o : Outcome) → Conducted first (began o ∷ h) → motion_of first h ≡ motions.Idle → has_jogged h ≡ true → (plan_of h).blocks ≡ []
-none_queued first h o c idle is = no_blocks (plan_of h).blocks (λ some. (jog_starts first) h is (or_left (starts_cycle first h) _ (c.0.starts (record { stands = idle; blocks = some }))))
+none_queued first h o c idle is = no_blocks (plan_of h).blocks (λ some. (jog_starts first) h is (neither_left (starts_cycle first h) _ (c.0.starts (record { stands = idle; blocks = some }))))
 
 -- ---- where the last accepted is no jog, and no line of G-code has moved
 

@@ -17,7 +17,7 @@ use Rattle.plan_rules.specs.declared.Mode.{Mode}
 use Rattle.plan_rules.specs.declared.Mode.TheVariants.{Go, Hold}
 use Rattle.planner_runs.specs.declared.Action.{Action}
 use Rattle.planner_runs.specs.declared.Action.TheVariants.{Add, Take, Override, Mark, Rest, Clear, Reset}
-use Rattle.planner_runs.specs.Runs.{IsAtRest, most_blocks}
+use Rattle.planner_runs.specs.Runs.{IsAtRest}
 use Rattle.board_rules.specs.Openings.{Opening}
 use Rattle.run_rules.specs.Work.{Task, closing_work}
 use Rattle.run_rules.specs.Work.Task.{ask, tell, pause, normal, finish, halt}
@@ -89,11 +89,11 @@ more_given ps given planned is = ap (λ (qs : List Piece). qs ++ ps) is
 still_going : (first : Opening) (h : Journal) (a : Action) (ps : List Piece) → closed_tells h ≡ [] → given_of h ≡ planned_of h → At first (did a ps ∷ h)
 still_going first h a ps e is = going e (more_given ps (given_of h) (planned_of h) is)
 
-on_take : (first : Opening) (h : Journal) (mode : Mode) (ps : List Piece) → Gives (Take mode) ps (plan_of h) → At first h → At first (did (Take mode) ps ∷ h)
+on_take : (first : Opening) (h : Journal) (mode : Mode) (ps : List Piece) → Gives first.blocks (Take mode) ps (plan_of h) → At first h → At first (did (Take mode) ps ∷ h)
 on_take first h mode ps gives (going e is) = going e (more_given ps (given_of h) (planned_of h) is)
 on_take first h mode ps gives (to_finish e l w is) = to_finish e l w (more_given ps (given_of h) (planned_of h) is)
-on_take first h mode ps gives (to_tell e l w p still is k) = absurd (none_taken (plan_of h) mode ps (plan_after (Take mode) ps (plan_of h)) p.blocks gives)
-on_take first h mode ps gives (over e l w p still d is k) = absurd (none_taken (plan_of h) mode ps (plan_after (Take mode) ps (plan_of h)) p.blocks gives)
+on_take first h mode ps gives (to_tell e l w p still is k) = absurd (none_taken first.blocks (plan_of h) mode ps (plan_after (Take mode) ps (plan_of h)) p.blocks gives)
+on_take first h mode ps gives (over e l w p still d is k) = absurd (none_taken first.blocks (plan_of h) mode ps (plan_after (Take mode) ps (plan_of h)) p.blocks gives)
 
 -- other overrides leave a plan at rest so
 on_override : (first : Opening) (h : Journal) (o : Overrides) (ps : List Piece) → ps ≡ [] → At first h → At first (did (Override o) ps ∷ h)
@@ -114,14 +114,14 @@ on_override first h o ps none at = by_at at
         (keeps (given_of h) ∙ is ∙ ap (λ (qs : List Piece). qs ++ pieces.End ∷ []) (sym (keeps (planned_of h))))
         (k ∙ sym (ap ticks_together (keeps (given_of h))))
 
-on_did : (first : Opening) (h : Journal) (a : Action) (ps : List Piece) → MayDo first a h → Gives a ps (plan_of h) → At first h → At first (did a ps ∷ h)
+on_did : (first : Opening) (h : Journal) (a : Action) (ps : List Piece) → MayDo first a h → Gives first.blocks a ps (plan_of h) → At first h → At first (did a ps ∷ h)
 on_did first h (Add m) ps may gives at = no_ask first h (ask (a_move m)) (λ e. absurd cc) (λ e. absurd cc) may (still_going first h (Add m) ps) at
 on_did first h (Mark m) ps may gives at = no_ask first h (ask (a_mark m)) (λ e. absurd cc) (λ e. absurd cc) may.next (still_going first h (Mark m) ps) at
 on_did first h Rest ps may gives at = no_ask first h (ask a_rest) (λ e. absurd cc) (λ e. absurd cc) may.next (still_going first h Rest ps) at
 on_did first h (Take Go) ps may gives at = on_take first h Go ps gives at
 on_did first h (Take Hold) ps may gives at = on_take first h Hold ps gives at
 on_did first h (Override o) ps may gives at =
-    on_override first h o ps (none_given most_blocks (plan_after (Override o) ps (plan_of h)) (plan_after (Override o) ps (plan_of h)) ps gives.1) at
+    on_override first h o ps (none_given first.blocks (plan_after (Override o) ps (plan_of h)) (plan_after (Override o) ps (plan_of h)) ps gives.1) at
 on_did first h Clear ps may gives at = absurd may
 on_did first h Reset ps may gives at = absurd may
 

@@ -182,8 +182,8 @@ length_of_lines before p (q ∷ ps) n =
     omega (arith, e, f, g, a)
 
 -- the ticks that count of a part's lines are those that were given, and the cut
-part_sum : (p : Part) → IsCutPart p → 0 < length p.outcomes → sum (with_cut (cut_to (ticks_together p.given) (counts_asked p.outcomes))) ≡ ticks_together p.given + 1
-part_sum p is some =
+part_sum : (most : ℕ) (p : Part) → IsCutPart most p → 0 < length p.outcomes → sum (with_cut (cut_to (ticks_together p.given) (counts_asked p.outcomes))) ≡ ticks_together p.given + 1
+part_sum most p is some =
     let m = ticks_together p.given in
     let ns = counts_asked p.outcomes in
     let long : 0 < length (cut_to m ns) = (let e = length_cut m ns in let f = length_asked p.outcomes in omega (arith, e, f, some)) in
@@ -199,17 +199,17 @@ pieces_sum p ps =
     let b = together_both p.given (pieces.Mark (marks.Cut p.number) ∷ []) in
     omega (arith, a, b)
 
-pub parts_sum : (before : ℕ) (ps : List Part) → AllByRecursion IsCutPart ps → AreNumbered before ps → sum (counts_in ps) ≡ ticks_together (pieces_in ps)
-parts_sum before [] all n = refl
-parts_sum before (p ∷ ps) all n =
-    let e = parts_sum before ps all.1 n.2 in
+pub parts_sum : (most before : ℕ) (ps : List Part) → AllByRecursion (λ p. IsCutPart most p) ps → AreNumbered before ps → sum (counts_in ps) ≡ ticks_together (pieces_in ps)
+parts_sum most before [] all n = refl
+parts_sum most before (p ∷ ps) all n =
+    let e = parts_sum most before ps all.1 n.2 in
     let a = sum_on (counts_in ps) (with_cut (cut_to (ticks_together p.given) (counts_asked p.outcomes))) in
-    let b = part_sum p all.0 (length_of_lines before p ps n) in
+    let b = part_sum most p all.0 (length_of_lines before p ps n) in
     let d = pieces_sum p ps in
     omega (arith, e, a, b, d)
 
 pub closed_sum : (first : Opening) (h : Journal) → Conducted first h → sum (counts_in (parts_of first h)) ≡ ticks_together (pieces_in (parts_of first h))
-closed_sum first h c = parts_sum first.lines (parts_of first h) (parts_are first h c) (numbers_are first h c)
+closed_sum first h c = parts_sum first.blocks first.lines (parts_of first h) (parts_are first h c) (numbers_are first h c)
 
 -- what was given in the closed parts, and since
 pub given_sum : (first : Opening) (h : Journal) → Conducted first h → ticks_given h ≡ ticks_together (pieces_in (parts_of first h)) + ticks_together (part_given h)

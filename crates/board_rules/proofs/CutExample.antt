@@ -11,7 +11,7 @@ use Rattle.flight.specs.Places.{end_of}
 use Rattle.outside.specs.declared.Turn.TheVariants.{Did}
 use Rattle.plan_rules.specs.Segments.{advanced}
 use Rattle.planner_runs.specs.declared.Action.TheVariants.{Take}
-use Rattle.planner_runs.specs.Runs.{fresh_plan, with_move}
+use Rattle.planner_runs.specs.Runs.{fresh_plan, with_move, most_blocks}
 use Rattle.plan_rules.specs.declared.Mode.TheVariants.{Go}
 use Rattle.gcode_words.specs.Words.{words_within, first_word}
 use Rattle.jog.specs.Jogs.{jog_error, jog_of}
@@ -89,90 +89,90 @@ two_unfinished false false = omega arith
 abbrev k8 : State → State → PlannedMove → PlannedMove → Segment → Journal
 k8 next last m n s = turned Did ∷ at_port (published (pieces.Segment s)) ∷ did (Take Go) (pieces.Segment s ∷ []) ∷ j7 next m s
 
-d8 : (first next last : State) (m n : PlannedMove) (s : Segment) → AreTwoJogs first next last m n s → Conducted (first_opening first) (k8 next last m n s)
+d8 : (first next last : State) (m n : PlannedMove) (s : Segment) → AreTwoJogs first next last m n s → Conducted (first_opening most_blocks first) (k8 next last m n s)
 d8 first next last m n s p = (ends _ _ (λ w. elsewhere _ w.stands refl) refl refl refl refl refl refl, ((refl, tt), ((record { goes = refl; empty = refl }, (p.one.taken, refl)), c7 first next m s p.one)))
 
 abbrev k9 : State → State → PlannedMove → PlannedMove → Segment → Journal
 k9 next last m n s = line_taken (36 ∷ 74 ∷ 61 ∷ 88 ∷ 46 ∷ 48 ∷ 48 ∷ 56 ∷ 70 ∷ 57 ∷ []) (k8 next last m n s)
 
-d9 : (first next last : State) (m n : PlannedMove) (s : Segment) → AreTwoJogs first next last m n s → Conducted (first_opening first) (k9 next last m n s)
-d9 first next last m n s p = may_take_line (first_opening first) (36 ∷ 74 ∷ 61 ∷ 88 ∷ 46 ∷ 48 ∷ 48 ∷ 56 ∷ 70 ∷ 57 ∷ []) (k8 next last m n s) (d8 first next last m n s p) refl (record { calm = refl; all_done = refl; partial = refl; unclosed = refl }) refl (under _ _ refl)
+d9 : (first next last : State) (m n : PlannedMove) (s : Segment) → AreTwoJogs first next last m n s → Conducted (first_opening most_blocks first) (k9 next last m n s)
+d9 first next last m n s p = may_take_line (first_opening most_blocks first) (36 ∷ 74 ∷ 61 ∷ 88 ∷ 46 ∷ 48 ∷ 48 ∷ 56 ∷ 70 ∷ 57 ∷ []) (k8 next last m n s) (d8 first next last m n s p) refl (record { calm = refl; all_done = refl; partial = refl; unclosed = refl }) refl (under _ _ refl)
 
 abbrev k10 : State → State → PlannedMove → PlannedMove → Segment → Journal
 k10 next last m n s = words_taken no_changes nothing motions.Jog (k9 next last m n s)
 
-d10 : (first next last : State) (m n : PlannedMove) (s : Segment) → AreTwoJogs first next last m n s → Conducted (first_opening first) (k10 next last m n s)
-d10 first next last m n s p = may_take_words (first_opening first) no_changes nothing motions.Jog (k9 next last m n s) (d9 first next last m n s p) refl refl refl refl refl refl refl refl (λ e. absurd cc)
+d10 : (first next last : State) (m n : PlannedMove) (s : Segment) → AreTwoJogs first next last m n s → Conducted (first_opening most_blocks first) (k10 next last m n s)
+d10 first next last m n s p = may_take_words (first_opening most_blocks first) no_changes nothing motions.Jog (k9 next last m n s) (d9 first next last m n s p) refl refl refl refl refl refl refl refl (λ e. absurd cc)
 
 abbrev k11 : State → State → PlannedMove → PlannedMove → Segment → Journal
 k11 next last m n s = at_port (loaded 0) ∷ k10 next last m n s
 
-d11 : (first next last : State) (m n : PlannedMove) (s : Segment) → AreTwoJogs first next last m n s → Conducted (first_opening first) (k11 next last m n s)
+d11 : (first next last : State) (m n : PlannedMove) (s : Segment) → AreTwoJogs first next last m n s → Conducted (first_opening most_blocks first) (k11 next last m n s)
 d11 first next last m n s p = (record { later = omega arith; below = omega arith; few = one_unfinished (nat_lt 0 (tick_count (pieces.Segment s))) }, d10 first next last m n s p)
 
 abbrev k12 : State → State → PlannedMove → PlannedMove → Segment → Journal
 k12 next last m n s = began (jog n last) ∷ k11 next last m n s
 
-d12 : (first next last : State) (m n : PlannedMove) (s : Segment) → AreTwoJogs first next last m n s → Conducted (first_opening first) (k12 next last m n s)
+d12 : (first next last : State) (m n : PlannedMove) (s : Segment) → AreTwoJogs first next last m n s → Conducted (first_opening most_blocks first) (k12 next last m n s)
 d12 first next last m n s p = (record { calm = refl; free = refl; going = refl; whole = refl; becomes = p.becomes; begins = refl; flags = refl; obeyed = refl; unowed = refl; load = refl; idle = λ d. absurd (let e = d.done in let some = p.some in omega (arith, e, some)); starts = λ w. elsewhere _ w.stands refl; tried = refl }, d11 first next last m n s p)
 
 abbrev k13 : State → State → PlannedMove → PlannedMove → Segment → Journal
 k13 next last m n s = at_port (took_exec cancel) ∷ k12 next last m n s
 
-d13 : (first next last : State) (m n : PlannedMove) (s : Segment) → AreTwoJogs first next last m n s → Conducted (first_opening first) (k13 next last m n s)
+d13 : (first next last : State) (m n : PlannedMove) (s : Segment) → AreTwoJogs first next last m n s → Conducted (first_opening most_blocks first) (k13 next last m n s)
 d13 first next last m n s p = (record { greeted = refl; obeyed = refl; few = λ e. absurd cc }, d12 first next last m n s p)
 
 abbrev k14 : State → State → PlannedMove → PlannedMove → Segment → Journal
 k14 next last m n s = became (on_exec cancel (queued m s)) motions.Cancelling ∷ k13 next last m n s
 
-d14 : (first next last : State) (m n : PlannedMove) (s : Segment) → AreTwoJogs first next last m n s → Conducted (first_opening first) (k14 next last m n s)
+d14 : (first next last : State) (m n : PlannedMove) (s : Segment) → AreTwoJogs first next last m n s → Conducted (first_opening most_blocks first) (k14 next last m n s)
 d14 first next last m n s p = ((refl, record { next = refl; reported = λ owed. absurd cc; blocks = refl; looked = λ slowed. absurd (let b = slowed.slows in cc); stopped = λ stopped. absurd (let b = stopped.slowed.slows in cc); jog = refl; halts = λ e. untrue e }), d13 first next last m n s p)
 
 abbrev k15 : State → State → PlannedMove → PlannedMove → Segment → Journal
 k15 next last m n s = at_port (loaded (all_ticks s)) ∷ k14 next last m n s
 
-d15 : (first next last : State) (m n : PlannedMove) (s : Segment) → AreTwoJogs first next last m n s → Conducted (first_opening first) (k15 next last m n s)
+d15 : (first next last : State) (m n : PlannedMove) (s : Segment) → AreTwoJogs first next last m n s → Conducted (first_opening most_blocks first) (k15 next last m n s)
 d15 first next last m n s p = (record { later = omega arith; below = omega arith; few = one_unfinished _ }, d14 first next last m n s p)
 
 abbrev k16 : State → State → PlannedMove → PlannedMove → Segment → Journal
 k16 next last m n s = cut 2 ∷ k15 next last m n s
 
-d16 : (first next last : State) (m n : PlannedMove) (s : Segment) → AreTwoJogs first next last m n s → Conducted (first_opening first) (k16 next last m n s)
+d16 : (first next last : State) (m n : PlannedMove) (s : Segment) → AreTwoJogs first next last m n s → Conducted (first_opening most_blocks first) (k16 next last m n s)
 d16 first next last m n s p = (record { calm = refl; cancelled = refl; uncut = refl; stopped = record { slowed = record { slows = refl; speed = p.one.rests.speed; empty = refl }; done = refl }; load = refl; number = refl; mark = omega arith }, d15 first next last m n s p)
 
 abbrev k17 : State → State → PlannedMove → PlannedMove → Segment → Journal
 k17 next last m n s = turned Did ∷ k16 next last m n s
 
-d17 : (first next last : State) (m n : PlannedMove) (s : Segment) → AreTwoJogs first next last m n s → Conducted (first_opening first) (k17 next last m n s)
+d17 : (first next last : State) (m n : PlannedMove) (s : Segment) → AreTwoJogs first next last m n s → Conducted (first_opening most_blocks first) (k17 next last m n s)
 d17 first next last m n s p = (ends _ _ (λ w. elsewhere _ w.stands refl) refl refl refl refl refl refl, d16 first next last m n s p)
 
 abbrev k18 : State → State → PlannedMove → PlannedMove → Segment → Journal
 k18 next last m n s = turned Did ∷ at_port (published (pieces.Mark (marks.Cut 2))) ∷ at_port (loaded (all_ticks s)) ∷ k17 next last m n s
 
-d18 : (first next last : State) (m n : PlannedMove) (s : Segment) → AreTwoJogs first next last m n s → Conducted (first_opening first) (k18 next last m n s)
+d18 : (first next last : State) (m n : PlannedMove) (s : Segment) → AreTwoJogs first next last m n s → Conducted (first_opening most_blocks first) (k18 next last m n s)
 d18 first next last m n s p = (ends _ _ (λ w. elsewhere _ w.stands refl) refl refl refl refl refl refl, ((refl, (refl, refl)), (record { later = omega arith; below = omega arith; few = one_unfinished _ }, d17 first next last m n s p)))
 
 abbrev k19 : State → State → PlannedMove → PlannedMove → Segment → Journal
 k19 next last m n s = turned Did ∷ at_port (answered Ok) ∷ k18 next last m n s
 
-d19 : (first next last : State) (m n : PlannedMove) (s : Segment) → AreTwoJogs first next last m n s → Conducted (first_opening first) (k19 next last m n s)
+d19 : (first next last : State) (m n : PlannedMove) (s : Segment) → AreTwoJogs first next last m n s → Conducted (first_opening most_blocks first) (k19 next last m n s)
 d19 first next last m n s p = (ends _ _ (λ w. elsewhere _ w.stands refl) refl refl refl refl refl refl, (record { next = refl; plain = refl; unowed = refl; empty = λ e. absurd cc; unlocked = refl }, d18 first next last m n s p))
 
 abbrev k20 : State → State → PlannedMove → PlannedMove → Segment → Journal
 k20 next last m n s = at_port (loaded (all_ticks s + 1)) ∷ k19 next last m n s
 
-d20 : (first next last : State) (m n : PlannedMove) (s : Segment) → AreTwoJogs first next last m n s → Conducted (first_opening first) (k20 next last m n s)
+d20 : (first next last : State) (m n : PlannedMove) (s : Segment) → AreTwoJogs first next last m n s → Conducted (first_opening most_blocks first) (k20 next last m n s)
 d20 first next last m n s p = (record { later = omega arith; below = (let e = both_ticks s in omega (arith, e)); few = two_unfinished _ _ }, d19 first next last m n s p)
 
 abbrev pub k21 : State → State → PlannedMove → PlannedMove → Segment → Journal
 k21 next last m n s = turned Did ∷ became on_stopped motions.Idle ∷ k20 next last m n s
 
-pub d21 : (first next last : State) (m n : PlannedMove) (s : Segment) → AreTwoJogs first next last m n s → Conducted (first_opening first) (k21 next last m n s)
+pub d21 : (first next last : State) (m n : PlannedMove) (s : Segment) → AreTwoJogs first next last m n s → Conducted (first_opening most_blocks first) (k21 next last m n s)
 d21 first next last m n s p = (ends _ _ (λ w. untrue w.blocks) refl refl refl refl refl refl, ((refl, record { stopped = record { slowed = record { slows = refl; speed = refl; empty = refl }; done = sym (both_ticks s) }; cut_is = λ e. refl; load = λ e. refl }), d20 first next last m n s p))
 
 -- the position is where the first jog's segment has led, and nothing is left to do or to run
-pub place_is : (first next last : State) (m n : PlannedMove) (s : Segment) → AreTwoJogs first next last m n s → (before_of (first_opening first) (k21 next last m n s)).state.parser.pos_steps ≡ end_of (pieces.Segment s ∷ [])
+pub place_is : (first next last : State) (m n : PlannedMove) (s : Segment) → AreTwoJogs first next last m n s → (before_of (first_opening most_blocks first) (k21 next last m n s)).state.parser.pos_steps ≡ end_of (pieces.Segment s ∷ [])
 place_is first next last m n s p = refl
 
-pub nothing_left : (first next last : State) (m n : PlannedMove) (s : Segment) → AreTwoJogs first next last m n s → (left_of (first_opening first) (k21 next last m n s) ≡ []) × ((plan_of (k21 next last m n s)).blocks ≡ [])
+pub nothing_left : (first next last : State) (m n : PlannedMove) (s : Segment) → AreTwoJogs first next last m n s → (left_of (first_opening most_blocks first) (k21 next last m n s) ≡ []) × ((plan_of (k21 next last m n s)).blocks ≡ [])
 nothing_left first next last m n s p = (refl, refl)

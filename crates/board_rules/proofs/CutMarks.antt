@@ -107,7 +107,7 @@ stays h a ps none (inr (p, is, known)) = inr (p, ap (λ (qs : List Piece). hand_
 comes_in : (h : Journal) (a : Action) (p : Piece) → hand_of h ≡ [] → marks_cut p ≡ false → OneInHand (did a (p ∷ []) ∷ h)
 comes_in h a p empty other = inr (p, ap (λ (qs : List Piece). qs ++ p ∷ []) empty, λ cuts. no_cut p other cuts)
 
-did_hand : (first : Opening) (h : Journal) (a : Action) (ps : List Piece) → Conducted first h → MayDo first a h → Gives a ps (plan_of h) → OneInHand h → OneInHand (did a ps ∷ h)
+did_hand : (first : Opening) (h : Journal) (a : Action) (ps : List Piece) → Conducted first h → MayDo first a h → Gives first.blocks a ps (plan_of h) → OneInHand h → OneInHand (did a ps ∷ h)
 did_hand first h (Add m) [] c may run one = stays h (Add m) [] refl one
 did_hand first h (Override o) [] c may run one = stays h (Override o) [] refl one
 did_hand first h Rest [] c may run one = stays h Rest [] refl one

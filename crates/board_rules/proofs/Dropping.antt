@@ -1,5 +1,5 @@
 -- Tasks, less those that ask something of the machine: what is left of them where jogs are cut.
-use Rattle.std.proofs.Common.{◌≡◌, ◌+◌, true, false, List, [], ◌∷◌, refl, ap}
+use Rattle.std.proofs.Common.{◌≡◌, ◌+◌, true, false, List, [], ◌∷◌, drop, refl, ap}
 use Rattle.status_report.specs.declared.Reply.{Reply}
 use Rattle.run_rules.specs.Work.{Task, asks, tells, has_moves, pauses}
 use Rattle.run_rules.specs.Work.Task.{ask, tell, pause, normal}
@@ -21,6 +21,12 @@ pub pauses_kept : (ts : List Task) → pauses (without_asks ts) ≡ pauses ts
 pauses_kept [] = refl
 pauses_kept (pause ∷ ts) = ap (λ n. n + 1) (pauses_kept ts)
 pauses_kept (_ ∷ ts) = pauses_kept ts
+
+-- what is left where nothing was asked
+pub asks_behind : (ts : List Task) → asks ts ≡ [] → asks (drop 1 ts) ≡ []
+asks_behind [] none = refl
+asks_behind (ask a ∷ ts) none = absurd cc
+asks_behind (_ ∷ ts) none = none
 
 -- a reply that is next stays next
 pub tell_kept : (ts : List Task) → tells_next ts ≡ true → tells_next (without_asks ts) ≡ true

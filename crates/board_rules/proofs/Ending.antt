@@ -9,7 +9,7 @@ use Rattle.plan_rules.specs.Plans.{Planned}
 use Rattle.plan_rules.specs.Segments.{advanced}
 use Rattle.planner_runs.specs.declared.Action.{Action}
 use Rattle.planner_runs.specs.declared.Action.TheVariants.{Add, Take, Override, Mark, Rest, Clear, Reset}
-use Rattle.planner_runs.specs.Runs.{Plans, AllFollow, fresh_plan, most_blocks, with_move, cleared}
+use Rattle.planner_runs.specs.Runs.{Plans, AllFollow, fresh_plan, with_move, cleared}
 use Rattle.planner_runs.proofs.Runs.{fresh_starts}
 use Rattle.planner_runs.proofs.Following.{start_follows}
 use Rattle.board_rules.specs.Openings.{Opening}
@@ -40,6 +40,9 @@ planned_no_end most p last (Reset ∷ more) ps run = subst NoEnds (sym run.1) tt
 planned_no_end most p last (Take mode ∷ more) (pieces.Segment s ∷ ps) run = ((λ e. absurd cc), planned_no_end most (advanced p s.n s.w_out) last more ps run.1)
 planned_no_end most p last (Mark m ∷ more) (pieces.Mark g ∷ ps) run = ((λ e. absurd cc), planned_no_end most p last more ps run.3)
 planned_no_end most p last actions ps run = absurd run
+
+pub planned_none : (first : Opening) (h : Journal) → Conducted first h → NoEnds (planned_of h)
+planned_none first h c = planned_no_end first.blocks fresh_plan (plan_of h) (actions_of h) (planned_of h) (run_is first h c)
 
 pub not_ended : (before : List Piece) → NoEnds before → has_ended before ≡ false
 not_ended [] none = refl
@@ -72,8 +75,8 @@ by_phase first h none follow (over e l w p still d is k) = subst (λ (ps : List 
 pub turns_are : (first : Opening) (h : Journal) → Conducted first h → InTurn (reverse (given_of h))
 turns_are first h c =
     let run = run_is first h c in
-    by_phase first h (planned_no_end most_blocks fresh_plan (plan_of h) (actions_of h) (planned_of h) run)
-    (start_follows most_blocks [] fresh_plan (plan_of h) (actions_of h) (planned_of h) fresh_starts run) (phase_is first h c)
+    by_phase first h (planned_none first h c)
+    (start_follows first.blocks [] fresh_plan (plan_of h) (actions_of h) (planned_of h) fresh_starts run) (phase_is first h c)
 
 turns_back : (xs ys : List Piece) → InTurn (xs ++ ys) → InTurn ys
 turns_back [] ys turns = turns

@@ -47,6 +47,7 @@ use Rattle.board_rules.specs.Turns.{this_turn, publishing, replans, takes_change
 use Rattle.board_rules.specs.Conduct.{Conducted, MayOpen, EndsTurn, AreWaiting}
 use Rattle.board_rules.proofs.Taking.{line_taken, words_taken, may_take_line, may_take_words}
 use Rattle.step_line.specs.declared.planned_move.PlannedMove.{PlannedMove}
+use Rattle.planner_runs.specs.Runs.{most_blocks}
 
 -- what is found by computing
 pub holds : (n m : ℕ) → nat_lt m n ≡ false → n ≤ m
@@ -118,143 +119,143 @@ abbrev pub no_changes : Ovr
 no_changes = record { 0 = 0 }
 
 -- a run may open so
-pub opens : (first : State) → MayOpen (first_opening first)
-opens first = record { stands = refl; greets = (record { answers = refl; reports = refl; parts = refl }, tt); banner = refl; few = holds _ _ refl }
+pub opens : (first : State) → MayOpen (first_opening most_blocks first)
+opens first = record { stands = refl; greets = (record { answers = refl; reports = refl; parts = refl }, tt); banner = refl; few = holds _ _ refl; sized = (holds _ _ refl, holds _ _ refl) }
 
 abbrev j0 : Settings → Journal
 j0 s = []
 
-c0 : (s : Settings) → Conducted (first_opening (first_state s)) (j0 s)
+c0 : (s : Settings) → Conducted (first_opening most_blocks (first_state s)) (j0 s)
 c0 s = opens (first_state s)
 
 abbrev j1 : Settings → Journal
 j1 s = turned Did ∷ at_port (answered Banner) ∷ j0 s
 
-c1 : (s : Settings) → Conducted (first_opening (first_state s)) (j1 s)
+c1 : (s : Settings) → Conducted (first_opening most_blocks (first_state s)) (j1 s)
 c1 s = (ends _ _ (λ w. untrue w.blocks) refl refl refl refl refl refl, (record { next = refl; plain = refl; unowed = refl; empty = λ e. absurd cc; unlocked = refl }, c0 s))
 
 abbrev j2 : Settings → Journal
 j2 s = line_taken (77 ∷ 56 ∷ []) (j1 s)
 
-c2 : (s : Settings) → Conducted (first_opening (first_state s)) (j2 s)
-c2 s = may_take_line (first_opening (first_state s)) (77 ∷ 56 ∷ []) (j1 s) (c1 s) refl (record { calm = refl; all_done = refl; partial = refl; unclosed = refl }) refl (under _ _ refl)
+c2 : (s : Settings) → Conducted (first_opening most_blocks (first_state s)) (j2 s)
+c2 s = may_take_line (first_opening most_blocks (first_state s)) (77 ∷ 56 ∷ []) (j1 s) (c1 s) refl (record { calm = refl; all_done = refl; partial = refl; unclosed = refl }) refl (under _ _ refl)
 
 abbrev j3 : Settings → Journal
 j3 s = words_taken no_changes hold motions.Held (j2 s)
 
-c3 : (s : Settings) → Conducted (first_opening (first_state s)) (j3 s)
-c3 s = may_take_words (first_opening (first_state s)) no_changes hold motions.Held (j2 s) (c2 s) refl refl refl refl refl refl refl refl (λ e. absurd cc)
+c3 : (s : Settings) → Conducted (first_opening most_blocks (first_state s)) (j3 s)
+c3 s = may_take_words (first_opening most_blocks (first_state s)) no_changes hold motions.Held (j2 s) (c2 s) refl refl refl refl refl refl refl refl (λ e. absurd cc)
 
 abbrev j4 : Settings → Journal
 j4 s = became (on_exec nothing false) motions.Held ∷ at_port (took_exec nothing) ∷ j3 s
 
-c4 : (s : Settings) → Conducted (first_opening (first_state s)) (j4 s)
+c4 : (s : Settings) → Conducted (first_opening most_blocks (first_state s)) (j4 s)
 c4 s = ((refl, record { next = refl; reported = λ owed. absurd cc; blocks = refl; looked = λ s. absurd (let e = s.slows in cc); jog = refl; stopped = λ s. absurd (let e = s.slowed.slows in cc); halts = λ e. untrue e }), (record { greeted = refl; obeyed = refl; few = λ asks. absurd cc }, c3 s))
 
 abbrev j5 : Settings → Journal
 j5 s = turned (Wait on.Resume) ∷ j4 s
 
-c5 : (s : Settings) → Conducted (first_opening (first_state s)) (j5 s)
+c5 : (s : Settings) → Conducted (first_opening most_blocks (first_state s)) (j5 s)
 c5 s = (record { ends = ends _ _ (λ w. untrue w.blocks) refl refl refl refl refl refl; cause = record { held = refl; unasked = refl; held_up = refl }; still = refl; flags = refl; obeyed = refl; unowed = λ owed. absurd cc; round = λ due. absurd cc }, c4 s)
 
 abbrev j6 : Settings → Journal
 j6 s = words_taken no_changes resume motions.Idle (j5 s)
 
-c6 : (s : Settings) → Conducted (first_opening (first_state s)) (j6 s)
-c6 s = may_take_words (first_opening (first_state s)) no_changes resume motions.Idle (j5 s) (c5 s) refl refl refl refl refl refl refl refl (λ e. inr refl)
+c6 : (s : Settings) → Conducted (first_opening most_blocks (first_state s)) (j6 s)
+c6 s = may_take_words (first_opening most_blocks (first_state s)) no_changes resume motions.Idle (j5 s) (c5 s) refl refl refl refl refl refl refl refl (λ e. inr refl)
 
 abbrev j7 : Settings → Journal
 j7 s = at_port (loaded 0) ∷ j6 s
 
-c7 : (s : Settings) → Conducted (first_opening (first_state s)) (j7 s)
+c7 : (s : Settings) → Conducted (first_opening most_blocks (first_state s)) (j7 s)
 c7 s = (record { later = omega arith; below = omega arith; few = omega arith }, c6 s)
 
 abbrev j8 : Settings → Journal
 j8 s = began (flood (next_state s)) ∷ j7 s
 
-c8 : (s : Settings) → Conducted (first_opening (first_state s)) (j8 s)
+c8 : (s : Settings) → Conducted (first_opening most_blocks (first_state s)) (j8 s)
 c8 s = (record { calm = refl; free = refl; going = refl; whole = refl; becomes = is_flood s; begins = refl; flags = refl; obeyed = refl; unowed = refl; load = refl; idle = λ drained. refl; starts = λ w. untrue w.blocks; tried = refl }, c7 s)
 
 abbrev j9 : Settings → Journal
 j9 s = did Rest [] ∷ j8 s
 
-c9 : (s : Settings) → Conducted (first_opening (first_state s)) (j9 s)
+c9 : (s : Settings) → Conducted (first_opening most_blocks (first_state s)) (j9 s)
 c9 s = ((record { next = refl; drained = record { plan = record { blocks = refl; speed = refl }; hand = refl; done = refl }; stands = refl }, (record { blocks = refl; speed = refl }, refl)), c8 s)
 
 abbrev j10 : Settings → Journal
 j10 s = turned Did ∷ at_port (published (pieces.Mark (marks.Coolant true))) ∷ did (Mark (marks.Coolant true)) (pieces.Mark (marks.Coolant true) ∷ []) ∷ j9 s
 
-c10 : (s : Settings) → Conducted (first_opening (first_state s)) (j10 s)
+c10 : (s : Settings) → Conducted (first_opening most_blocks (first_state s)) (j10 s)
 c10 s = (ends _ _ (λ w. untrue w.blocks) refl refl refl refl refl refl, ((refl, tt), ((record { next = refl; empty = refl }, (refl, tt, record { blocks = refl; speed = refl }, refl)), c9 s)))
 
 abbrev j11 : Settings → Journal
 j11 s = at_port (loaded 0) ∷ j10 s
 
-c11 : (s : Settings) → Conducted (first_opening (first_state s)) (j11 s)
+c11 : (s : Settings) → Conducted (first_opening most_blocks (first_state s)) (j11 s)
 c11 s = (record { later = omega arith; below = omega arith; few = omega arith }, c10 s)
 
 abbrev j12 : Settings → Journal
 j12 s = turned (Wait on.Motion) ∷ j11 s
 
-c12 : (s : Settings) → Conducted (first_opening (first_state s)) (j12 s)
+c12 : (s : Settings) → Conducted (first_opening most_blocks (first_state s)) (j12 s)
 c12 s = (record { ends = ends _ _ (λ w. untrue w.blocks) refl refl refl refl refl refl; cause = record { load = refl; undone = omega arith; awaits = refl }; still = refl; flags = refl; obeyed = refl; unowed = λ owed. absurd cc; round = λ due. absurd cc }, c11 s)
 
 abbrev j13 : Settings → Journal
 j13 s = words_taken no_changes nothing motions.Idle (j12 s)
 
-c13 : (s : Settings) → Conducted (first_opening (first_state s)) (j13 s)
-c13 s = may_take_words (first_opening (first_state s)) no_changes nothing motions.Idle (j12 s) (c12 s) refl refl refl refl refl refl refl refl (λ e. inl refl)
+c13 : (s : Settings) → Conducted (first_opening most_blocks (first_state s)) (j13 s)
+c13 s = may_take_words (first_opening most_blocks (first_state s)) no_changes nothing motions.Idle (j12 s) (c12 s) refl refl refl refl refl refl refl refl (λ e. inl refl)
 
 abbrev j14 : Settings → Journal
 j14 s = did Rest [] ∷ at_port (loaded 1) ∷ j13 s
 
-c14 : (s : Settings) → Conducted (first_opening (first_state s)) (j14 s)
+c14 : (s : Settings) → Conducted (first_opening most_blocks (first_state s)) (j14 s)
 c14 s = ((record { next = refl; drained = record { plan = record { blocks = refl; speed = refl }; hand = refl; done = refl }; stands = refl }, (record { blocks = refl; speed = refl }, refl)), (record { later = omega arith; below = omega arith; few = omega arith }, c13 s))
 
 abbrev j15 : Settings → Journal
 j15 s = turned Did ∷ at_port (answered Ok) ∷ j14 s
 
-c15 : (s : Settings) → Conducted (first_opening (first_state s)) (j15 s)
+c15 : (s : Settings) → Conducted (first_opening most_blocks (first_state s)) (j15 s)
 c15 s = (ends _ _ (λ w. untrue w.blocks) refl refl refl refl refl refl, (record { next = refl; plain = refl; unowed = refl; empty = λ e. absurd cc; unlocked = refl }, c14 s))
 
 abbrev j16 : Settings → Journal
 j16 s = at_port found_empty ∷ j15 s
 
-c16 : (s : Settings) → Conducted (first_opening (first_state s)) (j16 s)
+c16 : (s : Settings) → Conducted (first_opening most_blocks (first_state s)) (j16 s)
 c16 s = (record { calm = refl; all_done = refl; partial = refl; unclosed = refl }, c15 s)
 
 abbrev j17 : Settings → Journal
 j17 s = turned (Wait on.Byte) ∷ j16 s
 
-c17 : (s : Settings) → Conducted (first_opening (first_state s)) (j17 s)
+c17 : (s : Settings) → Conducted (first_opening most_blocks (first_state s)) (j17 s)
 c17 s = (record { ends = ends _ _ (λ w. untrue w.blocks) refl refl refl refl refl refl; cause = record { poll = refl; free = refl; partial = refl; unowed = refl }; still = refl; flags = refl; obeyed = refl; unowed = λ owed. absurd cc; round = λ due. absurd cc }, c16 s)
 
 abbrev j18 : Settings → Journal
 j18 s = words_taken no_changes nothing motions.Idle (j17 s)
 
-c18 : (s : Settings) → Conducted (first_opening (first_state s)) (j18 s)
-c18 s = may_take_words (first_opening (first_state s)) no_changes nothing motions.Idle (j17 s) (c17 s) refl refl refl refl refl refl refl refl (λ e. inl refl)
+c18 : (s : Settings) → Conducted (first_opening most_blocks (first_state s)) (j18 s)
+c18 s = may_take_words (first_opening most_blocks (first_state s)) no_changes nothing motions.Idle (j17 s) (c17 s) refl refl refl refl refl refl refl refl (λ e. inl refl)
 
 abbrev j19 : Settings → Journal
 j19 s = closing ∷ at_port found_closed ∷ j18 s
 
-c19 : (s : Settings) → Conducted (first_opening (first_state s)) (j19 s)
+c19 : (s : Settings) → Conducted (first_opening most_blocks (first_state s)) (j19 s)
 c19 s = (record { free = refl; going = refl; begun = refl; closed = inl refl }, (record { calm = refl; all_done = refl; partial = refl; unclosed = refl }, c18 s))
 
 abbrev j20 : Settings → Journal
 j20 s = turned Did ∷ at_port (published pieces.End) ∷ made_end ∷ j19 s
 
-c20 : (s : Settings) → Conducted (first_opening (first_state s)) (j20 s)
+c20 : (s : Settings) → Conducted (first_opening most_blocks (first_state s)) (j20 s)
 c20 s = (ends _ _ (λ w. untrue w.blocks) refl refl refl refl refl refl, ((refl, tt), (record { next = refl; drained = record { plan = record { blocks = refl; speed = refl }; hand = refl; done = refl }; stands = refl; closes = λ e. absurd cc }, c19 s)))
 
 abbrev j21 : Settings → Journal
 j21 s = turned Did ∷ at_port (answered Bye) ∷ j20 s
 
-c21 : (s : Settings) → Conducted (first_opening (first_state s)) (j21 s)
+c21 : (s : Settings) → Conducted (first_opening most_blocks (first_state s)) (j21 s)
 c21 s = (ends _ _ (λ w. untrue w.blocks) refl refl refl refl refl refl, (record { next = refl; plain = refl; unowed = refl; empty = λ e. refl; unlocked = refl }, c20 s))
 
 abbrev j22 : Settings → Journal
 j22 s = turned Done ∷ j21 s
 
-pub c22 : (s : Settings) → Conducted (first_opening (first_state s)) (j22 s)
+pub c22 : (s : Settings) → Conducted (first_opening most_blocks (first_state s)) (j22 s)
 c22 s = (record { finished = record { left = refl; closed = refl }; still = refl }, c21 s)

@@ -1,5 +1,5 @@
 -- What holds of every journal that the rules allow, and of one between two turns.
-use Rattle.std.proofs.Common.{◌≡◌, ◌+◌, ◌⊎◌, inl, inr, Bool, true, false, ◌&&◌, not, List, [], ◌∷◌, length, drop, refl, ap, arith, length-append}
+use Rattle.std.proofs.Common.{◌≡◌, ◌⊎◌, inl, inr, Bool, true, false, ◌&&◌, not, List, [], ◌∷◌, drop, refl, ap}
 use Rattle.status_report.specs.declared.Reply.TheVariants.{Bye}
 use Rattle.step_line.specs.Asking.Asked.{a_move, a_mark, a_rest}
 use Rattle.plan_rules.specs.declared.Mode.TheVariants.{Go}
@@ -9,11 +9,12 @@ use Rattle.board_rules.specs.Openings.{Opening}
 use Rattle.run_rules.specs.Work.{Task}
 use Rattle.run_rules.specs.Work.Task.{ask, tell, pause, normal, finish, halt}
 use Rattle.board_rules.specs.Ports.PortStep.{took, answered}
-use Rattle.board_rules.specs.Steps.{Journal, outcomes_of, before_of, left_of, left_by, without_asks, whole_of, closed_tells, motion_of}
+use Rattle.board_rules.specs.Steps.{Journal, left_of, left_by, without_asks, whole_of, closed_tells, motion_of}
 use Rattle.board_rules.specs.Steps.Step.{at_port, began, did, made_end, evened, paused, cut, halted, closing, turned}
 use Rattle.board_rules.specs.Turns.{this_turn, missed_of, is_due, is_halting, is_counted, counts_tries, owes_report}
 use Rattle.board_rules.specs.Conduct.{Conducted, IsNextTask, MayDo}
 use Rattle.board_rules.proofs.Closing.{At, going, to_finish, to_tell, over, phase_is}
+pub use Rattle.board_rules.proofs.Lines.{number_is}
 use Rattle.board_rules.proofs.Tasks.{none_next, none_first, head_is}
 
 -- ---- a line that waits to be begun
@@ -60,9 +61,9 @@ not_whole first h c some = by_free (free_is first h c)
     by_free (inl none) = absurd (some none)
     by_free (inr partial) = partial
 
-and_none : (a b : Bool) → b ≡ false → (a && b) ≡ false
-and_none true b e = e
-and_none false b e = refl
+pub and_false : (a b : Bool) → b ≡ false → (a && b) ≡ false
+and_false true b is = is
+and_false false b is = refl
 
 -- nor is one while a report is owed
 pub uncounted_owing : (first : Opening) (h : Journal) → owes_report h ≡ true → is_counted first h ≡ false
@@ -70,7 +71,7 @@ uncounted_owing first h owed = ap (λ b. not b && counts_tries (left_of first h)
 
 -- no try to publish is counted then
 pub uncounted : (first : Opening) (h : Journal) → (left_of first h ≡ [] → ⊥) → is_counted first h ≡ false
-uncounted first h some = and_none (not (owes_report h)) (counts_tries (left_of first h) (whole_of h) (motion_of first h)) (by_left (left_of first h) some)
+uncounted first h some = and_false (not (owes_report h)) (counts_tries (left_of first h) (whole_of h) (motion_of first h)) (by_left (left_of first h) some)
   where
     by_left : (ts : List Task) → (ts ≡ [] → ⊥) → counts_tries ts (whole_of h) (motion_of first h) ≡ false
     by_left [] some = absurd (some refl)
@@ -78,7 +79,7 @@ uncounted first h some = and_none (not (owes_report h)) (counts_tries (left_of f
 
 -- nor is one while a line waits for a machine that is held, or slows down for that
 pub uncounted_line : (first : Opening) (h : Journal) → is_halting (motion_of first h) ≡ true → whole_of h ≡ true → is_counted first h ≡ false
-uncounted_line first h halts whole = and_none (not (owes_report h)) (counts_tries (left_of first h) (whole_of h) (motion_of first h)) (by_left (left_of first h))
+uncounted_line first h halts whole = and_false (not (owes_report h)) (counts_tries (left_of first h) (whole_of h) (motion_of first h)) (by_left (left_of first h))
   where
     none : (a b : Bool) → a ≡ true → b ≡ true → not (a && b) ≡ false
     none true true e f = refl
@@ -110,22 +111,8 @@ no_normal_closing first h c closes next = only_end first h normal c closes (λ e
 
 -- ---- between two turns
 
-pub and_false : (a b : Bool) → b ≡ false → (a && b) ≡ false
-and_false true b is = is
-and_false false b is = refl
-
 -- where no segment is due none is missed
 pub unmissed : (first : Opening) (h : Journal) → this_turn h ≡ [] → is_due first h ≡ false → missed_of first h ≡ false
 unmissed first [] none due = refl
 unmissed first (turned t ∷ h) none due = and_false (missed_of first h) (is_due first h) due
 unmissed first (_ ∷ h) none due = absurd cc
-
--- ---- the lines
-
--- the number of the next line
-pub number_is : (first : Opening) (h : Journal) → Conducted first h → (before_of first h).number ≡ first.lines + length (outcomes_of h) + 1
-number_is first [] c = omega arith
-number_is first (began o ∷ h) c =
-    let n = number_is first h c.1 in
-    let l = length-append (outcomes_of h) (o ∷ []) in omega (arith, n, l)
-number_is first (_ ∷ h) c = number_is first h c.1

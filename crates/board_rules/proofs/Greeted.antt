@@ -22,6 +22,7 @@ use Rattle.board_rules.specs.Turns.{is_greeted, owes_report, tells_next}
 use Rattle.board_rules.proofs.Greeting.{banners_in, banners_on, banners_first, banners_are, since}
 use Rattle.board_rules.proofs.Keeping.{told_is}
 use Rattle.board_rules.proofs.Plain.{plain_push}
+use Rattle.board_rules.proofs.Truths.{either_right, neither_right, opposite}
 
 -- ---- before the Banner nothing else is done than to tell
 
@@ -131,17 +132,6 @@ greeted_free first h c free = greeted_where first h c (ap tells_next free)
 
 -- ---- words and reports come behind it
 
-either_right : (a b : Bool) → b ≡ true → (a || b) ≡ true
-either_right true b e = refl
-either_right false b e = e
-
-right_none : (a b : Bool) → (a || b) ≡ false → b ≡ false
-right_none true b e = absurd cc
-right_none false b e = e
-
-opposite : {A : Type 0} (b : Bool) → b ≡ true → b ≡ false → A
-opposite b holds fails = absurd (let e = sym holds ∙ fails in cc)
-
 -- a report is owed only behind the Banner
 pub owed_greeted : (first : Opening) (h : Journal) → Conducted first h → owes_report h ≡ true → is_greeted h ≡ true
 owed_greeted first [] c owed = absurd cc
@@ -156,7 +146,7 @@ reported_greeted first r h c = owed_greeted first h c.1 c.0.owed
 unreported : (first : Opening) (h : Journal) → Conducted first h → is_greeted h ≡ false → without_reports (answered_of h) ≡ answered_of h
 unreported first [] c none = refl
 unreported first (at_port (answered r) ∷ h) c none =
-    plain_push (answered_of h) r c.0.plain ∙ ap (λ (rs : List Reply). rs ++ r ∷ []) (unreported first h c.1 (right_none (is_banner r) (is_greeted h) none))
+    plain_push (answered_of h) r c.0.plain ∙ ap (λ (rs : List Reply). rs ++ r ∷ []) (unreported first h c.1 (neither_right (is_banner r) (is_greeted h) none))
 unreported first (at_port (reported r) ∷ h) c none = opposite (is_greeted h) (reported_greeted first r h c) none
 unreported first (_ ∷ h) c none = unreported first h c.1 none
 
@@ -167,13 +157,13 @@ no_byte first h c none = ((since first h c).0 (none_greeted (port_log h) none)).
 
 no_line : (first : Opening) (h : Journal) → Conducted first h → is_greeted h ≡ false → outcomes_of h ≡ []
 no_line first [] c none = refl
-no_line first (at_port (answered r) ∷ h) c none = no_line first h c.1 (right_none (is_banner r) (is_greeted h) none)
+no_line first (at_port (answered r) ∷ h) c none = no_line first h c.1 (neither_right (is_banner r) (is_greeted h) none)
 no_line first (began o ∷ h) c none = opposite (is_greeted h) (greeted_free first h c.1 c.0.free) none
 no_line first (_ ∷ h) c none = no_line first h c.1 none
 
 no_close : (first : Opening) (h : Journal) → Conducted first h → is_greeted h ≡ false → closed_tells h ≡ []
 no_close first [] c none = refl
-no_close first (at_port (answered r) ∷ h) c none = no_close first h c.1 (right_none (is_banner r) (is_greeted h) none)
+no_close first (at_port (answered r) ∷ h) c none = no_close first h c.1 (neither_right (is_banner r) (is_greeted h) none)
 no_close first (closing ∷ h) c none = opposite (is_greeted h) (greeted_free first h c.1 c.0.free) none
 no_close first (_ ∷ h) c none = no_close first h c.1 none
 

@@ -121,12 +121,3 @@ may_answer first h r c next text = record {
         let here = banners_first r (tells (drop 1 (left_of first h))) in
         let none = ((since first h c).0 (omega (arith, all, left, here, t))).1 in
         let e = sym none ∙ greeted in cc
-
--- a report may be answered at any time
-pub may_report : (first : Opening) (h : Journal) (r : Report) → Conducted first h → IsReply (replies.Report r) → MayAnswer (port_log h) (replies.Report r)
-may_report first h r c text = record {
-  line = λ is. absurd cc;
-  banner = λ is greeted. absurd cc;
-  text = text;
-  few = (let f = few_answered first h c in let m = same_answered (port_log h) in omega (arith, f, m));
-}

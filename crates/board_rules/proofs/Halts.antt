@@ -7,7 +7,7 @@ use Rattle.overrides.specs.declared.Overrides.{Overrides}
 use Rattle.plan_rules.specs.Plans.{Planned}
 use Rattle.planner_runs.specs.declared.Action.{Action}
 use Rattle.planner_runs.specs.declared.Action.TheVariants.{Override}
-use Rattle.planner_runs.specs.Runs.{most_blocks, all_asked, ticks_left}
+use Rattle.planner_runs.specs.Runs.{all_asked, ticks_left}
 use Rattle.planner_runs.proofs.Legal.{halted_heads_are_legal}
 use Rattle.board_rules.specs.Openings.{Opening}
 use Rattle.run_rules.specs.Cuts.{ticks_asked_for, counts_asked}
@@ -185,7 +185,7 @@ settled_whole first h c = by_any (list_any settles (part_outcomes h)) refl
 
 -- ---- the part that it ends
 
-pub halted_part : (first : Opening) (h : Journal) → Conducted first h → has_halted h ≡ true → IsAlarmedPart (part_outcomes h) (part_start h) (part_actions h) (part_given h) (part_plan h)
+pub halted_part : (first : Opening) (h : Journal) → Conducted first h → has_halted h ≡ true → IsAlarmedPart first.blocks (part_outcomes h) (part_start h) (part_actions h) (part_given h) (part_plan h)
 halted_part first h c was =
     let p = open_part first h c in
     let t = halted_then first h c was in
@@ -195,7 +195,7 @@ halted_part first h c was =
       starts = p.starts;
       run = p.run;
       stops = t.still;
-      heads = halted_heads_are_legal most_blocks (part_start h) (part_plan h) (part_actions h) (part_given h) p.starts (never_clears first h c) p.run t.still;
+      heads = halted_heads_are_legal first.blocks (part_start h) (part_plan h) (part_actions h) (part_given h) p.starts (never_clears first h c) p.run t.still;
       asks = asked_is first h c ∙ ap (λ (xs : List Asked). all_asked (part_actions h) ++ xs) none ∙ append-nil (all_asked (part_actions h));
       ticks = part_ticks first h c
           ∙ ap (λ (xs : List Asked). given ++ (ticks_left (part_plan h) ++ ticks_of_all xs)) none

@@ -102,101 +102,101 @@ one_unfinished false = omega arith
 abbrev j0 : State → PlannedMove → Segment → Journal
 j0 last m s = []
 
-c0 : (first last : State) (m : PlannedMove) (s : Segment) → IsOneJog first last m s → Conducted (first_opening first) (j0 last m s)
+c0 : (first last : State) (m : PlannedMove) (s : Segment) → IsOneJog first last m s → Conducted (first_opening most_blocks first) (j0 last m s)
 c0 first last m s p = opens first
 
 abbrev j1 : State → PlannedMove → Segment → Journal
 j1 last m s = turned Did ∷ at_port (answered Banner) ∷ j0 last m s
 
-c1 : (first last : State) (m : PlannedMove) (s : Segment) → IsOneJog first last m s → Conducted (first_opening first) (j1 last m s)
+c1 : (first last : State) (m : PlannedMove) (s : Segment) → IsOneJog first last m s → Conducted (first_opening most_blocks first) (j1 last m s)
 c1 first last m s p = (ends _ _ (λ w. untrue w.blocks) refl refl refl refl refl refl, (record { next = refl; plain = refl; unowed = refl; empty = λ e. absurd cc; unlocked = refl }, c0 first last m s p))
 
 abbrev j2 : State → PlannedMove → Segment → Journal
 j2 last m s = line_taken (36 ∷ 74 ∷ 61 ∷ 88 ∷ 46 ∷ 48 ∷ 48 ∷ 52 ∷ 70 ∷ 57 ∷ []) (j1 last m s)
 
-c2 : (first last : State) (m : PlannedMove) (s : Segment) → IsOneJog first last m s → Conducted (first_opening first) (j2 last m s)
-c2 first last m s p = may_take_line (first_opening first) (36 ∷ 74 ∷ 61 ∷ 88 ∷ 46 ∷ 48 ∷ 48 ∷ 52 ∷ 70 ∷ 57 ∷ []) (j1 last m s) (c1 first last m s p) refl (record { calm = refl; all_done = refl; partial = refl; unclosed = refl }) refl (under _ _ refl)
+c2 : (first last : State) (m : PlannedMove) (s : Segment) → IsOneJog first last m s → Conducted (first_opening most_blocks first) (j2 last m s)
+c2 first last m s p = may_take_line (first_opening most_blocks first) (36 ∷ 74 ∷ 61 ∷ 88 ∷ 46 ∷ 48 ∷ 48 ∷ 52 ∷ 70 ∷ 57 ∷ []) (j1 last m s) (c1 first last m s p) refl (record { calm = refl; all_done = refl; partial = refl; unclosed = refl }) refl (under _ _ refl)
 
 abbrev j3 : State → PlannedMove → Segment → Journal
 j3 last m s = words_taken no_changes nothing motions.Idle (j2 last m s)
 
-c3 : (first last : State) (m : PlannedMove) (s : Segment) → IsOneJog first last m s → Conducted (first_opening first) (j3 last m s)
-c3 first last m s p = may_take_words (first_opening first) no_changes nothing motions.Idle (j2 last m s) (c2 first last m s p) refl refl refl refl refl refl refl refl (λ e. inl refl)
+c3 : (first last : State) (m : PlannedMove) (s : Segment) → IsOneJog first last m s → Conducted (first_opening most_blocks first) (j3 last m s)
+c3 first last m s p = may_take_words (first_opening most_blocks first) no_changes nothing motions.Idle (j2 last m s) (c2 first last m s p) refl refl refl refl refl refl refl refl (λ e. inl refl)
 
 abbrev j4 : State → PlannedMove → Segment → Journal
 j4 last m s = at_port (loaded 0) ∷ j3 last m s
 
-c4 : (first last : State) (m : PlannedMove) (s : Segment) → IsOneJog first last m s → Conducted (first_opening first) (j4 last m s)
+c4 : (first last : State) (m : PlannedMove) (s : Segment) → IsOneJog first last m s → Conducted (first_opening most_blocks first) (j4 last m s)
 c4 first last m s p = (record { later = omega arith; below = omega arith; few = omega arith }, c3 first last m s p)
 
 abbrev j5 : State → PlannedMove → Segment → Journal
 j5 last m s = began (jog m last) ∷ j4 last m s
 
-c5 : (first last : State) (m : PlannedMove) (s : Segment) → IsOneJog first last m s → Conducted (first_opening first) (j5 last m s)
+c5 : (first last : State) (m : PlannedMove) (s : Segment) → IsOneJog first last m s → Conducted (first_opening most_blocks first) (j5 last m s)
 c5 first last m s p = (record { calm = refl; free = refl; going = refl; whole = refl; becomes = p.becomes; begins = refl; flags = refl; obeyed = refl; unowed = refl; load = refl; idle = λ d. refl; starts = λ w. untrue w.blocks; tried = refl }, c4 first last m s p)
 
 abbrev j6 : State → PlannedMove → Segment → Journal
 j6 last m s = turned Did ∷ became (on_start true) motions.Jog ∷ did (Add m) [] ∷ j5 last m s
 
-c6 : (first last : State) (m : PlannedMove) (s : Segment) → IsOneJog first last m s → Conducted (first_opening first) (j6 last m s)
+c6 : (first last : State) (m : PlannedMove) (s : Segment) → IsOneJog first last m s → Conducted (first_opening most_blocks first) (j6 last m s)
 c6 first last m s p = (ends _ _ (λ w. elsewhere _ w.stands refl) refl refl refl refl refl refl, ((refl, record { goes = refl; blocks = refl; called = refl; jogs = refl }), ((refl, (p.add, refl)), c5 first last m s p)))
 
 abbrev pub j7 : State → PlannedMove → Segment → Journal
 j7 last m s = turned Did ∷ at_port (answered Ok) ∷ j6 last m s
 
-pub c7 : (first last : State) (m : PlannedMove) (s : Segment) → IsOneJog first last m s → Conducted (first_opening first) (j7 last m s)
+pub c7 : (first last : State) (m : PlannedMove) (s : Segment) → IsOneJog first last m s → Conducted (first_opening most_blocks first) (j7 last m s)
 c7 first last m s p = (ends _ _ (λ w. elsewhere _ w.stands refl) refl refl refl refl refl refl, (record { next = refl; plain = refl; unowed = refl; empty = λ e. absurd cc; unlocked = refl }, c6 first last m s p))
 
 abbrev j8 : State → PlannedMove → Segment → Journal
 j8 last m s = turned Did ∷ at_port (published (pieces.Segment s)) ∷ did (Take Go) (pieces.Segment s ∷ []) ∷ j7 last m s
 
-c8 : (first last : State) (m : PlannedMove) (s : Segment) → IsOneJog first last m s → Conducted (first_opening first) (j8 last m s)
+c8 : (first last : State) (m : PlannedMove) (s : Segment) → IsOneJog first last m s → Conducted (first_opening most_blocks first) (j8 last m s)
 c8 first last m s p = (ends _ _ (λ w. elsewhere _ w.stands refl) refl refl refl refl refl refl, ((refl, tt), ((record { goes = refl; empty = refl }, (p.taken, refl)), c7 first last m s p)))
 
 abbrev j9 : State → PlannedMove → Segment → Journal
 j9 last m s = at_port found_empty ∷ j8 last m s
 
-c9 : (first last : State) (m : PlannedMove) (s : Segment) → IsOneJog first last m s → Conducted (first_opening first) (j9 last m s)
+c9 : (first last : State) (m : PlannedMove) (s : Segment) → IsOneJog first last m s → Conducted (first_opening most_blocks first) (j9 last m s)
 c9 first last m s p = (record { calm = refl; all_done = refl; partial = refl; unclosed = refl }, c8 first last m s p)
 
 abbrev j10 : State → PlannedMove → Segment → Journal
 j10 last m s = became on_drained motions.Idle ∷ at_port (loaded (ticks_together (pieces.Segment s ∷ []))) ∷ j9 last m s
 
-c10 : (first last : State) (m : PlannedMove) (s : Segment) → IsOneJog first last m s → Conducted (first_opening first) (j10 last m s)
+c10 : (first last : State) (m : PlannedMove) (s : Segment) → IsOneJog first last m s → Conducted (first_opening most_blocks first) (j10 last m s)
 c10 first last m s p = ((refl, record { plan = p.rests; hand = refl; done = refl }), (record { later = omega arith; below = omega arith; few = one_unfinished _ }, c9 first last m s p))
 
 abbrev j11 : State → PlannedMove → Segment → Journal
 j11 last m s = turned (Wait on.Byte) ∷ j10 last m s
 
-c11 : (first last : State) (m : PlannedMove) (s : Segment) → IsOneJog first last m s → Conducted (first_opening first) (j11 last m s)
+c11 : (first last : State) (m : PlannedMove) (s : Segment) → IsOneJog first last m s → Conducted (first_opening most_blocks first) (j11 last m s)
 c11 first last m s p = (record { ends = ends _ _ (λ w. absurd (no_blocks m s p.rests w.blocks)) refl refl refl refl refl refl; cause = record { poll = refl; free = refl; partial = refl; unowed = refl }; still = refl; flags = refl; obeyed = refl; unowed = λ owed. absurd cc; round = λ due. absurd cc }, c10 first last m s p)
 
 abbrev j12 : State → PlannedMove → Segment → Journal
 j12 last m s = words_taken no_changes nothing motions.Idle (j11 last m s)
 
-c12 : (first last : State) (m : PlannedMove) (s : Segment) → IsOneJog first last m s → Conducted (first_opening first) (j12 last m s)
-c12 first last m s p = may_take_words (first_opening first) no_changes nothing motions.Idle (j11 last m s) (c11 first last m s p) refl refl refl refl refl refl refl refl (λ e. inl refl)
+c12 : (first last : State) (m : PlannedMove) (s : Segment) → IsOneJog first last m s → Conducted (first_opening most_blocks first) (j12 last m s)
+c12 first last m s p = may_take_words (first_opening most_blocks first) no_changes nothing motions.Idle (j11 last m s) (c11 first last m s p) refl refl refl refl refl refl refl refl (λ e. inl refl)
 
 abbrev j13 : State → PlannedMove → Segment → Journal
 j13 last m s = closing ∷ at_port found_closed ∷ j12 last m s
 
-c13 : (first last : State) (m : PlannedMove) (s : Segment) → IsOneJog first last m s → Conducted (first_opening first) (j13 last m s)
+c13 : (first last : State) (m : PlannedMove) (s : Segment) → IsOneJog first last m s → Conducted (first_opening most_blocks first) (j13 last m s)
 c13 first last m s p = (record { free = refl; going = refl; begun = refl; closed = inl refl }, (record { calm = refl; all_done = refl; partial = refl; unclosed = refl }, c12 first last m s p))
 
 abbrev j14 : State → PlannedMove → Segment → Journal
 j14 last m s = turned Did ∷ at_port (published pieces.End) ∷ made_end ∷ j13 last m s
 
-c14 : (first last : State) (m : PlannedMove) (s : Segment) → IsOneJog first last m s → Conducted (first_opening first) (j14 last m s)
+c14 : (first last : State) (m : PlannedMove) (s : Segment) → IsOneJog first last m s → Conducted (first_opening most_blocks first) (j14 last m s)
 c14 first last m s p = (ends _ _ (λ w. absurd (no_blocks m s p.rests w.blocks)) refl refl refl refl refl refl, ((refl, tt), (record { next = refl; drained = record { plan = p.rests; hand = refl; done = refl }; stands = refl; closes = λ e. absurd cc }, c13 first last m s p)))
 
 abbrev j15 : State → PlannedMove → Segment → Journal
 j15 last m s = turned Did ∷ at_port (answered Bye) ∷ j14 last m s
 
-c15 : (first last : State) (m : PlannedMove) (s : Segment) → IsOneJog first last m s → Conducted (first_opening first) (j15 last m s)
+c15 : (first last : State) (m : PlannedMove) (s : Segment) → IsOneJog first last m s → Conducted (first_opening most_blocks first) (j15 last m s)
 c15 first last m s p = (ends _ _ (λ w. absurd (no_blocks m s p.rests w.blocks)) refl refl refl refl refl refl, (record { next = refl; plain = refl; unowed = refl; empty = λ e. refl; unlocked = refl }, c14 first last m s p))
 
 abbrev j16 : State → PlannedMove → Segment → Journal
 j16 last m s = turned Done ∷ j15 last m s
 
-pub c16 : (first last : State) (m : PlannedMove) (s : Segment) → IsOneJog first last m s → Conducted (first_opening first) (j16 last m s)
+pub c16 : (first last : State) (m : PlannedMove) (s : Segment) → IsOneJog first last m s → Conducted (first_opening most_blocks first) (j16 last m s)
 c16 first last m s p = (record { finished = record { left = refl; closed = refl }; still = refl }, c15 first last m s p)

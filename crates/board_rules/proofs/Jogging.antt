@@ -28,7 +28,8 @@ use Rattle.board_rules.specs.Conduct.{Conducted, MayDo, MayHappen, MayOpen}
 use Rattle.board_rules.specs.Whole.{comes_to_rest}
 use Rattle.board_rules.proofs.Opening.{opens_still}
 use Rattle.board_rules.proofs.Beginning.{fate_now}
-use Rattle.board_rules.proofs.Dropping.{asks_dropped, moves_dropped, none_moves, none_rests}
+use Rattle.board_rules.proofs.Dropping.{asks_dropped, asks_behind, moves_dropped, none_moves, none_rests}
+use Rattle.board_rules.proofs.Truths.{either_right}
 
 -- ---- what is left of a jog's work
 
@@ -36,14 +37,9 @@ use Rattle.board_rules.proofs.Dropping.{asks_dropped, moves_dropped, none_moves,
 abbrev pub OneMove : List Task → Type 0
 OneMove ts = (asks ts ≡ []) ⊎ ((m : PlannedMove) × (ts ≡ ask (a_move m) ∷ drop 1 ts) × (asks (drop 1 ts) ≡ []))
 
-no_more : (ts : List Task) → asks ts ≡ [] → asks (drop 1 ts) ≡ []
-no_more [] none = refl
-no_more (ask a ∷ ts) none = absurd cc
-no_more (_ ∷ ts) none = none
-
 -- one task less: then it asks for none
 popped : (ts : List Task) → OneMove ts → OneMove (drop 1 ts)
-popped ts (inl none) = inl (no_more ts none)
+popped ts (inl none) = inl (asks_behind ts none)
 popped ts (inr (m, next, none)) = inl none
 
 jog_work : (ts : List Task) → IsJogWork ts → OneMove ts
@@ -110,14 +106,10 @@ other_motion motions.Held jogged was some held rule = held refl
 other_motion motions.Alarm jogged was some held rule = tt
 other_motion _ jogged was some held rule = rule
 
-some_true : (blocks moves : Bool) → moves ≡ true → (blocks || moves) ≡ true
-some_true true moves is = refl
-some_true false moves is = is
-
 tail_some : (blocks : Bool) (ts : List Task) → (blocks || has_moves (drop 1 ts)) ≡ true → (blocks || has_moves ts) ≡ true
 tail_some true ts is = refl
 tail_some false [] is = is
-tail_some false (t ∷ ts) is = some_true (asks_move t) (has_moves ts) is
+tail_some false (t ∷ ts) is = either_right (asks_move t) (has_moves ts) is
 
 blocks_alone : (blocks moves : Bool) → (blocks || false) ≡ true → (blocks || moves) ≡ true
 blocks_alone true moves is = refl
@@ -213,7 +205,7 @@ paused_rule false ts bs one next none = refl
 paused_rule true ts bs one next none = by_work (one refl)
   where
     by_work : OneMove ts → (has_blocks bs || has_moves (drop 1 ts)) ≡ false
-    by_work (inl still) = ap (λ (b : Bool). b || has_moves (drop 1 ts)) (ap has_blocks none) ∙ none_moves (drop 1 ts) (no_more ts still)
+    by_work (inl still) = ap (λ (b : Bool). b || has_moves (drop 1 ts)) (ap has_blocks none) ∙ none_moves (drop 1 ts) (asks_behind ts still)
     by_work (inr (m, is, still)) = ap (λ (b : Bool). b || has_moves (drop 1 ts)) (ap has_blocks none) ∙ none_moves (drop 1 ts) still
 
 opens_rule : (first : Opening) → MayOpen first → (m : Motion) → first.motion ≡ m → JogRule m false (has_some first [])

@@ -22,7 +22,7 @@ use Rattle.step_line.specs.Asking.Asked.{a_move, a_mark, a_rest}
 use Rattle.planner_runs.specs.declared.Action.{Action}
 use Rattle.planner_runs.specs.declared.Action.TheVariants.{Add, Take, Override, Mark, Rest, Clear, Reset}
 use Rattle.plan_rules.specs.Plans.{Planned}
-use Rattle.planner_runs.specs.Runs.{IsPlannerRun, Plans, NeedsNoOther, DisturbedOnlyBy, NeverClears, IsNoReset, NeverResets, normal_overrides, fresh_plan, cleared, most_blocks}
+use Rattle.planner_runs.specs.Runs.{IsPlannerRun, Plans, NeedsNoOther, DisturbedOnlyBy, NeverClears, IsNoReset, NeverResets, normal_overrides, fresh_plan, cleared}
 use Rattle.planner_runs.proofs.Runs.{goes_on, grows_by_override, grows_by_clear, disturbed_on, disturbed_more, disturbed_keeps, resets_on}
 use Rattle.plan_rules.specs.declared.Mode.TheVariants.{Go, Hold}
 use Rattle.board_rules.specs.Openings.{Opening}
@@ -41,27 +41,20 @@ use Rattle.board_rules.specs.Conduct.{Conducted, MayDo, MayHappen, AreChanged}
 use Rattle.board_rules.proofs.Dropping.{tells_kept}
 use Rattle.board_rules.proofs.Motions.{SlowsFor, slows_for}
 use Rattle.board_rules.proofs.Plain.{plain_push, report_push}
+use Rattle.board_rules.proofs.Truths.{either_left, either_right}
 
 -- ---- what disturbs the plan
 
-or_left : (a b : Bool) → a ≡ true → (a || b) ≡ true
-or_left true b e = refl
-or_left false b e = absurd cc
-
-or_right : (a b : Bool) → b ≡ true → (a || b) ≡ true
-or_right true b e = refl
-or_right false b e = e
-
 pub held_before : (e : PortStep) (held : Bool) → held ≡ true → holds_at e held ≡ true
-held_before (took_exec word) held is = or_right (motions.asks word motions.hold_byte) held is
+held_before (took_exec word) held is = either_right (motions.asks word motions.hold_byte) held is
 held_before _ held is = is
 
 cancelled_before : (e : PortStep) (cancelled : Bool) → cancelled ≡ true → cancels_at e cancelled ≡ true
-cancelled_before (took_exec word) cancelled is = or_right (motions.asks word motions.cancel_byte) cancelled is
+cancelled_before (took_exec word) cancelled is = either_right (motions.asks word motions.cancel_byte) cancelled is
 cancelled_before _ cancelled is = is
 
 pub changed_before : (e : PortStep) (changed : Bool) → changed ≡ true → changes_at e changed ≡ true
-changed_before (took_ovr word) changed is = or_right (has_changes word) changed is
+changed_before (took_ovr word) changed is = either_right (has_changes word) changed is
 changed_before _ changed is = is
 
 abbrev asks_hold : Exec → Bool
@@ -72,16 +65,16 @@ asks_cancel word = motions.asks word motions.cancel_byte
 
 drop_any : (p : Exec → Bool) (words : List Exec) → list_any p (drop 1 words) ≡ true → list_any p words ≡ true
 drop_any p [] is = is
-drop_any p (w ∷ words) is = or_right (p w) (list_any p words) is
+drop_any p (w ∷ words) is = either_right (p w) (list_any p words) is
 
 -- of a word that is taken, or of one before
 one_more : (before held asked : Bool) → (before ≡ true → held ≡ true) → (before || (asked || false)) ≡ true → (asked || held) ≡ true
-one_more true held asked was is = or_right asked held (was refl)
+one_more true held asked was is = either_right asked held (was refl)
 one_more false held true was is = refl
 one_more false held false was is = absurd cc
 
 one_taken : (p : Exec → Bool) (reset : Bool) (words : List Exec) (held : Bool) (word : Exec) → (list_any p words ≡ true → held ≡ true) → list_any p (cond reset words (words ++ word ∷ [])) ≡ true → (p word || held) ≡ true
-one_taken p true words held word was is = or_right (p word) held (was is)
+one_taken p true words held word was is = either_right (p word) held (was is)
 one_taken p false words held word was is = one_more (list_any p words) held (p word) was (sym (list_any-append p words (word ∷ [])) ∙ is)
 
 -- a word that is not obeyed yet was taken
@@ -102,7 +95,7 @@ uncancelled_taken (_ ∷ h) is = uncancelled_taken h is
 pub by_call : (first : Opening) (h : Journal) (call : Call) → MayHappen first call h → motions.IsBy motions.hold_byte call → has_held_in (port_log h) ≡ true
 by_call first h call may (word, queued, is, asked) =
     let obeys : MayHappen first (on_exec word queued) h = subst (λ (x : Call). MayHappen first x h) is may in
-    unobeyed_taken h (ap (list_any asks_hold) obeys.next ∙ or_left (motions.asks word motions.hold_byte) false asked)
+    unobeyed_taken h (ap (list_any asks_hold) obeys.next ∙ either_left (motions.asks word motions.hold_byte) false asked)
 
 by_motion : (first : Opening) (h : Journal) (call : Call) (m : Motion) → MayHappen first call h → StaysOrReaches m call (motion_of first h) → m ≡ Holding
     → (motion_of first h ≡ Holding → has_held_in (port_log h) ≡ true) → has_held_in (port_log h) ≡ true
@@ -119,20 +112,20 @@ held_by_word first (_ ∷ h) c is = held_by_word first h c.1 is
 
 -- overrides are changed by a word, or set to 100 percent
 changed_by_word : (h : Journal) (o : Overrides) → AreChanged o h → has_changed_in (port_log h) ≡ true
-changed_by_word h o are = ap has_changed_in are.last ∙ or_left (has_changes are.word) (has_changed_in are.earlier) are.some
+changed_by_word h o are = ap has_changed_in are.last ∙ either_left (has_changes are.word) (has_changed_in are.earlier) are.some
 
 -- of two reasons either may be one more
 either_more : (a b c d : Bool) → (a ≡ true → c ≡ true) → (b ≡ true → d ≡ true) → (a || b) ≡ true → (c || d) ≡ true
-either_more true b c d ac bd e = or_left c d (ac refl)
-either_more false b c d ac bd e = or_right c d (bd e)
+either_more true b c d ac bd e = either_left c d (ac refl)
+either_more false b c d ac bd e = either_right c d (bd e)
 
 -- a jog is cancelled only by a word that asks for a hold or a cancel
 cancelled_call : (first : Opening) (h : Journal) (call : Call) → MayHappen first call h → motions.IsBy motions.hold_byte call ⊎ motions.IsBy motions.cancel_byte call → has_slowed_in (port_log h) ≡ true
-cancelled_call first h call may (inl by) = or_left (has_held_in (port_log h)) (has_cancelled_in (port_log h)) (by_call first h call may by)
+cancelled_call first h call may (inl by) = either_left (has_held_in (port_log h)) (has_cancelled_in (port_log h)) (by_call first h call may by)
 cancelled_call first h call may (inr (word, queued, is, asked)) =
     let obeys : MayHappen first (on_exec word queued) h = subst (λ (x : Call). MayHappen first x h) is may in
-    or_right (has_held_in (port_log h)) (has_cancelled_in (port_log h))
-    (uncancelled_taken h (ap (list_any asks_cancel) obeys.next ∙ or_left (motions.asks word motions.cancel_byte) false asked))
+    either_right (has_held_in (port_log h)) (has_cancelled_in (port_log h))
+    (uncancelled_taken h (ap (list_any asks_cancel) obeys.next ∙ either_left (motions.asks word motions.cancel_byte) false asked))
 
 cancelled_motion : (first : Opening) (h : Journal) (call : Call) (m : Motion) → MayHappen first call h → StaysOrReaches m call (motion_of first h) → m ≡ Cancelling
     → (motion_of first h ≡ Cancelling → has_slowed_in (port_log h) ≡ true) → has_slowed_in (port_log h) ≡ true
@@ -154,9 +147,9 @@ abbrev pub slows : Journal → Bool
 slows h = has_slowed_in (port_log h) || has_limited h
 
 slowed_by : (first : Opening) (h : Journal) → Conducted first h → SlowsFor first h → slows h ≡ true
-slowed_by first h c (inl held) = or_left (has_slowed_in (port_log h)) (has_limited h) (or_left (has_held_in (port_log h)) (has_cancelled_in (port_log h)) (held_by_word first h c held))
-slowed_by first h c (inr (inl cancelled)) = or_left (has_slowed_in (port_log h)) (has_limited h) (cancelled_by_word first h c cancelled)
-slowed_by first h c (inr (inr (stops, one))) = or_right (has_slowed_in (port_log h)) (has_limited h) one
+slowed_by first h c (inl held) = either_left (has_slowed_in (port_log h)) (has_limited h) (either_left (has_held_in (port_log h)) (has_cancelled_in (port_log h)) (held_by_word first h c held))
+slowed_by first h c (inr (inl cancelled)) = either_left (has_slowed_in (port_log h)) (has_limited h) (cancelled_by_word first h c cancelled)
+slowed_by first h c (inr (inr (stops, one))) = either_right (has_slowed_in (port_log h)) (has_limited h) one
 
 -- before an alarm by a word alone
 pub by_word_alone : (slowed alarmed : Bool) → alarmed ≡ false → (slowed || alarmed) ≡ true → slowed ≡ true
@@ -237,23 +230,23 @@ never_resets first (halted ∷ h) c = resets_on (actions_of h) (Clear ∷ []) (n
 never_resets first (_ ∷ h) c = never_resets first h c.1
 
 -- a plan that stands still is cleared, and the cut is marked
-cut_gives : (p : Planned) (k : ℕ) → p.speed ≡ 0 → IsMark (marks.Cut k) → Plans most_blocks p (Clear ∷ Mark (marks.Cut k) ∷ []) (pieces.Mark (marks.Cut k) ∷ []) (cleared p)
-cut_gives p k still mark = (still, (refl, mark, record { blocks = refl; speed = refl }, refl))
+cut_gives : (most : ℕ) (p : Planned) (k : ℕ) → p.speed ≡ 0 → IsMark (marks.Cut k) → Plans most p (Clear ∷ Mark (marks.Cut k) ∷ []) (pieces.Mark (marks.Cut k) ∷ []) (cleared p)
+cut_gives most p k still mark = (still, (refl, mark, record { blocks = refl; speed = refl }, refl))
 
 -- a run goes on
-pub run_is : (first : Opening) (h : Journal) → Conducted first h → IsPlannerRun (actions_of h) (planned_of h) (plan_of h)
+pub run_is : (first : Opening) (h : Journal) → Conducted first h → IsPlannerRun first.blocks (actions_of h) (planned_of h) (plan_of h)
 run_is first [] c = refl
 run_is first (did a ps ∷ h) c =
-    goes_on most_blocks fresh_plan (plan_of h) (plan_after a ps (plan_of h)) (actions_of h) (a ∷ []) (planned_of h) ps
+    goes_on first.blocks fresh_plan (plan_of h) (plan_after a ps (plan_of h)) (actions_of h) (a ∷ []) (planned_of h) ps
     (never_resets first h c.1) (run_is first h c.1) c.0.1
 run_is first (evened ∷ h) c =
-    grows_by_override most_blocks fresh_plan (plan_of h) (actions_of h) (planned_of h) normal_overrides
+    grows_by_override first.blocks fresh_plan (plan_of h) (actions_of h) (planned_of h) normal_overrides
     (never_resets first h c.1) (run_is first h c.1) c.0.replans.0
 run_is first (halted ∷ h) c =
-    grows_by_clear most_blocks fresh_plan (plan_of h) (actions_of h) (planned_of h) (never_resets first h c.1) (run_is first h c.1) c.0.still
+    grows_by_clear first.blocks fresh_plan (plan_of h) (actions_of h) (planned_of h) (never_resets first h c.1) (run_is first h c.1) c.0.still
 run_is first (cut k ∷ h) c =
-    goes_on most_blocks fresh_plan (plan_of h) (cleared (plan_of h)) (actions_of h) (Clear ∷ Mark (marks.Cut k) ∷ []) (planned_of h) (pieces.Mark (marks.Cut k) ∷ [])
-    (never_resets first h c.1) (run_is first h c.1) (cut_gives (plan_of h) k c.0.stopped.slowed.speed c.0.mark)
+    goes_on first.blocks fresh_plan (plan_of h) (cleared (plan_of h)) (actions_of h) (Clear ∷ Mark (marks.Cut k) ∷ []) (planned_of h) (pieces.Mark (marks.Cut k) ∷ [])
+    (never_resets first h c.1) (run_is first h c.1) (cut_gives first.blocks (plan_of h) k c.0.stopped.slowed.speed c.0.mark)
 run_is first (_ ∷ h) c = run_is first h c.1
 
 -- a word that did not come before did not come earlier

@@ -17,6 +17,7 @@ use Rattle.board_rules.specs.Conduct.{Conducted, IsNextTask}
 use Rattle.board_rules.proofs.Closing.{At, going, to_finish, to_tell, over, phase_is}
 use Rattle.board_rules.proofs.Tasks.{none_next, head_is, rest_is, none_closed}
 use Rattle.run_rules.proofs.Items.{PassesTasks, holds_of_lines}
+use Rattle.board_rules.proofs.Truths.{both_left, both_right}
 
 -- ---- tasks that end with a reply
 
@@ -39,14 +40,6 @@ record EndsTold (ts : List Task) : Type 0 where
 both : (a b : Bool) → a ≡ true → b ≡ true → (a && b) ≡ true
 both true b ea eb = eb
 both false b ea eb = absurd cc
-
-left_true : (a b : Bool) → (a && b) ≡ true → a ≡ true
-left_true true b e = refl
-left_true false b e = absurd cc
-
-right_true : (a b : Bool) → (a && b) ≡ true → b ≡ true
-right_true true b e = e
-right_true false b e = absurd cc
 
 asked_first : (a : Asked) (ts : List Task) → EndsTold ts → EndsTold (ask a ∷ ts)
 asked_first a ts e = record { some = refl; told = both (some_left ts) (ends_told ts) e.some e.told }
@@ -71,7 +64,7 @@ told_behind : (ts : List Task) → ends_told ts ≡ true → ends_told (drop 1 t
 told_behind [] e = refl
 told_behind (tell r ∷ ts) e = e
 told_behind (finish ∷ ts) e = absurd cc
-told_behind (_ ∷ ts) e = right_true (some_left ts) (ends_told ts) e
+told_behind (_ ∷ ts) e = both_right (some_left ts) (ends_told ts) e
 
 by_action : (a : Action) (ts : List Task) → ends_told ts ≡ true → ends_told (left_by a ts) ≡ true
 by_action (Add m) ts e = told_behind ts e
@@ -82,17 +75,17 @@ by_action _ ts e = e
 -- a cut drops no reply
 some_kept : (ts : List Task) → ends_told ts ≡ true → some_left ts ≡ true → some_left (without_asks ts) ≡ true
 some_kept [] e some = absurd cc
-some_kept (ask a ∷ ts) e some = some_kept ts (right_true (some_left ts) (ends_told ts) e) (left_true (some_left ts) (ends_told ts) e)
+some_kept (ask a ∷ ts) e some = some_kept ts (both_right (some_left ts) (ends_told ts) e) (both_left (some_left ts) (ends_told ts) e)
 some_kept (_ ∷ ts) e some = refl
 
 told_kept : (ts : List Task) → ends_told ts ≡ true → ends_told (without_asks ts) ≡ true
 told_kept [] e = refl
-told_kept (ask a ∷ ts) e = told_kept ts (right_true (some_left ts) (ends_told ts) e)
+told_kept (ask a ∷ ts) e = told_kept ts (both_right (some_left ts) (ends_told ts) e)
 told_kept (tell r ∷ ts) e = told_kept ts e
 told_kept (finish ∷ ts) e = absurd cc
 told_kept (_ ∷ ts) e =
-    let told = right_true (some_left ts) (ends_told ts) e in
-    both (some_left (without_asks ts)) (ends_told (without_asks ts)) (some_kept ts told (left_true (some_left ts) (ends_told ts) e)) (told_kept ts told)
+    let told = both_right (some_left ts) (ends_told ts) e in
+    both (some_left (without_asks ts)) (ends_told (without_asks ts)) (some_kept ts told (both_left (some_left ts) (ends_told ts) e)) (told_kept ts told)
 
 told_alone : (rs : List Reply) → ends_told (telling rs) ≡ true
 told_alone [] = refl
@@ -121,7 +114,7 @@ is_for_machine _ = true
 some_there : (t : Task) (ts : List Task) → is_for_machine t ≡ true → ends_told (t ∷ ts) ≡ true → some_left ts ≡ true
 some_there (tell r) ts is told = absurd cc
 some_there finish ts is told = absurd cc
-some_there _ ts is told = left_true (some_left ts) (ends_told ts) told
+some_there _ ts is told = both_left (some_left ts) (ends_told ts) told
 
 some_behind : (ts : List Task) (t : Task) → is_for_machine t ≡ true → ts ≡ t ∷ drop 1 ts → ends_told ts ≡ true → drop 1 ts ≡ [] → ⊥
 some_behind ts t is next told none =

@@ -1,3 +1,4 @@
+pub mod Truths
 pub mod Opening
 pub mod Locking
 pub mod DroppedJogs
@@ -24,7 +25,6 @@ pub mod Greeting
 pub mod Greeted
 pub mod Closing
 pub mod Ending
-pub mod Breaking
 pub mod Quieting
 pub mod Resting
 pub mod Works

@@ -25,7 +25,7 @@ use Rattle.plan_rules.specs.Plans.{Planned}
 use Rattle.plan_rules.specs.Segments.{advanced}
 use Rattle.planner_runs.specs.declared.Action.{Action}
 use Rattle.planner_runs.specs.declared.Action.TheVariants.{Add, Take, Override, Mark, Rest, Clear, Reset}
-use Rattle.planner_runs.specs.Runs.{Plans, with_move, cleared, most_blocks, all_asked, ticks_left}
+use Rattle.planner_runs.specs.Runs.{Plans, with_move, cleared, all_asked, ticks_left}
 use Rattle.planner_runs.proofs.Ticks.{ticks_from_start}
 use Rattle.run_rules.specs.Work.{Outcome, asks, tells}
 use Rattle.run_rules.specs.Told.{asked_in, replies_after}
@@ -143,20 +143,20 @@ weight_in : (xs ys : List Outcome) → weight (asked_in (xs ++ ys)) ≡ weight (
 weight_in xs ys = ap weight (flat_map-append (λ (o : Outcome). asks o.work) xs ys) ∙ weight_on (asked_in xs) (asked_in ys)
 
 -- what a part gives is of what was done in it, which is of what its lines ask for
-part_given_few : (p : Part) → IsCutPart p → ticks_together p.given ≤ weight (asked_in p.outcomes)
-part_given_few p is =
-    let few = few_ticks (all_asked p.actions) (moves_planned most_blocks p.start p.plan p.actions p.given is.run) in
+part_given_few : (most : ℕ) (p : Part) → IsCutPart most p → ticks_together p.given ≤ weight (asked_in p.outcomes)
+part_given_few most p is =
+    let few = few_ticks (all_asked p.actions) (moves_planned most p.start p.plan p.actions p.given is.run) in
     let ticks = ap (λ (rs : List Record). length rs) is.ticks ∙ length-append (flat_map ticks_of p.given) (ticks_left p.plan ++ ticks_of_all p.dropped) in
     let more = length-append (ticks_left p.plan) (ticks_of_all p.dropped) in
     let split = ap (λ (a : List Asked). length (ticks_of_all a)) is.asks ∙ ap (λ (rs : List Record). length rs) (flat_map-append ticks_of_one (all_asked p.actions) p.dropped) ∙ length-append (ticks_of_all (all_asked p.actions)) (ticks_of_all p.dropped) in
     let asked = ap weight is.asks ∙ weight_on (all_asked p.actions) p.dropped in
     omega (arith, few, ticks, more, split, asked)
 
-parts_given_few : (ps : List Part) → AllByRecursion IsCutPart ps → ticks_together (pieces_in ps) ≤ weight (asked_in (lines_in ps)) + length ps
-parts_given_few [] all = omega arith
-parts_given_few (p ∷ ps) all =
-    let rest = parts_given_few ps all.1 in
-    let one = part_given_few p all.0 in
+parts_given_few : (most : ℕ) (ps : List Part) → AllByRecursion (λ p. IsCutPart most p) ps → ticks_together (pieces_in ps) ≤ weight (asked_in (lines_in ps)) + length ps
+parts_given_few most [] all = omega arith
+parts_given_few most (p ∷ ps) all =
+    let rest = parts_given_few most ps all.1 in
+    let one = part_given_few most p all.0 in
     let lines = weight_in (lines_in ps) p.outcomes in
     let a = together_both (pieces_in ps) (p.given ++ pieces.Mark (marks.Cut p.number) ∷ []) in
     let b = together_both p.given (pieces.Mark (marks.Cut p.number) ∷ []) in
@@ -169,12 +169,12 @@ parts_few before (p ∷ ps) n = let e = parts_few before ps n.2 in let f = n.1 i
 pub given_by_lines : (first : Opening) (h : Journal) → Conducted first h → ticks_given h ≤ 400000006 * length (outcomes_of h)
 given_by_lines first h c =
     let part = open_part first h c in
-    let few = few_ticks (all_asked (part_actions h)) (moves_planned most_blocks (part_start h) (part_plan h) (part_actions h) (part_given h) part.run) in
-    let ticks = ap (λ (rs : List Record). length rs) (ticks_from_start most_blocks (part_start h) (part_plan h) (part_actions h) (part_given h) part.starts (never_clears first h c) part.run) in
+    let few = few_ticks (all_asked (part_actions h)) (moves_planned first.blocks (part_start h) (part_plan h) (part_actions h) (part_given h) part.run) in
+    let ticks = ap (λ (rs : List Record). length rs) (ticks_from_start first.blocks (part_start h) (part_plan h) (part_actions h) (part_given h) part.starts (never_clears first h c) part.run) in
     let split = length-append (flat_map ticks_of (part_given h)) (ticks_left (part_plan h)) in
     let asked = ap weight (asked_is first h c) in
     let parts = weight_on (all_asked (part_actions h)) (asks (left_of first h)) in
-    let closed = parts_given_few (parts_of first h) (parts_are first h c) in
+    let closed = parts_given_few first.blocks (parts_of first h) (parts_are first h c) in
     let cuts = parts_few first.lines (parts_of first h) (numbers_are first h c) in
     let count = count_is first h c in
     let given = given_sum first h c in

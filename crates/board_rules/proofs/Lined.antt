@@ -11,7 +11,7 @@ use Rattle.run_rules.specs.Locking.{unlocked}
 use Rattle.run_rules.specs.Outcomes.{Before, Becomes}
 use Rattle.run_rules.specs.Told.{limits_in}
 use Rattle.run_rules.specs.Work.{Outcome, is_limit, tells}
-use Rattle.run_rules.proofs.Answering.{AnswersOrHalts, answers_or_halts, told_once, one_counted, one_each, NoByes, no_byes_on, begun_no_bye, begun_greets_none}
+use Rattle.run_rules.proofs.Answering.{AnswersOrHalts, answers_or_halts, told_once, one_counted, one_each, begun_greets_none}
 use Rattle.units.specs.Truths.{one_if}
 use Rattle.board_rules.specs.Openings.{Opening}
 use Rattle.board_rules.specs.Steps.{Journal, has_limited, open_of, lines_of, outcomes_of, before_of}
@@ -66,10 +66,6 @@ all_answered (o ∷ os) all =
     let n = one_counted is_answer (λ r e. e) all.0.0 o all.0.1 in
     let r = one_each all.0.0 o all.0.1 in
     omega arith
-
-pub all_no_bye : (os : List Outcome) → AllByRecursion AnswersWell os → NoByes (flat_map (λ (o : Outcome). tells o.work) os)
-all_no_bye [] all = tt
-all_no_bye (o ∷ os) all = no_byes_on (tells o.work) (flat_map (λ (x : Outcome). tells x.work) os) (begun_no_bye all.0.0 o all.0.1) (all_no_bye os all.1)
 
 pub all_greet_none : (os : List Outcome) → AllByRecursion AnswersWell os → count_by is_banner (flat_map (λ (o : Outcome). tells o.work) os) ≡ 0
 all_greet_none [] all = refl

@@ -16,6 +16,7 @@ use Rattle.board_rules.specs.Steps.{Journal, lines_of, open_of, motion_of}
 use Rattle.board_rules.specs.Steps.Step.{began, paused, became}
 use Rattle.board_rules.specs.Turns.{is_limited, stands_still, is_locked, begins_in, machine_in}
 use Rattle.board_rules.specs.Conduct.{Conducted, MayHappen}
+use Rattle.board_rules.proofs.Truths.{both_left}
 
 pub other_was : {A : Type 0} (was m : Motion) → was ≡ motions.Alarm → was ≡ m → is_limited m ≡ false → A
 other_was was m alarm is none = absurd (let e = sym (ap is_limited alarm) ∙ ap is_limited is ∙ none in cc)
@@ -55,15 +56,11 @@ opens_alarm motions.Alarm stands is = refl
 opens_alarm motions.Idle stands is = absurd cc
 opens_alarm m stands is = absurd cc
 
-both_true : (a b : Bool) → (a && b) ≡ true → a ≡ true
-both_true true b is = refl
-both_true false b is = absurd cc
-
 no_unlock : (first : Opening) (h : Journal) (call : Call) → MayHappen first call h → is_locked first h ≡ true → call ≡ on_unlock → ⊥
 no_unlock first h call may locked is = let unlocks : MayHappen first on_unlock h = subst (λ (x : Call). MayHappen first x h) is may in absurd (let e = sym locked ∙ unlocks.unlocked in cc)
 
 pub locked_stands : (first : Opening) (h : Journal) → Conducted first h → is_locked first h ≡ true → motion_of first h ≡ motions.Alarm
-locked_stands first [] c locked = opens_alarm first.motion c.stands (both_true (is_limited first.motion) _ locked)
+locked_stands first [] c locked = opens_alarm first.motion c.stands (both_left (is_limited first.motion) _ locked)
 locked_stands first (began o ∷ h) c locked = locked_stands first h c.1 (locked_before (is_limited first.motion) (lines_of h) (open_of h) locked)
 locked_stands first (paused ∷ h) c locked = absurd (let e = sym (ap (after on_pause) (locked_stands first h c.1 locked)) ∙ c.0.held in cc)
 locked_stands first (became call m ∷ h) c locked =

@@ -127,7 +127,7 @@ on_halt : (left : List Task) (plan : Planned) → left ≡ halt ∷ drop 1 left 
 on_halt left plan next (inl rest) = inl (subst (λ (ts : List Task). MarksRest false ts) next rest)
 on_halt left plan next (inr (stands, rest)) = inr (record { blocks = refl; speed = refl }, subst (λ (ts : List Task). MarksRest true ts) next rest)
 
-on_did : (first : Opening) (h : Journal) (a : Action) (ps : List Piece) → MayDo first a h → Gives a ps (plan_of h) → Marked (left_of first h) (plan_of h)
+on_did : (first : Opening) (h : Journal) (a : Action) (ps : List Piece) → MayDo first a h → Gives first.blocks a ps (plan_of h) → Marked (left_of first h) (plan_of h)
     → Marked (left_by a (left_of first h)) (plan_after a ps (plan_of h))
 on_did first h (Add m) ps may gives (inl rest) = inl (subst (λ (ts : List Task). MarksRest false ts) may rest)
 on_did first h (Add m) ps may gives (inr (stands, rest)) = inl (subst (λ (ts : List Task). MarksRest true ts) may rest)
@@ -138,9 +138,9 @@ on_did first h (Mark m) ps may gives (inr (stands, rest)) =
 on_did first h Rest ps may gives (inl rest) = inr (may.drained.plan, subst (λ (ts : List Task). MarksRest false ts) may.next rest)
 on_did first h Rest ps may gives (inr (stands, rest)) = inr (may.drained.plan, subst (λ (ts : List Task). MarksRest true ts) may.next rest)
 on_did first h (Take Go) ps may gives (inl rest) = inl rest
-on_did first h (Take Go) ps may gives (inr (stands, rest)) = absurd (none_taken (plan_of h) Go ps (plan_after (Take Go) ps (plan_of h)) stands.blocks gives)
+on_did first h (Take Go) ps may gives (inr (stands, rest)) = absurd (none_taken first.blocks (plan_of h) Go ps (plan_after (Take Go) ps (plan_of h)) stands.blocks gives)
 on_did first h (Take Hold) ps may gives (inl rest) = inl rest
-on_did first h (Take Hold) ps may gives (inr (stands, rest)) = absurd (none_taken (plan_of h) Hold ps (plan_after (Take Hold) ps (plan_of h)) stands.blocks gives)
+on_did first h (Take Hold) ps may gives (inr (stands, rest)) = absurd (none_taken first.blocks (plan_of h) Hold ps (plan_after (Take Hold) ps (plan_of h)) stands.blocks gives)
 on_did first h (Override o) ps may gives m = with_overrides (left_of first h) (plan_of h) o m
 on_did first h Clear ps may gives m = absurd may
 on_did first h Reset ps may gives m = absurd may

@@ -12,7 +12,7 @@ use Rattle.line_geom.specs.declared.Block.{Block}
 use Rattle.planner_runs.specs.declared.Action.{Action}
 use Rattle.planner_runs.specs.declared.Action.TheVariants.{Add, Take, Override, Mark, Rest, Clear, Reset}
 use Rattle.plan_rules.specs.Plans.{Planned}
-use Rattle.planner_runs.specs.Runs.{Plans, most_blocks, normal_overrides, ticks_left}
+use Rattle.planner_runs.specs.Runs.{Plans, normal_overrides, ticks_left}
 use Rattle.planner_runs.proofs.Legal.{cut_heads_are_legal}
 use Rattle.board_rules.specs.Openings.{Opening}
 use Rattle.run_rules.specs.Outcomes.{Passed}
@@ -37,7 +37,7 @@ use Rattle.board_rules.proofs.DroppedJogs.{drops_last}
 use Rattle.board_rules.proofs.Opening.{asks_telling, opens_still}
 use Rattle.board_rules.proofs.Alarms.{calm_plan}
 use Rattle.board_rules.proofs.Closing.{one_end}
-use Rattle.board_rules.proofs.Dropping.{asks_dropped}
+use Rattle.board_rules.proofs.Dropping.{asks_dropped, asks_behind}
 use Rattle.board_rules.proofs.Jogging.{cancel_is_jog}
 use Rattle.board_rules.proofs.Keeping.{never_clears}
 use Rattle.board_rules.proofs.Losing.{jogs_alone}
@@ -56,33 +56,28 @@ not_empty : (os : List Outcome) (o : Outcome) → os ++ o ∷ [] ≡ [] → ⊥
 not_empty [] o e = absurd cc
 not_empty (p ∷ os) o e = absurd cc
 
-none_more : (ts : List Task) → asks ts ≡ [] → asks (drop 1 ts) ≡ []
-none_more [] none = refl
-none_more (ask a ∷ ts) none = absurd cc
-none_more (_ ∷ ts) none = none
-
 no_ask : {A : Type 0} (ts : List Task) (a : Asked) → ts ≡ ask a ∷ drop 1 ts → asks ts ≡ [] → A
 no_ask ts a next none = absurd (let f = sym (ap (λ (ts : List Task). asks ts) next) ∙ none in cc)
 
-unbegun_did : (first : Opening) (h : Journal) (a : Action) (ps : List Piece) → MayDo first a h → Gives a ps (plan_of h) → IsUnbegun first h → IsUnbegun first (did a ps ∷ h)
+unbegun_did : (first : Opening) (h : Journal) (a : Action) (ps : List Piece) → MayDo first a h → Gives first.blocks a ps (plan_of h) → IsUnbegun first h → IsUnbegun first (did a ps ∷ h)
 unbegun_did first h (Add m) ps may run u = no_ask (left_of first h) (a_move m) may u.asks
 unbegun_did first h (Mark m) ps may run u = no_ask (left_of first h) (a_mark m) may.next u.asks
 unbegun_did first h Rest ps may run u = no_ask (left_of first h) a_rest may.next u.asks
-unbegun_did first h (Take mode) ps may run u = absurd (none_taken (plan_of h) mode ps (plan_after (Take mode) ps (plan_of h)) u.blocks run)
+unbegun_did first h (Take mode) ps may run u = absurd (none_taken first.blocks (plan_of h) mode ps (plan_after (Take mode) ps (plan_of h)) u.blocks run)
 unbegun_did first h (Override o) ps may run u = record { blocks = u.blocks; asks = u.asks }
 unbegun_did first h Clear ps may run u = absurd may
 unbegun_did first h Reset ps may run u = absurd may
 
 unbegun : (first : Opening) (h : Journal) → Conducted first h → part_outcomes h ≡ [] → IsUnbegun first h
 unbegun first [] c e = record { blocks = refl; asks = asks_telling first.tells }
-unbegun first (at_port (answered r) ∷ h) c e = let u = unbegun first h c.1 e in record { blocks = u.blocks; asks = none_more (left_of first h) u.asks }
+unbegun first (at_port (answered r) ∷ h) c e = let u = unbegun first h c.1 e in record { blocks = u.blocks; asks = asks_behind (left_of first h) u.asks }
 unbegun first (began o ∷ h) c e = absurd (not_empty (part_outcomes h) o e)
 unbegun first (did a ps ∷ h) c e = unbegun_did first h a ps c.0.0 c.0.1 (unbegun first h c.1 e)
-unbegun first (made_end ∷ h) c e = let u = unbegun first h c.1 e in record { blocks = u.blocks; asks = none_more (left_of first h) u.asks }
-unbegun first (evened ∷ h) c e = let u = unbegun first h c.1 e in record { blocks = u.blocks; asks = none_more (left_of first h) u.asks }
-unbegun first (paused ∷ h) c e = let u = unbegun first h c.1 e in record { blocks = u.blocks; asks = none_more (left_of first h) u.asks }
+unbegun first (made_end ∷ h) c e = let u = unbegun first h c.1 e in record { blocks = u.blocks; asks = asks_behind (left_of first h) u.asks }
+unbegun first (evened ∷ h) c e = let u = unbegun first h c.1 e in record { blocks = u.blocks; asks = asks_behind (left_of first h) u.asks }
+unbegun first (paused ∷ h) c e = let u = unbegun first h c.1 e in record { blocks = u.blocks; asks = asks_behind (left_of first h) u.asks }
 unbegun first (cut k ∷ h) c e = record { blocks = refl; asks = asks_dropped (left_of first h) }
-unbegun first (halted ∷ h) c e = let u = unbegun first h c.1 e in record { blocks = refl; asks = none_more (left_of first h) u.asks }
+unbegun first (halted ∷ h) c e = let u = unbegun first h c.1 e in record { blocks = refl; asks = asks_behind (left_of first h) u.asks }
 unbegun first (closing ∷ h) c e = let u = unbegun first h c.1 e in record { blocks = u.blocks; asks = refl }
 unbegun first (_ ∷ h) c e = let u = unbegun first h c.1 e in record { blocks = u.blocks; asks = u.asks }
 
@@ -220,18 +215,18 @@ joined_are first [] = tt
 joined_are first (cut k ∷ h) = (starts_are first h, joined_are first h)
 joined_are first (_ ∷ h) = joined_are first h
 
-pub parts_are : (first : Opening) (h : Journal) → Conducted first h → AllByRecursion IsCutPart (parts_of first h)
+pub parts_are : (first : Opening) (h : Journal) → Conducted first h → AllByRecursion (λ p. IsCutPart first.blocks p) (parts_of first h)
 parts_are first [] c = tt
 parts_are first (cut k ∷ h) c =
     let p = open_part first h c.1 in
     let same = calm_plan first h c.1 c.0.calm in
-    let run = subst (λ (q : Planned). Plans most_blocks (part_start h) (part_actions h) (part_given h) q) same p.run in
+    let run = subst (λ (q : Planned). Plans first.blocks (part_start h) (part_actions h) (part_given h) q) same p.run in
     let still = c.0.stopped.slowed.speed in (
       record {
         starts = p.starts;
         run = run;
         stops = still;
-        heads = cut_heads_are_legal most_blocks (part_start h) (plan_of h) (part_actions h) (part_given h) k p.starts (never_clears first h c.1) run still;
+        heads = cut_heads_are_legal first.blocks (part_start h) (plan_of h) (part_actions h) (part_given h) k p.starts (never_clears first h c.1) run still;
         asks = asked_is first h c.1;
         last = drops_last first h c.1 (cancel_is_jog first h c.1 c.0.cancelled);
         ticks = part_ticks first h c.1 ∙ ap (λ (q : Planned). flat_map ticks_of (part_given h) ++ (ticks_left q ++ ticks_of_all (asks (left_of first h)))) same;

@@ -5,10 +5,9 @@ use Rattle.std.proofs.lemmas.List.Sums.{sum_by-cons}
 use Rattle.feed_hold.specs.declared.Motion.{Motion}
 use Rattle.run_rules.specs.Work.{Task, Outcome, tells, asks, telling, has_moves, pauses}
 use Rattle.run_rules.specs.Told.{replies_after, replies_in}
-use Rattle.run_rules.proofs.Answering.{NoByes}
 use Rattle.run_rules.specs.Work.Task.{ask}
 use Rattle.status_report.specs.declared.Reply.{Reply}
-use Rattle.status_report.specs.Answering.{is_answer, is_bye, answers_in}
+use Rattle.status_report.specs.Answering.{is_answer, answers_in}
 use Rattle.status_report.specs.declared.Reply.TheVariants.{Banner}
 use Rattle.status_report.proofs.Answered.{answers_first, answers_on}
 use Rattle.step_line.specs.Asking.{Asked}
@@ -64,10 +63,6 @@ greeted_answers rs os all =
     let b = answers_first Banner (flat_map (λ (o : Outcome). tells o.work) os) in
     let none = greets_unanswered rs all in
     omega (arith, a, b, none)
-
-pub greeted_no_bye : (rs : List Reply) (os : List Outcome) → AllByRecursion IsGreeting rs → NoByes (flat_map (λ (o : Outcome). tells o.work) os) → NoByes (replies_after rs os)
-greeted_no_bye [] os all none = none
-greeted_no_bye (r ∷ rs) os all none = ((λ is. absurd (let e = sym all.0.parts ∙ ap is_bye is in cc)), greeted_no_bye rs os all.1 none)
 
 -- ---- the machine
 

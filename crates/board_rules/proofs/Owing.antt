@@ -51,7 +51,3 @@ pub few_asked : (first : Opening) (h : Journal) → Conducted first h → report
 few_asked first [] c = omega arith
 few_asked first (at_port (took_exec word) ∷ h) c = one_asked (asks_report word) (reports_in (port_log h)) c.0.few (few_asked first h c.1)
 few_asked first (_ ∷ h) c = few_asked first h c.1
-
--- so reports are few
-pub few_reports : (first : Opening) (h : Journal) → Conducted first h → reports_among (answered_of h) ≤ 2 ^ 31
-few_reports first h c = let o = owes_few first h c in let f = few_asked first h c in omega arith

@@ -7,7 +7,7 @@ use Rattle.planner_runs.specs.declared.Action.{Action}
 use Rattle.planner_runs.specs.declared.Action.TheVariants.{Add, Take, Override, Mark, Rest, Clear, Reset}
 use Rattle.overrides.specs.declared.Overrides.{Overrides}
 use Rattle.plan_rules.specs.Plans.{Planned}
-use Rattle.planner_runs.specs.Runs.{Plans, IsStart, NeverResets, normal_overrides, cleared, most_blocks, asked_by, all_asked, ticks_left, ticks_left_in}
+use Rattle.planner_runs.specs.Runs.{Plans, IsStart, NeverResets, normal_overrides, cleared, asked_by, all_asked, ticks_left, ticks_left_in}
 use Rattle.line_geom.specs.declared.Block.{Block}
 use Rattle.planner_runs.proofs.Runs.{goes_on, grows_by_override, keeps_on, fresh_starts, clears_behind}
 use Rattle.planner_runs.proofs.Ticks.{ticks_from_start}
@@ -112,47 +112,47 @@ done_before first (_ ∷ h) c = done_before first h c.1
 -- ---- the planner's run since the last cut
 
 -- it begins where nothing is left to run, and goes on to the plan as it is, or as it was where the machine was halted
-pub record IsOpenPart (h : Journal) : Type 0 where
+pub record IsOpenPart (blocks : ℕ) (h : Journal) : Type 0 where
   pub starts : IsStart (part_start h)
-  pub run : Plans most_blocks (part_start h) (part_actions h) (part_given h) (part_plan h)
+  pub run : Plans blocks (part_start h) (part_actions h) (part_given h) (part_plan h)
 
 -- what an action gives of the plan it gives of that; where the machine was halted only overrides change
-same_gives : (h : Journal) (a : Action) (ps : List Piece) → has_halted h ≡ false → Gives a ps (plan_of h) → Gives a ps (part_plan h)
-same_gives h a ps none gives = subst (λ (p : Planned). Gives a ps p) (sym (part_plan_is h none)) gives
+same_gives : (most : ℕ) (h : Journal) (a : Action) (ps : List Piece) → has_halted h ≡ false → Gives most a ps (plan_of h) → Gives most a ps (part_plan h)
+same_gives most h a ps none gives = subst (λ (p : Planned). Gives most a ps p) (sym (part_plan_is h none)) gives
 
-override_gives : (h : Journal) (a : Action) (ps : List Piece) → Gives a ps (plan_of h) → (o : Overrides) × (a ≡ Override o) × (ps ≡ []) → Gives a ps (part_plan h)
-override_gives h a ps gives (o, is, none) =
-    let was : Gives (Override o) [] (plan_of h) = subst (λ (b : Action). Gives b [] (plan_of h)) is (subst (λ (qs : List Piece). Gives a qs (plan_of h)) none gives) in
-    subst (λ (qs : List Piece). Gives a qs (part_plan h)) (sym none) (subst (λ (b : Action). Gives b [] (part_plan h)) (sym is) (was.0, refl))
+override_gives : (most : ℕ) (h : Journal) (a : Action) (ps : List Piece) → Gives most a ps (plan_of h) → (o : Overrides) × (a ≡ Override o) × (ps ≡ []) → Gives most a ps (part_plan h)
+override_gives most h a ps gives (o, is, none) =
+    let was : Gives most (Override o) [] (plan_of h) = subst (λ (b : Action). Gives most b [] (plan_of h)) is (subst (λ (qs : List Piece). Gives most a qs (plan_of h)) none gives) in
+    subst (λ (qs : List Piece). Gives most a qs (part_plan h)) (sym none) (subst (λ (b : Action). Gives most b [] (part_plan h)) (sym is) (was.0, refl))
 
-part_gives : (first : Opening) (h : Journal) (a : Action) (ps : List Piece) → MayDo first a h → Gives a ps (plan_of h) → Stage first h → (was : Bool) → has_halted h ≡ was → Gives a ps (part_plan h)
-part_gives first h a ps may gives stage true was = override_gives h a ps gives (only_override first h a ps may gives stage was)
-part_gives first h a ps may gives stage false none = same_gives h a ps none gives
+part_gives : (first : Opening) (h : Journal) (a : Action) (ps : List Piece) → MayDo first a h → Gives first.blocks a ps (plan_of h) → Stage first h → (was : Bool) → has_halted h ≡ was → Gives first.blocks a ps (part_plan h)
+part_gives first h a ps may gives stage true was = override_gives first.blocks h a ps gives (only_override first h a ps may gives stage was)
+part_gives first h a ps may gives stage false none = same_gives first.blocks h a ps none gives
 
 unreset : (first : Opening) (h : Journal) → Conducted first h → NeverResets (part_actions h)
 unreset first h c = keeps_on (part_actions h) (never_clears first h c)
 
-pub open_part : (first : Opening) (h : Journal) → Conducted first h → IsOpenPart h
+pub open_part : (first : Opening) (h : Journal) → Conducted first h → IsOpenPart first.blocks h
 open_part first [] c = record { starts = fresh_starts; run = refl }
 open_part first (did a ps ∷ h) c =
     let p = open_part first h c.1 in
     record {
       starts = p.starts;
-      run = goes_on most_blocks (part_start h) (part_plan h) (plan_after a ps (part_plan h)) (part_actions h) (a ∷ []) (part_given h) ps (unreset first h c.1) p.run
+      run = goes_on first.blocks (part_start h) (part_plan h) (plan_after a ps (part_plan h)) (part_actions h) (a ∷ []) (part_given h) ps (unreset first h c.1) p.run
           (part_gives first h a ps c.0.0 c.0.1 (stage_is first h c.1) (has_halted h) refl);
     }
 open_part first (evened ∷ h) c =
     let p = open_part first h c.1 in
     record {
       starts = p.starts;
-      run = grows_by_override most_blocks (part_start h) (part_plan h) (part_actions h) (part_given h) normal_overrides (unreset first h c.1) p.run c.0.replans.0;
+      run = grows_by_override first.blocks (part_start h) (part_plan h) (part_actions h) (part_given h) normal_overrides (unreset first h c.1) p.run c.0.replans.0;
     }
 open_part first (cut k ∷ h) c =
     let p = open_part first h c.1 in
     let same = calm_plan first h c.1 c.0.calm in
     record {
-      starts = subst (λ (q : Planned). IsStart (cleared q)) same (clears_behind most_blocks (part_start h) (part_plan h) (part_actions h) (part_given h) p.starts p.run);
-      run = ap cleared same;
+      starts = subst (λ (q : Planned). IsStart (cleared q)) same (clears_behind first.blocks (part_start h) (part_plan h) (part_actions h) (part_given h) p.starts p.run);
+      run = refl;
     }
 open_part first (_ ∷ h) c = let p = open_part first h c.1 in record { starts = p.starts; run = p.run }
 
@@ -162,7 +162,7 @@ pub part_ticks : (first : Opening) (h : Journal) → Conducted first h
 part_ticks first h c =
     let p = open_part first h c in
     let done : ticks_of_all (all_asked (part_actions h)) ≡ flat_map ticks_of (part_given h) ++ ticks_left (part_plan h) =
-    ticks_from_start most_blocks (part_start h) (part_plan h) (part_actions h) (part_given h) p.starts (never_clears first h c) p.run in
+    ticks_from_start first.blocks (part_start h) (part_plan h) (part_actions h) (part_given h) p.starts (never_clears first h c) p.run in
     ap ticks_of_all (asked_is first h c)
     ∙ flat_map-append ticks_of_one (all_asked (part_actions h)) (asks (left_of first h))
     ∙ ap (λ (rs : List Record). rs ++ ticks_of_all (asks (left_of first h))) done

@@ -23,7 +23,7 @@ use Rattle.plan_rules.specs.Taking.{IsTakenOf}
 use Rattle.plan_rules.specs.declared.Mode.{Mode}
 use Rattle.planner_runs.specs.declared.Action.{Action}
 use Rattle.planner_runs.specs.declared.Action.TheVariants.{Add, Take, Override, Mark, Rest, Clear, Reset}
-use Rattle.planner_runs.specs.Runs.{most_blocks, fresh_plan, block_of}
+use Rattle.planner_runs.specs.Runs.{fresh_plan, block_of}
 use Rattle.planner_runs.proofs.Runs.{reached_from, fresh_starts}
 use Rattle.flight.specs.Places.{moved_by, machine_from, end_from}
 use Rattle.flight.specs.Flights.{BeginsAt, Join}
@@ -80,7 +80,7 @@ segment_moves p (b ∷ bs) mode s from to e is next lead =
     (lead.0 ∙ sym here, blocks_start (place_after s.mv (s.first + s.n)) (place_after b.mv (b.prepared + s.n)) (moved s.n (b ∷ bs)) to there (blocks_moved b bs s.n to block lead.1 (nat_eq s.n (left_of b)) refl))
 
 reached : (first : Opening) (h : Journal) → Conducted first h → IsReached (plan_of h)
-reached first h c = reached_from most_blocks fresh_plan (plan_of h) (actions_of h) (planned_of h) fresh_starts (run_is first h c)
+reached first h c = reached_from first.blocks fresh_plan (plan_of h) (actions_of h) (planned_of h) fresh_starts (run_is first h c)
 
 -- ---- a board that keeps to its rules
 
@@ -161,7 +161,7 @@ on_take first h mode s c next j =
     gives first h (did (Take mode) (pieces.Segment s ∷ [])) (pieces.Segment s) (moved s.n (plan_of h).blocks) refl moves.0 refl
     (blocks_start (end_from first.place (given_of h ++ pieces.Segment s ∷ [])) (place_after s.mv (s.first + s.n)) (moved s.n (plan_of h).blocks) (goal_of first h) there moves.1) j.tasks j
 
-on_did : (first : Opening) (h : Journal) (a : Action) (ps : List Piece) → Conducted first h → MayDo first a h → Gives a ps (plan_of h) → JournalLeads first h → JournalLeads first (did a ps ∷ h)
+on_did : (first : Opening) (h : Journal) (a : Action) (ps : List Piece) → Conducted first h → MayDo first a h → Gives first.blocks a ps (plan_of h) → JournalLeads first h → JournalLeads first (did a ps ∷ h)
 on_did first h (Add m) [] c may run j = on_add first h m may j
 on_did first h (Override o) [] c may run j = keeps first h (did (Override o) []) (append-nil (given_of h)) refl refl j.tasks j
 on_did first h Rest [] c may run j = keeps first h (did Rest []) (append-nil (given_of h)) refl refl (popped first h (ask a_rest) may.next refl j) j

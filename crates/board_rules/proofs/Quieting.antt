@@ -8,7 +8,7 @@ use Rattle.plan_rules.specs.declared.Mode.TheVariants.{Go, Hold}
 use Rattle.planner_runs.specs.declared.Action.{Action}
 use Rattle.planner_runs.specs.declared.Action.TheVariants.{Add, Take, Override, Mark, Rest, Clear, Reset}
 use Rattle.overrides.specs.declared.Overrides.{Overrides}
-use Rattle.planner_runs.specs.Runs.{IsAtRest, most_blocks}
+use Rattle.planner_runs.specs.Runs.{IsAtRest}
 use Rattle.board_rules.specs.Openings.{Opening}
 use Rattle.run_rules.specs.Work.{Task, Outcome, has_moves}
 use Rattle.run_rules.specs.Work.Task.{ask, tell, pause, normal, halt}
@@ -116,17 +116,17 @@ on_override first h o ps none (inr q) =
       work = q.work;
     })
 
-on_did : (first : Opening) (h : Journal) (a : Action) (ps : List Piece) → MayDo first a h → Gives a ps (plan_of h) → Stands first (left_of first h) h → Stands first (left_by a (left_of first h)) (did a ps ∷ h)
+on_did : (first : Opening) (h : Journal) (a : Action) (ps : List Piece) → MayDo first a h → Gives first.blocks a ps (plan_of h) → Stands first (left_of first h) h → Stands first (left_by a (left_of first h)) (did a ps ∷ h)
 on_did first h (Add m) ps may gives (inl will) = inl (tail_rests (left_of first h) (ask (a_move m)) may (λ e. absurd cc) will)
 on_did first h (Add m) ps may gives (inr q) = absurd (let e = sym q.work ∙ ap has_work may in cc)
 on_did first h (Mark m) ps may gives (inl will) = inl (tail_rests (left_of first h) (ask (a_mark m)) may.next (λ e. absurd cc) will)
 on_did first h (Mark m) ps may gives (inr q) = absurd (let e = sym q.work ∙ ap has_work may.next in cc)
-on_did first h Rest ps may gives st = on_rest first h ps may (none_given most_blocks (plan_of h) (plan_of h) ps gives.1) st (has_work (drop 1 (left_of first h))) refl
+on_did first h Rest ps may gives st = on_rest first h ps may (none_given first.blocks (plan_of h) (plan_of h) ps gives.1) st (has_work (drop 1 (left_of first h))) refl
 on_did first h (Take Go) ps may gives (inl will) = inl will
-on_did first h (Take Go) ps may gives (inr q) = absurd (none_taken (plan_of h) Go ps (plan_after (Take Go) ps (plan_of h)) q.drained.plan.blocks gives)
+on_did first h (Take Go) ps may gives (inr q) = absurd (none_taken first.blocks (plan_of h) Go ps (plan_after (Take Go) ps (plan_of h)) q.drained.plan.blocks gives)
 on_did first h (Take Hold) ps may gives (inl will) = inl will
-on_did first h (Take Hold) ps may gives (inr q) = absurd (none_taken (plan_of h) Hold ps (plan_after (Take Hold) ps (plan_of h)) q.drained.plan.blocks gives)
-on_did first h (Override o) ps may gives st = on_override first h o ps (none_given most_blocks (plan_after (Override o) ps (plan_of h)) (plan_after (Override o) ps (plan_of h)) ps gives.1) st
+on_did first h (Take Hold) ps may gives (inr q) = absurd (none_taken first.blocks (plan_of h) Hold ps (plan_after (Take Hold) ps (plan_of h)) q.drained.plan.blocks gives)
+on_did first h (Override o) ps may gives st = on_override first h o ps (none_given first.blocks (plan_after (Override o) ps (plan_of h)) (plan_after (Override o) ps (plan_of h)) ps gives.1) st
 on_did first h Clear ps may gives st = absurd may
 on_did first h Reset ps may gives st = absurd may
 

@@ -4,7 +4,7 @@ use Rattle.std.proofs.lemmas.Bool.Decides.{nat_tests}
 use Rattle.feed_hold.specs.declared.Motion.{Motion}
 use Rattle.feed_hold.specs.declared.Motion.TheVariants.{Run, Jog, Alarm}
 use Rattle.line_geom.specs.declared.Block.{Block}
-use Rattle.planner_runs.specs.Runs.{fresh_plan, most_blocks}
+use Rattle.planner_runs.specs.Runs.{fresh_plan}
 use Rattle.planner_runs.proofs.Runs.{fresh_starts, rests_behind}
 use Rattle.step_line.specs.declared.Piece.{Piece}
 use Rattle.step_line.specs.Finishing.{ticks_together}
@@ -40,7 +40,7 @@ drained first h c none empty done =
     let all = ap ticks_together same in
     let low = known_within first h c in
     record {
-      plan = (rests_behind most_blocks fresh_plan (plan_of h) (actions_of h) (planned_of h) fresh_starts (run_is first h c) none).rest;
+      plan = (rests_behind first.blocks fresh_plan (plan_of h) (actions_of h) (planned_of h) fresh_starts (run_is first h c) none).rest;
       hand = empty;
       done = omega (arith, all, low, done);
     }

@@ -1,6 +1,6 @@
 -- What there is to do of a line comes to rest where the line settles, and where it moves nothing it comes to rest or gives
 -- the machine nothing to do.
-use Rattle.std.proofs.Common.{◌≡◌, ℕ, ◌==◌, ◌⊎◌, inl, inr, List, [], ◌∷◌, ◌++◌, true, false, Bool, cond, ◌||◌, sym, refl, ap, ◌∙◌, append_assoc, append-nil, subst}
+use Rattle.std.proofs.Common.{◌≡◌, ℕ, ◌==◌, ◌⊎◌, inl, inr, List, [], ◌∷◌, ◌++◌, true, false, Bool, cond, sym, refl, ap, ◌∙◌, append_assoc, append-nil, subst}
 use Rattle.settings.specs.declared.Settings.{Settings}
 use Rattle.modal_state.specs.declared.SpindleMode.{SpindleMode}
 use Rattle.modal_state.specs.declared.SpindleMode.TheVariants.{Off, Cw, Ccw}
@@ -17,6 +17,7 @@ use Rattle.run_rules.specs.Asks.{spindle_mark, spindle_after, flood_after, spind
 use Rattle.run_rules.specs.Work.{Task, asking, has_moves, asks_move}
 use Rattle.run_rules.specs.Work.Task.{ask, tell, normal}
 use Rattle.board_rules.specs.Whole.{has_work, comes_to_rest}
+use Rattle.board_rules.proofs.Truths.{neither_right}
 
 abbrev answer : List Task
 answer = tell replies.Ok ∷ []
@@ -38,10 +39,6 @@ Rests ts = (comes_to_rest ts ≡ true) ⊎ (has_work ts ≡ false)
 rest_then : (ts : List Task) → Rests ts → comes_to_rest (ask a_rest ∷ ts) ≡ true
 rest_then ts (inl is) = both (has_work ts) (comes_to_rest ts) is
 rest_then ts (inr none) = ap (λ (b : Bool). cond b (comes_to_rest ts) true) none
-
-or_right : (a b : Bool) → (a || b) ≡ false → b ≡ false
-or_right true b none = absurd cc
-or_right false b none = none
 
 -- the last item settles
 last_settles : (line : ℕ) (s : Settings) (spindle : SpindleMode) (flood : Bool) (item : Item) → settling (item ∷ []) ≡ true
@@ -97,7 +94,7 @@ item_still line s spindle flood items.ProgramEnd ts none r =
 -- the moves of work behind other work
 moves_behind : (xs ys : List Task) → has_moves (xs ++ ys) ≡ false → has_moves ys ≡ false
 moves_behind [] ys none = none
-moves_behind (x ∷ xs) ys none = moves_behind xs ys (or_right (asks_move x) (has_moves (xs ++ ys)) none)
+moves_behind (x ∷ xs) ys none = moves_behind xs ys (neither_right (asks_move x) (has_moves (xs ++ ys)) none)
 
 pub still : (line : ℕ) (s : Settings) (spindle : SpindleMode) (flood : Bool) (all : List Item) → has_moves (work_of line s spindle flood all ++ answer) ≡ false
     → Rests (work_of line s spindle flood all ++ answer)

@@ -1,5 +1,5 @@
 -- What a board does to its plan is slowed down only by a word, or behind the line that raised an alarm.
-use Rattle.std.proofs.Common.{◌≡◌, Bool, true, false, ◌||◌, List, [], ◌∷◌, ◌++◌, sym, refl, ap, ◌∙◌, subst, append_assoc, append-nil, inl}
+use Rattle.std.proofs.Common.{◌≡◌, Bool, true, false, ◌||◌, List, [], ◌∷◌, ◌++◌, sym, refl, ap, ◌∙◌, append_assoc, append-nil, inl}
 use Rattle.planner_runs.specs.declared.Action.{Action}
 use Rattle.planner_runs.specs.declared.Action.TheVariants.{Override}
 use Rattle.planner_runs.specs.Runs.{NeedsNoOther, DisturbedOnlyBy, normal_overrides, all_asked}
@@ -18,16 +18,6 @@ use Rattle.board_rules.proofs.Keeping.{disturbed_is, one_disturbs, changed_befor
 use Rattle.board_rules.proofs.Parting.{asked_is}
 
 -- ---- of any actions
-
--- a word or an alarm slows them down
-pub slowed_or_alarmed : (slowed alarmed changed : Bool) (asked : List Asked) (actions : List Action) → IsSlowedOnlyBy slowed alarmed changed asked actions → DisturbedOnlyBy (slowed || alarmed) changed actions
-slowed_or_alarmed true alarmed changed asked actions is =
-    subst (λ (xs : List Action). DisturbedOnlyBy true changed xs) (sym is.both) (disturbed_on true changed is.early is.late is.before is.behind)
-slowed_or_alarmed false true changed asked actions is =
-    subst (λ (xs : List Action). DisturbedOnlyBy true changed xs) (sym is.both)
-    (disturbed_on true changed is.early is.late (disturbed_more false changed true changed is.early (λ e. absurd cc) (λ e. e) is.before) is.behind)
-slowed_or_alarmed false false changed asked actions is =
-    subst (λ (xs : List Action). DisturbedOnlyBy false changed xs) (sym (is.both ∙ ap (λ (xs : List Action). is.early ++ xs) (is.calm refl) ∙ append-nil is.early)) is.before
 
 -- they may be slowed down by more
 pub slowed_more : (slowed alarmed changed slowed_too changed_too : Bool) (asked : List Asked) (actions : List Action) → (slowed ≡ true → slowed_too ≡ true) → (changed ≡ true → changed_too ≡ true)

@@ -76,11 +76,11 @@ calm_tail first h s blocks still left calm = record { blocks = blocks ∙ calm.b
 pub calm_same : (first : Opening) (h : Journal) (s : Step) → (plan_of (s ∷ h)).blocks ≡ (plan_of h).blocks → motion_of first (s ∷ h) ≡ motion_of first h → left_of first (s ∷ h) ≡ left_of first h → Calm first h → Calm first (s ∷ h)
 calm_same first h s blocks still left calm = record { blocks = blocks ∙ calm.blocks; still = ap stands still ∙ calm.still; moves = ap has_moves left ∙ calm.moves }
 
-calm_did : (first : Opening) (h : Journal) (a : Action) (ps : List Piece) → MayDo first a h → Gives a ps (plan_of h) → Calm first h → Calm first (did a ps ∷ h)
+calm_did : (first : Opening) (h : Journal) (a : Action) (ps : List Piece) → MayDo first a h → Gives first.blocks a ps (plan_of h) → Calm first h → Calm first (did a ps ∷ h)
 calm_did first h (Add m) ps may gives calm = absurd (let e = sym (ap has_moves may) ∙ calm.moves in cc)
 calm_did first h (Mark m) ps may gives calm = calm_tail first h (did (Mark m) ps) refl refl refl calm
 calm_did first h Rest ps may gives calm = calm_tail first h (did Rest ps) refl refl refl calm
-calm_did first h (Take mode) ps may gives calm = absurd (none_taken (plan_of h) mode ps (plan_after (Take mode) ps (plan_of h)) calm.blocks gives)
+calm_did first h (Take mode) ps may gives calm = absurd (none_taken first.blocks (plan_of h) mode ps (plan_after (Take mode) ps (plan_of h)) calm.blocks gives)
 calm_did first h (Override o) ps may gives calm = calm_same first h (did (Override o) ps) refl refl refl calm
 calm_did first h Clear ps may gives calm = absurd may
 calm_did first h Reset ps may gives calm = absurd may

@@ -1,5 +1,5 @@
 -- Between two turns a board may take its words of flags, once the banner is told, where the motion does not slow down, and the bytes of a line.
-use Rattle.std.proofs.Common.{◌≡◌, ◌⊎◌, inl, inr, ℕ, ◌+◌, ◌^◌, ◌<◌, Bool, true, false, cond, ◌&&◌, ◌||◌, not, List, [], ◌∷◌, ◌++◌, drop, length, nat_eq, nat_le, refl, sym, ap, ◌∙◌, arith}
+use Rattle.std.proofs.Common.{◌≡◌, ◌⊎◌, inl, inr, ℕ, ◌+◌, ◌^◌, ◌<◌, Bool, true, false, cond, ◌&&◌, ◌||◌, not, List, [], ◌∷◌, ◌++◌, drop, length, nat_eq, nat_le, refl, sym, ap, ◌∙◌, arith, ◌≤◌}
 use Rattle.std.specs.Prelude.{Some}
 use Rattle.std.specs.List.{list_any}
 use Rattle.std.proofs.lemmas.List.{length-append}
@@ -14,7 +14,6 @@ use Rattle.board_rules.specs.Openings.{Opening}
 use Rattle.board_rules.specs.Ports.{asks_report, asks_reset, has_changes}
 use Rattle.board_rules.specs.Ports.PortStep.{took, took_exec, took_ovr}
 use Rattle.line_geom.specs.declared.Block.{Block}
-use Rattle.planner_runs.specs.Runs.{most_blocks}
 use Rattle.run_rules.specs.Work.{has_moves}
 use Rattle.run_rules.specs.Work.Task.{ask}
 use Rattle.step_line.specs.Asking.Asked.{a_move}
@@ -28,6 +27,8 @@ use Rattle.board_rules.proofs.Causing.{jog_starts}
 use Rattle.board_rules.proofs.Jogging.{OneMove, one_move}
 use Rattle.board_rules.proofs.Dropping.{none_moves}
 use Rattle.board_rules.proofs.Waiting.{adds, starts, halts_between}
+use Rattle.std.proofs.lemmas.Bool.Decides.{nat_tests}
+use Rattle.board_rules.proofs.Opening.{opened}
 
 -- whether blocks are queued
 abbrev pub queued_in : Journal → Bool
@@ -53,12 +54,12 @@ not_owed : {A : Type 0} (asks owes : Bool) → asks ≡ false → owes ≡ false
 not_owed true owes none unowed owed = absurd cc
 not_owed false owes none unowed owed = absurd (let e = sym unowed ∙ owed in cc)
 
-empty_is_full : (bs : List Block) → has_blocks bs ≡ false → nat_le most_blocks (length bs) ≡ true → ⊥
-empty_is_full [] none full = absurd cc
-empty_is_full (b ∷ bs) none full = absurd cc
+empty_is_full : (most : ℕ) (bs : List Block) → 1 ≤ most → has_blocks bs ≡ false → nat_le most (length bs) ≡ true → ⊥
+empty_is_full most [] some none full = grind (arith, nat_tests, some, full)
+empty_is_full most (b ∷ bs) some none full = absurd cc
 
 -- no jog waits for its start where no queued block does, and no move that is next has room
-pub no_jog_to_start : (first : Opening) (h : Journal) → Conducted first h → (AreWaiting first h → starts_cycle first h ≡ false) → ((m : PlannedMove) → IsNextTask first (ask (a_move m)) h → is_full (plan_of h) ≡ true) → has_jog_to_start first h ≡ false
+pub no_jog_to_start : (first : Opening) (h : Journal) → Conducted first h → (AreWaiting first h → starts_cycle first h ≡ false) → ((m : PlannedMove) → IsNextTask first (ask (a_move m)) h → is_full first.blocks (plan_of h) ≡ true) → has_jog_to_start first h ≡ false
 no_jog_to_start first h c none_starts none_fits = by_motion (motion_of first h) refl
   where
     by_blocks : (jogged blocks moves : Bool) → has_jogged h ≡ jogged → queued_in h ≡ blocks → has_moves (left_of first h) ≡ moves → motion_of first h ≡ motions.Idle → (jogged && (blocks || moves)) ≡ false
@@ -69,7 +70,7 @@ no_jog_to_start first h c none_starts none_fits = by_motion (motion_of first h) 
       where
         no_room_needed : OneMove (left_of first h) → ⊥
         no_room_needed (inl none) = absurd (let e = sym (none_moves (left_of first h) none) ∙ m in cc)
-        no_room_needed (inr (move, next, none)) = empty_is_full (plan_of h).blocks b (none_fits move next)
+        no_room_needed (inr (move, next, none)) = empty_is_full first.blocks (plan_of h).blocks (opened first h c).sized.0 b (none_fits move next)
 
     by_motion : (m : Motion) → motion_of first h ≡ m → has_jog_to_start first h ≡ false
     by_motion motions.Idle is = ap (λ (m : Motion). waits_to_jog m (has_jogged h) (queued_in h || has_moves (left_of first h))) is ∙ by_blocks (has_jogged h) (queued_in h) (has_moves (left_of first h)) refl refl refl is

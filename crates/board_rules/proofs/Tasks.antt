@@ -9,7 +9,7 @@ use Rattle.plan_rules.specs.Plans.{Planned}
 use Rattle.plan_rules.specs.Taking.{IsTakenOf}
 use Rattle.plan_rules.specs.declared.Mode.{Mode}
 use Rattle.planner_runs.specs.declared.Action.TheVariants.{Take}
-use Rattle.planner_runs.specs.Runs.{Plans, most_blocks}
+use Rattle.planner_runs.specs.Runs.{Plans}
 
 -- nothing is next where nothing is left
 pub none_next : {A : Type 0} (xs : List A) (x : A) → xs ≡ [] → xs ≡ x ∷ drop 1 xs → ⊥
@@ -30,11 +30,11 @@ none_given most p last [] run = refl
 none_given most p last (x ∷ ps) run = absurd run
 
 -- no segment is taken of an empty plan
-pub none_taken : (p : Planned) (mode : Mode) (ps : List Piece) (last : Planned) → p.blocks ≡ [] → Plans most_blocks p (Take mode ∷ []) ps last → ⊥
-none_taken p mode (pieces.Segment s ∷ ps) last none run = absurd (subst (λ (bs : List Block). IsTakenOf p bs mode s) none run.0)
-none_taken p mode (pieces.Mark m ∷ ps) last none run = absurd run
-none_taken p mode (pieces.End ∷ ps) last none run = absurd run
-none_taken p mode [] last none run = absurd run
+pub none_taken : (most : ℕ) (p : Planned) (mode : Mode) (ps : List Piece) (last : Planned) → p.blocks ≡ [] → Plans most p (Take mode ∷ []) ps last → ⊥
+none_taken most p mode (pieces.Segment s ∷ ps) last none run = absurd (subst (λ (bs : List Block). IsTakenOf p bs mode s) none run.0)
+none_taken most p mode (pieces.Mark m ∷ ps) last none run = absurd run
+none_taken most p mode (pieces.End ∷ ps) last none run = absurd run
+none_taken most p mode [] last none run = absurd run
 
 -- something is told by closing a run
 pub none_closed : (rs : List Reply) → rs ++ Bye ∷ [] ≡ [] → ⊥

@@ -1,5 +1,5 @@
 -- What a step adds to a turn: what nothing passes with, and what was tried to be published.
-use Rattle.std.proofs.Common.{◌≡◌, ℕ, ◌+◌, ◌≤◌, inl, inr, Bool, List, [], ◌∷◌, ◌++◌, ◌||◌, ◌&&◌, cond, length, drop, true, false, refl, sym, ap, ◌∙◌, subst, arith, append_assoc, nat_eq}
+use Rattle.std.proofs.Common.{◌≡◌, ℕ, ◌+◌, ◌≤◌, inl, inr, Bool, List, [], ◌∷◌, ◌++◌, ◌&&◌, cond, drop, true, false, refl, sym, ap, ◌∙◌, subst, arith, append_assoc}
 use Rattle.std.specs.List.{list_any, count_by}
 use Rattle.std.proofs.lemmas.List.Sums.{sum_by-cons}
 use Rattle.std.proofs.lemmas.Bool.Decides.{nat_tests}
@@ -13,10 +13,9 @@ use Rattle.run_rules.specs.Work.Task.{pause}
 use Rattle.step_line.specs.declared.Piece.{Piece}
 use Rattle.step_line.specs.declared.Piece.TheVariants as pieces
 use Rattle.step_line.specs.declared.Segment.{Segment}
-use Rattle.line_geom.specs.declared.Block.{Block}
 use Rattle.plan_rules.specs.Blocks as blocks
 use Rattle.plan_rules.specs.Plans.{Planned}
-use Rattle.plan_rules.specs.Segments.{moved, advanced}
+use Rattle.plan_rules.specs.Segments.{advanced}
 use Rattle.plan_rules.specs.declared.Mode.{Mode}
 use Rattle.planner_runs.specs.declared.Action.{Action}
 use Rattle.planner_runs.specs.declared.Action.TheVariants.{Add, Take, Mark, Rest}
@@ -30,6 +29,8 @@ use Rattle.board_rules.specs.Turns.{this_turn, publishing, moving, obeys, unobey
 use Rattle.board_rules.specs.Conduct.{AreWaiting}
 use Rattle.units.specs.Truths.{one_if}
 use Rattle.board_rules.specs.Within.{changes_left, AreWorked, PassesNothing, DidAlone, MayHaveLooked, Tried, HasTried}
+use Rattle.board_rules.proofs.Truths.{either_right}
+use Rattle.plan_rules.proofs.Reached.{length-moved}
 
 -- ---- one step of a turn
 
@@ -79,10 +80,6 @@ pauses_by (Mark m) ts = fewer_pauses ts
 pauses_by Rest ts = fewer_pauses ts
 pauses_by _ ts = no_more (pauses ts)
 
-or_true : (a b : Bool) → b ≡ true → (a || b) ≡ true
-or_true true b e = refl
-or_true false b e = e
-
 -- a step by itself that no line begins with, and no turn ends with
 abbrev is_quiet : Step → Bool
 is_quiet (at_port e) = false
@@ -105,7 +102,7 @@ passes_step first s h quiet words same pauses changes less = record {
   quiet = publishes_none s (this_turn h) refl;
   polled = refl;
   room = refl;
-  moves = λ e. or_true (moving s) (list_any moving (this_turn h)) e;
+  moves = λ e. either_right (moving s) (list_any moving (this_turn h)) e;
   loaded = λ e. e;
   waits = refl;
   tries = refl;
@@ -330,7 +327,7 @@ tried_kept first done h = record {
 
 -- steps with which nothing passes come before a try
 tried_on : (first : Opening) (sent : Bool) (h mid next : Journal) → PassesNothing first h mid → is_counted first mid ≡ is_counted first h → left_of first mid ≡ left_of first h → motion_of first mid ≡ motion_of first h
-    → has_cut mid ≡ has_cut h → (AreWaiting first mid → AreWaiting first h) → (is_full (plan_of mid) ≡ true → is_full (plan_of h) ≡ true) → HasTried first sent mid next → HasTried first sent h next
+    → has_cut mid ≡ has_cut h → (AreWaiting first mid → AreWaiting first h) → (is_full first.blocks (plan_of mid) ≡ true → is_full first.blocks (plan_of h) ≡ true) → HasTried first sent mid next → HasTried first sent h next
 tried_on first sent h mid next p counted left motion cuts waiting full t = record {
   steps = t.steps ++ p.steps;
   are = are_both h mid next p.steps t.steps p.are t.are;
@@ -378,17 +375,9 @@ tried first true h next one t =
     tried_now first true h t.1 next t.2 (subst (HasTried first true t.1) (sym t.3) (tried_sent first t.0 t.1 (ap (λ (ps : List Piece). drop 1 ps) (hand_looked h t.1 t.2) ∙ one)))
 tried first false h next one t = tried_now first false h t.1 next t.2 (subst (HasTried first false t.1) (sym t.3) (tried_kept first t.0 t.1))
 
-pub fewer_moved : (n : ℕ) (bs : List Block) → length (moved n bs) ≤ length bs
-fewer_moved n [] = omega arith
-fewer_moved n (b ∷ bs) = by_end (nat_eq n (blocks.left_of b))
-  where
-    by_end : (gone : Bool) → length (cond gone bs (record b { prepared = b.prepared + n } ∷ bs)) ≤ length (b ∷ bs)
-    by_end true = omega arith
-    by_end false = omega arith
-
 -- a plan that is full behind a segment was so before
-full_before : (p : Planned) (n v : ℕ) → is_full (advanced p n v) ≡ true → is_full p ≡ true
-full_before p n v full = let few = fewer_moved n p.blocks in grind (arith, nat_tests, few, full)
+full_before : (most : ℕ) (p : Planned) (n v : ℕ) → is_full most (advanced p n v) ≡ true → is_full most p ≡ true
+full_before most p n v full = let few = length-moved n p.blocks in grind (arith, nat_tests, few, full)
 
 -- a machine that stands has no segment due
 not_due : (p : Planned) (now : Motion) → has_segment now p ≡ true → now ≡ motions.Idle → ⊥
@@ -399,4 +388,4 @@ pub tried_behind : (first : Opening) (mode : Mode) (s : Segment) (sent : Bool) (
 tried_behind first mode s sent h next due t =
     let taken = did (Take mode) (pieces.Segment s ∷ []) in
     let p = passes_did first (Take mode) (pieces.Segment s ∷ []) h refl in
-    tried_on first sent h (taken ∷ h) next p refl refl refl refl (λ w. absurd (not_due (plan_of h) (motion_of first h) due w.stands)) (full_before (plan_of h) s.n s.w_out) t
+    tried_on first sent h (taken ∷ h) next p refl refl refl refl (λ w. absurd (not_due (plan_of h) (motion_of first h) due w.stands)) (full_before first.blocks (plan_of h) s.n s.w_out) t

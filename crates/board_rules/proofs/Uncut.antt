@@ -18,18 +18,14 @@ use Rattle.board_rules.specs.Steps.Step.{at_port, began, did, made_end, evened, 
 use Rattle.board_rules.specs.Turns.{begins_in, stands_still}
 use Rattle.board_rules.specs.Cuts.{has_cut, is_cancelling}
 use Rattle.board_rules.specs.Conduct.{Conducted, Gives, MayDo}
-use Rattle.board_rules.proofs.Dropping.{asks_dropped}
+use Rattle.board_rules.proofs.Dropping.{asks_dropped, asks_behind}
 use Rattle.board_rules.proofs.Tasks.{none_taken}
 use Rattle.board_rules.proofs.Locking.{begins_or_locked}
+use Rattle.board_rules.proofs.Truths.{both_left, both_right, by_not}
 
 -- what is asked for is next of nothing that is asked for
 pub none_asked : (ts : List Task) (a : Asked) → asks ts ≡ [] → ts ≡ ask a ∷ drop 1 ts → ⊥
 none_asked ts a none next = absurd (let e = sym none ∙ ap asks next in cc)
-
-asks_behind : (ts : List Task) → asks ts ≡ [] → asks (drop 1 ts) ≡ []
-asks_behind [] none = refl
-asks_behind (ask a ∷ ts) none = absurd cc
-asks_behind (_ ∷ ts) none = none
 
 -- jogs were cancelled, nothing is planned, and nothing is asked for
 pub record IsCutOff (first : Opening) (h : Journal) : Type 0 where
@@ -37,23 +33,15 @@ pub record IsCutOff (first : Opening) (h : Journal) : Type 0 where
   pub blocks : (plan_of h).blocks ≡ []
   pub none : asks (left_of first h) ≡ []
 
-and_left : (a b : Bool) → (a && b) ≡ true → a ≡ true
-and_left true b is = refl
-and_left false b is = absurd cc
-
-and_right : (a b : Bool) → (a && b) ≡ true → b ≡ true
-and_right true b is = is
-and_right false b is = absurd cc
-
 cancels : (m : Motion) → is_cancelling m ≡ true → m ≡ motions.Cancelling
 cancels motions.Cancelling is = refl
 cancels m is = absurd cc
 
-did_then : (first : Opening) (h : Journal) (a : Action) (ps : List Piece) → MayDo first a h → Gives a ps (plan_of h) → IsCutOff first h → IsCutOff first (did a ps ∷ h)
+did_then : (first : Opening) (h : Journal) (a : Action) (ps : List Piece) → MayDo first a h → Gives first.blocks a ps (plan_of h) → IsCutOff first h → IsCutOff first (did a ps ∷ h)
 did_then first h (Add m) ps may gives r = absurd (none_asked (left_of first h) (a_move m) r.none may)
 did_then first h (Mark m) ps may gives r = absurd (none_asked (left_of first h) (a_mark m) r.none may.next)
 did_then first h Rest ps may gives r = absurd (none_asked (left_of first h) a_rest r.none may.next)
-did_then first h (Take mode) ps may gives r = absurd (none_taken (plan_of h) mode ps (plan_after (Take mode) ps (plan_of h)) r.blocks gives)
+did_then first h (Take mode) ps may gives r = absurd (none_taken first.blocks (plan_of h) mode ps (plan_after (Take mode) ps (plan_of h)) r.blocks gives)
 did_then first h (Override o) ps may gives r = record { cancelled = r.cancelled; blocks = r.blocks; none = r.none }
 did_then first h Clear ps may gives r = absurd may
 did_then first h Reset ps may gives r = absurd may
@@ -75,16 +63,12 @@ cut_off first (made_end ∷ h) c is = absurd (let e = sym (ap stands_still (cut_
 cut_off first (evened ∷ h) c is = not_standing first h c.0.rests.stands (cut_off first h c.1 is)
 cut_off first (paused ∷ h) c is = absurd cc
 cut_off first (became call m ∷ h) c is =
-    let o = cut_off first h c.1 (and_right (is_cancelling m) (has_cut h) is) in
-    record { cancelled = cancels m (and_left (is_cancelling m) (has_cut h) is); blocks = o.blocks; none = o.none }
+    let o = cut_off first h c.1 (both_right (is_cancelling m) (has_cut h) is) in
+    record { cancelled = cancels m (both_left (is_cancelling m) (has_cut h) is); blocks = o.blocks; none = o.none }
 cut_off first (cut k ∷ h) c is = record { cancelled = c.0.cancelled; blocks = refl; none = asks_dropped (left_of first h) }
 cut_off first (halted ∷ h) c is = absurd (let e = sym c.0.alarm ∙ (cut_off first h c.1 is).cancelled in cc)
 cut_off first (closing ∷ h) c is = let o = cut_off first h c.1 is in record { cancelled = o.cancelled; blocks = o.blocks; none = refl }
 cut_off first (turned t ∷ h) c is = let o = cut_off first h c.1 is in record { cancelled = o.cancelled; blocks = o.blocks; none = o.none }
-
-by_not : (b : Bool) → (b ≡ true → ⊥) → b ≡ false
-by_not true other = absurd (other refl)
-by_not false other = refl
 
 -- in another state of the motion they were not
 pub uncut_else : (first : Opening) (h : Journal) → Conducted first h → (motion_of first h ≡ motions.Cancelling → ⊥) → has_cut h ≡ false

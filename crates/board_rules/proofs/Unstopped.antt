@@ -1,7 +1,6 @@
 -- What went to the pulse, by a board's log: all pieces that were published; and since the beginning where the log has no stop, as a
 -- journal's has none.
-use Rattle.std.proofs.Common.{◌≡◌, ℕ, ◌+◌, ◌-◌, ◌^◌, ◌<◌, ◌≤◌, List, [], ◌∷◌, ◌++◌, length, reverse, refl, sym, ap, ◌∙◌, subst, arith, append-nil}
-use Rattle.std.proofs.lemmas.Grind.{reverse_onto}
+use Rattle.std.proofs.Common.{◌≡◌, ℕ, ◌+◌, ◌-◌, ◌^◌, ◌<◌, ◌≤◌, [], ◌∷◌, length, reverse, refl, sym, ap, ◌∙◌, subst, arith, append-nil}
 use Rattle.std.proofs.lemmas.List.{reverse-append, reverse-reverse}
 use Rattle.step_line.specs.declared.Piece.{Piece}
 use Rattle.step_line.specs.Finishing.{tick_count, ticks_together, unfinished, most_unfinished}
@@ -9,21 +8,12 @@ use Rattle.step_line.specs.Ordering.{ComesNext, InTurn, has_ended}
 use Rattle.motion_ring.specs.declared.lists.Sent.{Sent}
 use Rattle.motion_ring.specs.Sides as ring
 use Rattle.motion_ring.proofs.Ticks.{together_reversed, few_pieces}
-use Rattle.run_rules.specs.declared.State.{State}
-use Rattle.board_rules.specs.Openings.{Opening, first_opening}
+use Rattle.board_rules.specs.Openings.{Opening}
 use Rattle.board_rules.specs.Ports.{BoardLog, published_in, sent_in, unstopped, MayPublish, MayBeDone}
-use Rattle.board_rules.specs.Ports.PortStep.{answered, no_reply_room, published, no_piece_room, stored_stop, found_halt}
+use Rattle.board_rules.specs.Ports.PortStep.{published, stored_stop, found_halt}
 use Rattle.board_rules.specs.Steps.{Journal, port_log, published_of}
-use Rattle.board_rules.specs.Steps.Step.{at_port, turned}
+use Rattle.board_rules.specs.Steps.Step.{at_port}
 use Rattle.board_rules.specs.Conduct.{Conducted, ticks_published}
-use Rattle.board_rules.specs.Breaking.{Doings, EndsRun, IsConducted, log_of}
-use Rattle.board_rules.specs.Breaking.Doings.{goes, broke}
-
--- what was published is what went to the pulse, up to a halt and since
-pub published_back : (l : BoardLog) → published_in l ≡ reverse (ring.published_in (sent_in l))
-published_back [] = refl
-published_back (published p ∷ l) = ap (λ (ps : List Piece). ps ++ p ∷ []) (published_back l) ∙ sym (reverse_onto (ring.published_in (sent_in l)) p [])
-published_back (_ ∷ l) = published_back l
 
 -- no stop was stored, and no halt found
 abbrev pub NeverStops : BoardLog → Type 0
@@ -37,23 +27,6 @@ journals_never_stop first [] c = tt
 journals_never_stop first (at_port stored_stop ∷ h) c = c.0
 journals_never_stop first (at_port (found_halt n) ∷ h) c = c.0
 journals_never_stop first (_ ∷ h) c = journals_never_stop first h c.1
-
--- nor after a reset that ends the run
-ends_never_stop : (since before : Journal) → EndsRun since before → NeverStops (port_log before) → NeverStops (port_log since ++ port_log before)
-ends_never_stop [] before c n = n
-ends_never_stop (at_port (published p) ∷ since) before c n = ends_never_stop since before c.1 n
-ends_never_stop (at_port (no_piece_room done) ∷ since) before c n = ends_never_stop since before c.1 n
-ends_never_stop (at_port (answered r) ∷ since) before c n = ends_never_stop since before c.1 n
-ends_never_stop (at_port no_reply_room ∷ since) before c n = ends_never_stop since before c.1 n
-ends_never_stop (turned t ∷ since) before c n = ends_never_stop since before c.1 n
-ends_never_stop (_ ∷ since) before c n = absurd c.0
-
-pub ended_never_stop : (first : Opening) (since before : Journal) → Conducted first before → EndsRun since before → NeverStops (port_log since ++ port_log before)
-ended_never_stop first since before c ends = ends_never_stop since before ends (journals_never_stop first before c)
-
-pub boards_never_stop : (first : State) (d : Doings) → IsConducted first d → NeverStops (log_of d)
-boards_never_stop first (goes h) c = journals_never_stop (first_opening first) h c
-boards_never_stop first (broke since before) c = ended_never_stop (first_opening first) since before c.0 c.2
 
 -- ---- what went to the pulse then
 
@@ -71,19 +44,6 @@ same_unfinished : (l : BoardLog) (done : ℕ) → NeverStops l → ring.unfinish
 same_unfinished l done n =
     let all : done - 0 ≡ done = omega arith in
     ap (λ (s : Sent). ring.unfinished_in s done) (sent_alone l n) ∙ (λ i. unfinished (reverse-reverse (published_in l) i) (all i))
-
--- pieces behind what went to it before
-abbrev pub onward : List Piece → Sent → Sent
-onward ps s = record s { since = ps ++ s.since }
-
--- what is done behind a log, with no stop, only adds pieces to those that were published since its last halt
-pub sent_onward : (l before : BoardLog) → NeverStops l → sent_in (l ++ before) ≡ onward (reverse (published_in l)) (sent_in before)
-sent_onward [] before n = refl
-sent_onward (published p ∷ l) before n =
-    ap (λ (s : Sent). ring.with_piece s p) (sent_onward l before n) ∙ ap (λ (ps : List Piece). onward ps (sent_in before)) (sym (reverse-append (published_in l) (p ∷ [])))
-sent_onward (stored_stop ∷ l) before n = absurd n
-sent_onward (found_halt done ∷ l) before n = absurd n
-sent_onward (_ ∷ l) before n = sent_onward l before n
 
 -- a piece may be published that comes next of all pieces
 pub may_publish_alone : (l : BoardLog) (p : Piece) → NeverStops l → InTurn (reverse (published_in l)) → ComesNext (reverse (published_in l)) p → ticks_together (published_in l) + tick_count p < 2 ^ 62 → MayPublish l p

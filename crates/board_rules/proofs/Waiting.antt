@@ -24,6 +24,7 @@ use Rattle.board_rules.proofs.Opening.{none_asked_told, no_halt_told}
 use Rattle.board_rules.proofs.Dropping.{tell_kept}
 use Rattle.board_rules.proofs.Closing.{spent}
 use Rattle.board_rules.proofs.Unstopped.{unfinished_there}
+use Rattle.board_rules.proofs.Truths.{neither_right}
 
 -- ---- why it waits
 
@@ -99,7 +100,7 @@ reply_is_next first (_ ∷ h) c lacks still = reply_is_next first h c.1 lacks st
 -- ---- what is done between two turns
 
 -- a move that is next is added, unless the plan is full
-pub adds : (first : Opening) (h : Journal) (m : PlannedMove) → Conducted first h → this_turn h ≡ [] → IsNextTask first (ask (a_move m)) h → is_full (plan_of h) ≡ true
+pub adds : (first : Opening) (h : Journal) (m : PlannedMove) → Conducted first h → this_turn h ≡ [] → IsNextTask first (ask (a_move m)) h → is_full first.blocks (plan_of h) ≡ true
 adds first [] m c between next = none_asked_told first.tells (a_move m) _ next
 adds first (turned Did ∷ h) m c between next = c.0.adds m next
 adds first (turned (Wait o) ∷ h) m c between next = c.0.ends.adds m next
@@ -109,15 +110,11 @@ adds first (_ ∷ h) m c between next = absurd cc
 no_blocks : {A : Type 0} (blocks : List Block) → blocks ≡ [] → has_blocks blocks ≡ true → A
 no_blocks blocks none some = absurd (let e = sym some ∙ ap has_blocks none in cc)
 
-or_right : (a b : Bool) → (a || b) ≡ false → b ≡ false
-or_right true b none = absurd cc
-or_right false b none = none
-
 -- no queued block waits for a start that is called for
 pub starts : (first : Opening) (h : Journal) → Conducted first h → this_turn h ≡ [] → AreWaiting first h → starts_cycle first h ≡ false
 starts first [] c between w = no_blocks [] refl w.blocks
-starts first (turned Did ∷ h) c between w = or_right (list_any found_none (this_turn h)) _ (c.0.starts (record { stands = w.stands; blocks = w.blocks }))
-starts first (turned (Wait o) ∷ h) c between w = or_right (list_any found_none (this_turn h)) _ (c.0.ends.starts (record { stands = w.stands; blocks = w.blocks }))
+starts first (turned Did ∷ h) c between w = neither_right (list_any found_none (this_turn h)) _ (c.0.starts (record { stands = w.stands; blocks = w.blocks }))
+starts first (turned (Wait o) ∷ h) c between w = neither_right (list_any found_none (this_turn h)) _ (c.0.ends.starts (record { stands = w.stands; blocks = w.blocks }))
 starts first (turned Done ∷ h) c between w = no_blocks (plan_of h).blocks (spent first h c.1 c.0.finished).plan.blocks w.blocks
 starts first (_ ∷ h) c between w = absurd cc
 

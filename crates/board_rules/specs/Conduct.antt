@@ -18,7 +18,7 @@ use Rattle.overrides.specs.Percents.{taken}
 use Rattle.plan_rules.specs.Plans.{Planned}
 use Rattle.planner_runs.specs.declared.Action.{Action}
 use Rattle.planner_runs.specs.declared.Action.TheVariants.{Add, Take, Override, Mark, Rest, Clear, Reset}
-use Rattle.planner_runs.specs.Runs.{Plans, IsAtRest, most_blocks, normal_overrides}
+use Rattle.planner_runs.specs.Runs.{Plans, IsAtRest, normal_overrides}
 use Rattle.run_rules.specs.Work.{Task, Outcome}
 use Rattle.run_rules.specs.Work.Task.{ask, tell, pause, normal, finish, halt}
 use Rattle.run_rules.specs.Finding.{Found}
@@ -38,7 +38,7 @@ use Rattle.step_line.specs.declared.Piece.{Piece}
 use Rattle.step_line.specs.declared.Piece.TheVariants as pieces
 use Rattle.step_line.specs.declared.planned_move.PlannedMove.{PlannedMove}
 use Rattle.step_line.specs.Finishing.{ticks_together}
-use Rattle.board_rules.specs.Openings.{Opening, IsGreeting, most_greetings}
+use Rattle.board_rules.specs.Openings.{Opening, IsGreeting, IsPlanSize, most_greetings}
 use Rattle.board_rules.specs.Ports.{PortStep, BoardLog, asks_report, has_changes, MayBeDone, HasTakenFew, HasFewReports, LacksPieceRoom}
 use Rattle.board_rules.specs.Ports.PortStep.{took, found_empty, found_closed, answered, reported, no_reply_room, found_mark, took_exec, took_ovr, published, no_piece_room, loaded, stored_stop, found_no_halt, found_halt}
 use Rattle.board_rules.specs.Cuts.{has_cut}
@@ -191,9 +191,9 @@ MayDo first (Override o) h = AreChanged o h
 MayDo first Clear h = ⊥
 MayDo first Reset h = ⊥
 
--- an action gives these pieces
-abbrev pub Gives : Action → List Piece → Planned → Type 0
-Gives a ps p = Plans most_blocks p (a ∷ []) ps (plan_after a ps p)
+-- an action gives these pieces, of a plan of at most so many blocks
+abbrev pub Gives : ℕ → Action → List Piece → Planned → Type 0
+Gives blocks a ps p = Plans blocks p (a ∷ []) ps (plan_after a ps p)
 
 -- the end is made when nothing is left to run, each tick is done, and the machine stands, also in alarm; and only by
 -- closing the run
@@ -297,7 +297,7 @@ pub record MayPause (first : Opening) (h : Journal) : Type 0 where
 -- At the end of a program, when the machine stands, it is planned for overrides of 100 percent.
 pub record MayEven (first : Opening) (h : Journal) : Type 0 where
   pub rests : MayRest first normal h
-  pub replans : Gives (Override normal_overrides) [] (plan_of h)
+  pub replans : Gives first.blocks (Override normal_overrides) [] (plan_of h)
 
 -- queued blocks wait for a start
 pub record AreWaiting (first : Opening) (h : Journal) : Type 0 where
@@ -323,9 +323,9 @@ feed_of speed = root_of speed * 60 / 1000
 
 -- the room that a report shows, if it shows any: for blocks of the plan, and for bytes of the link, by a load in this
 -- turn
-abbrev pub IsRoom : Option (ℕ × ℕ) → Journal → Type 0
-IsRoom None h = Unit {0}
-IsRoom (Some (blocks, bytes)) h = (blocks + length (plan_of h).blocks ≡ most_blocks) × (list_any (finds_free bytes) (this_turn h) ≡ true)
+abbrev pub IsRoom : Opening → Option (ℕ × ℕ) → Journal → Type 0
+IsRoom first None h = Unit {0}
+IsRoom first (Some (blocks, bytes)) h = (blocks + length (plan_of h).blocks ≡ first.blocks) × (list_any (finds_free bytes) (this_turn h) ≡ true)
 
 -- A report is answered for a word that was taken and asked for one, so behind the banner. In its turn the done ticks were loaded: the place
 -- is that after these, on all axes; the cycle is over if nothing is left to run and each is done, and a machine that
@@ -336,7 +336,7 @@ pub record IsReportAt (first : Opening) (r : Report) (h : Journal) : Type 0 wher
   pub idle : IsDrained h → is_going (motion_of first h) ≡ false
   pub stopped : IsStopped first h → ⊥
   pub shows : Shows (machine_from first.place (published_of h) (known_of h)) (before_of first h).state r
-  pub room : IsRoom r.buffer h
+  pub room : IsRoom first r.buffer h
   pub feed : r.f ≡ cond (nat_lt (known_of h) (ticks_given h)) (feed_of (plan_of h).speed) 0
   pub overrides : r.ov ≡ (plan_of h).overrides
   pub state : r.state ≡ shown_as (motion_of first h)
@@ -400,7 +400,7 @@ pub record MayClose (first : Opening) (h : Journal) : Type 0 where
 -- change, once; and a machine that is to be halted slows down for that, or stands in alarm.
 pub record EndsTurn (first : Opening) (h : Journal) : Type 0 where
   pub once : count_by publishing (this_turn h) ≤ 1
-  pub adds : (m : PlannedMove) → IsNextTask first (ask (a_move m)) h → is_full (plan_of h) ≡ true
+  pub adds : (m : PlannedMove) → IsNextTask first (ask (a_move m)) h → is_full first.blocks (plan_of h) ≡ true
   pub starts : AreWaiting first h → starts_cycle first h ≡ false
   pub tries : tries_of first h ≤ most_tries
   pub obeyed : owes_report h ≡ false → unobeyed_of h ≡ []
@@ -470,7 +470,7 @@ MayTurn first Done h = IsOver first h
 abbrev pub MayStep : Opening → Step → Journal → Type 0
 MayStep first (at_port e) h = MayAtPort first e h
 MayStep first (began o) h = MayBegin first o h
-MayStep first (did a ps) h = MayDo first a h × Gives a ps (plan_of h)
+MayStep first (did a ps) h = MayDo first a h × Gives first.blocks a ps (plan_of h)
 MayStep first made_end h = MayEnd first h
 MayStep first evened h = MayEven first h
 MayStep first paused h = MayPause first h
@@ -480,12 +480,14 @@ MayStep first halted h = MayHalt first h
 MayStep first closing h = MayClose first h
 MayStep first (turned t) h = MayTurn first t h
 
--- A journal may begin so: the machine stands, also in alarm, and what greets is short, answers nothing, and has one Banner.
+-- A journal may begin so: the machine stands, also in alarm, and what greets is short, answers nothing, and has one Banner; and the plan
+-- has room for a block.
 pub record MayOpen (first : Opening) : Type 0 where
   pub stands : stands_still first.motion ≡ true
   pub greets : AllByRecursion IsGreeting first.tells
   pub banner : count_by is_banner first.tells ≡ 1
   pub few : length first.tells ≤ most_greetings
+  pub sized : IsPlanSize first.blocks
 
 -- the machine stands in alarm since the opening: it is locked
 abbrev pub IsLocked : Opening → Journal → Type 0

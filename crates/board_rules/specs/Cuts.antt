@@ -8,8 +8,7 @@ use Rattle.feed_hold.specs.declared.Motion.TheVariants.{Cancelling}
 use Rattle.flight.specs.Places.{end_from}
 use Rattle.plan_rules.specs.Plans.{Planned}
 use Rattle.planner_runs.specs.declared.Action.{Action}
-use Rattle.planner_runs.specs.declared.Action.TheVariants.{Override}
-use Rattle.planner_runs.specs.Runs.{normal_overrides, fresh_plan, cleared}
+use Rattle.planner_runs.specs.Runs.{fresh_plan, cleared}
 use Rattle.run_rules.specs.Work.{Outcome, asks}
 use Rattle.run_rules.specs.Cuts.{counts_asked, cut_to}
 use Rattle.run_rules.specs.Outcomes.{Passed}
@@ -20,33 +19,30 @@ use Rattle.step_line.specs.declared.Piece.{Piece}
 use Rattle.board_rules.specs.Openings.{Opening}
 use Rattle.board_rules.specs.Ports.{PortStep, BoardLog}
 use Rattle.board_rules.specs.Ports.PortStep.{took_exec}
-use Rattle.board_rules.specs.Steps.{Step, Journal, plan_after, plan_of, given_of, left_of, motion_of}
-use Rattle.board_rules.specs.Steps.Step.{began, did, evened, paused, became, cut, halted}
+use Rattle.board_rules.specs.Steps.{Step, Journal, outcomes_of, actions_of, planned_of, plan_from, plan_of, given_of, left_of, motion_of}
+use Rattle.board_rules.specs.Steps.Step.{began, paused, became, cut, halted}
 use Rattle.board_rules.specs.Parts.{Part, counts_in}
 
 -- ---- since the last cut
 
+-- the steps since then, but for a halt: it only drops what is left of the plan
+abbrev pub since_cut : Journal → Journal
+since_cut [] = []
+since_cut (cut k ∷ h) = []
+since_cut (halted ∷ h) = since_cut h
+since_cut (s ∷ h) = s ∷ since_cut h
+
 -- what became of the lines that were begun
 abbrev pub part_outcomes : Journal → List Outcome
-part_outcomes [] = []
-part_outcomes (began o ∷ h) = part_outcomes h ++ o ∷ []
-part_outcomes (cut k ∷ h) = []
-part_outcomes (_ ∷ h) = part_outcomes h
+part_outcomes h = outcomes_of (since_cut h)
 
 -- what was done to the plan
 abbrev pub part_actions : Journal → List Action
-part_actions [] = []
-part_actions (did a ps ∷ h) = part_actions h ++ a ∷ []
-part_actions (evened ∷ h) = part_actions h ++ Override normal_overrides ∷ []
-part_actions (cut k ∷ h) = []
-part_actions (_ ∷ h) = part_actions h
+part_actions h = actions_of (since_cut h)
 
 -- the pieces that it gave
 abbrev pub part_given : Journal → List Piece
-part_given [] = []
-part_given (did a ps ∷ h) = part_given h ++ ps
-part_given (cut k ∷ h) = []
-part_given (_ ∷ h) = part_given h
+part_given h = planned_of (since_cut h)
 
 -- the plan with which this began
 abbrev pub part_start : Journal → Planned
@@ -54,13 +50,9 @@ part_start [] = fresh_plan
 part_start (cut k ∷ h) = cleared (plan_of h)
 part_start (_ ∷ h) = part_start h
 
--- the plan after what was done to it; nothing is done to it after a halt, which drops what is left of it
+-- the plan after what was done to it; nothing is done to it after a halt
 abbrev pub part_plan : Journal → Planned
-part_plan [] = fresh_plan
-part_plan (did a ps ∷ h) = plan_after a ps (part_plan h)
-part_plan (evened ∷ h) = plan_after (Override normal_overrides) [] (part_plan h)
-part_plan (cut k ∷ h) = cleared (part_plan h)
-part_plan (_ ∷ h) = part_plan h
+part_plan h = plan_from (part_start h) (since_cut h)
 
 -- the machine was halted
 abbrev pub is_halt : Step → Bool

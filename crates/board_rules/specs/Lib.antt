@@ -8,7 +8,6 @@ pub mod Conduct
 pub mod Within
 pub mod Limiting
 pub mod Whole
-pub mod Breaking
 pub mod Takes
 pub use Rattle.planner_runs.specs.Runs
 pub use Rattle.run_rules.specs.Lines

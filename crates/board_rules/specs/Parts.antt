@@ -8,7 +8,7 @@ use Rattle.units.specs.declared.Steps3.{Steps3}
 use Rattle.planner_runs.specs.declared.Action.{Action}
 use Rattle.planner_runs.specs.declared.Action.TheVariants.{Mark, Clear}
 use Rattle.planner_runs.specs.Halted.{HasHaltedHeads}
-use Rattle.planner_runs.specs.Runs.{Plans, IsStart, DisturbedOnlyBy, fresh_plan, cleared, most_blocks, all_asked, moves_added, ticks_left, all_records}
+use Rattle.planner_runs.specs.Runs.{Plans, IsStart, DisturbedOnlyBy, fresh_plan, cleared, all_asked, moves_added, ticks_left, all_records}
 use Rattle.run_rules.specs.Work.{Outcome, asks, accepted_jog}
 use Rattle.run_rules.specs.Cuts.{LosesJogsAlone, counts_asked, cut_to, with_cut}
 use Rattle.run_rules.specs.Outcomes.{Passed}
@@ -39,12 +39,12 @@ pub record Part : Type 0 where
 abbrev pub DropsLast : List Asked → List Outcome → Type 0
 DropsLast dropped outcomes = (dropped ≡ []) ⊎ ((early : List Outcome) × (o : Outcome) × (outcomes ≡ early ++ o ∷ []) × (asks o.work ≡ dropped) × (accepted_jog o.kind ≡ true))
 
--- Such a part is a planner run from where the machine stood to where it has come to a stop, so that its heads are legal
+-- Such a part, of a plan of at most so many blocks, is a planner run from where the machine stood to where it has come to a stop, so that its heads are legal
 -- and a cut may break a move off. What its lines ask for was done, or was left to ask by the last of them, a jog; so the
 -- ticks that were given are the first of those that the lines ask for, and the others are of jogs alone.
-pub record IsCutPart (p : Part) : Type 0 where
+pub record IsCutPart (blocks : ℕ) (p : Part) : Type 0 where
   pub starts : IsStart p.start
-  pub run : Plans most_blocks p.start p.actions p.given p.plan
+  pub run : Plans blocks p.start p.actions p.given p.plan
   pub stops : p.plan.speed ≡ 0
   pub heads : HasLegalHeads (moves_added p.actions) (all_records p.given ++ kinds.Mark (marks.Cut p.number) ∷ [])
   pub asks : asked_in p.outcomes ≡ all_asked p.actions ++ p.dropped
@@ -52,13 +52,13 @@ pub record IsCutPart (p : Part) : Type 0 where
   pub ticks : ticks_of_all (asked_in p.outcomes) ≡ flat_map ticks_of p.given ++ (ticks_left p.plan ++ ticks_of_all p.dropped)
   pub jogs : LosesJogsAlone (ticks_together p.given) p.outcomes
 
--- The last part of a run that an alarm has ended: a planner run from where the machine stood to where it has come to a
+-- The last part of a run that an alarm has ended: a planner run, of a plan of at most so many blocks, from where the machine stood to where it has come to a
 -- stop. What its lines ask for was done, so the ticks that were given are the first of those that the lines ask for,
 -- and the others are dropped; they hold all of the lines up to the last that settles. Its heads are legal up to the
 -- end, which may break a move off.
-pub record IsAlarmedPart (outcomes : List Outcome) (start : Planned) (actions : List Action) (given : List Piece) (plan : Planned) : Type 0 where
+pub record IsAlarmedPart (blocks : ℕ) (outcomes : List Outcome) (start : Planned) (actions : List Action) (given : List Piece) (plan : Planned) : Type 0 where
   pub starts : IsStart start
-  pub run : Plans most_blocks start actions given plan
+  pub run : Plans blocks start actions given plan
   pub stops : plan.speed ≡ 0
   pub heads : HasHaltedHeads (moves_added actions) (all_records given ++ kinds.End ∷ [])
   pub asks : asked_in outcomes ≡ all_asked actions

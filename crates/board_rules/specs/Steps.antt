@@ -211,14 +211,18 @@ plan_after Clear ps p = cleared p
 plan_after Reset ps p = cleared p
 plan_after a ps p = p
 
--- the plan that the actions leave
+-- the plan that the actions leave of this one
+abbrev pub plan_from : Planned → Journal → Planned
+plan_from p [] = p
+plan_from p (did a ps ∷ h) = plan_after a ps (plan_from p h)
+plan_from p (evened ∷ h) = plan_after (Override normal_overrides) [] (plan_from p h)
+plan_from p (cut k ∷ h) = cleared (plan_from p h)
+plan_from p (halted ∷ h) = cleared (plan_from p h)
+plan_from p (_ ∷ h) = plan_from p h
+
+-- the plan that they leave of the fresh one
 abbrev pub plan_of : Journal → Planned
-plan_of [] = fresh_plan
-plan_of (did a ps ∷ h) = plan_after a ps (plan_of h)
-plan_of (evened ∷ h) = plan_after (Override normal_overrides) [] (plan_of h)
-plan_of (cut k ∷ h) = cleared (plan_of h)
-plan_of (halted ∷ h) = cleared (plan_of h)
-plan_of (_ ∷ h) = plan_of h
+plan_of h = plan_from fresh_plan h
 
 -- the state of the motion
 abbrev pub motion_of : Opening → Journal → Motion

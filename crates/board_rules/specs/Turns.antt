@@ -227,7 +227,7 @@ has_jogged (_ ∷ h) = has_jogged h
 -- Queued blocks start the cycle in this turn: a poll found no byte, or the link closed; the plan is full; what is next
 -- waits for the motion; or they are of a jog, which starts at once.
 abbrev pub starts_cycle : Opening → Journal → Bool
-starts_cycle first h = list_any found_none (this_turn h) || (is_full (plan_of h) || (awaits_motion (left_of first h) || has_jogged h))
+starts_cycle first h = list_any found_none (this_turn h) || (is_full first.blocks (plan_of h) || (awaits_motion (left_of first h) || has_jogged h))
 
 -- they do also if a line is next that begins with `$`, before it is begun
 abbrev pub starts_before_line : Opening → Journal → Bool
@@ -282,7 +282,7 @@ is_due first h = has_segment (motion_of first h) (plan_of h)
 
 -- what is next does not go on while the machine is held, or slows down for that
 abbrev pub is_held_up : Opening → Journal → Bool
-is_held_up first h = needs_motion (left_of first h) (whole_of h) (is_full (plan_of h))
+is_held_up first h = needs_motion (left_of first h) (whole_of h) (is_full first.blocks (plan_of h))
 
 -- ---- from turn to turn
 

@@ -120,4 +120,4 @@ pub record HasTried (first : Opening) (published : Bool) (h next : Journal) : Ty
   pub words : unobeyed_of next ≡ unobeyed_of h
   pub worked : AreWorked h → AreWorked next
   pub waiting : AreWaiting first next → AreWaiting first h
-  pub full : is_full (plan_of next) ≡ true → is_full (plan_of h) ≡ true
+  pub full : is_full first.blocks (plan_of next) ≡ true → is_full first.blocks (plan_of h) ≡ true

@@ -16,8 +16,8 @@ ghost use Rattle.outside.specs.declared.On.TheVariants as causes;
 ghost use Rattle.outside.specs.declared.Turn.{Turn as AnyTurn};
 ghost use Rattle.outside.specs.declared.Turn.TheVariants.{Wait};
 ghost use Rattle.planner_runs.specs.declared.Action.TheVariants.{Take};
-ghost use Rattle.planner_runs.specs.Runs.{IsPlannerRun, IsAtRest, Plans, IsStart, most_blocks, normal_overrides, all_asked, ticks_left};
-ghost use Rattle.board_rules.specs.Openings.{Opening, IsPlaced, before_first, first_opening, up_to_banner};
+ghost use Rattle.planner_runs.specs.Runs.{IsPlannerRun, IsAtRest, Plans, IsStart, normal_overrides, all_asked, ticks_left};
+ghost use Rattle.board_rules.specs.Openings.{Opening, IsPlaced, IsPlanSize, before_first, first_opening, up_to_banner};
 ghost use Rattle.run_rules.specs.declared.State.{State};
 ghost use Rattle.run_rules.specs.States.{IsOpening};
 ghost use Rattle.run_rules.specs.Work.{Outcome, is_limit, tells, asks};
@@ -174,14 +174,16 @@ pub fn boards_do_a_bounded_amount()
 {}
 
 /// What a board does to its plan is a planner run; and so is what it has done since the last cut, from where nothing
-/// was left to run, to the plan as it is, or to what a halt has dropped. Only a word that asks for a hold or a cancel
+/// was left to run, to the plan as it is, or to what a halt has dropped. The plan has no more blocks than it may hold
+/// (`sized`). Only a word that asks for a hold or a cancel
 /// slows it down, and behind the line that raised an alarm that alarm; and only a word that changes overrides plans it for others than 100 percent. Only cuts and halts take blocks away. Segments go on while the machine runs or
 /// jogs, and slow it down while it is being held, a jog is cancelled, or an alarm stops it. What was given is what the
 /// plan gave, and the end after it if it was made; it is published, or in hand, and comes in turn, so that the piece in
 /// hand may be published.
 pub fn boards_run_their_plan()
-    ensures run { (first : Opening) (h : Journal) → Conducted first h → IsPlannerRun (actions_of h) (planned_of h) (plan_of h) }
-    ensures part { (first : Opening) (h : Journal) → Conducted first h → IsStart (part_start h) × Plans most_blocks (part_start h) (part_actions h) (part_given h) (part_plan h) }
+    ensures run { (first : Opening) (h : Journal) → Conducted first h → IsPlannerRun first.blocks (actions_of h) (planned_of h) (plan_of h) }
+    ensures sized { (first : Opening) (h : Journal) → Conducted first h → length (plan_of h).blocks ≤ first.blocks }
+    ensures part { (first : Opening) (h : Journal) → Conducted first h → IsStart (part_start h) × Plans first.blocks (part_start h) (part_actions h) (part_given h) (part_plan h) }
     ensures disturbed { (first : Opening) (h : Journal) → Conducted first h →
         IsSlowedOnlyBy (has_slowed_in (port_log h)) (has_limited h) (has_changed_in (port_log h)) (asked_in (part_outcomes h)) (part_actions h) }
     ensures parts { (first : Opening) (h : Journal) → Conducted first h →
@@ -277,14 +279,17 @@ pub fn boards_take_their_flags()
 {}
 
 /// Each report fits what was done before it: the place is that after the ticks that were found done in its turn, on all
-/// axes, and all else is of the same moment. A machine that has run out is not reported as running, nor one that has
+/// axes, and all else is of the same moment. If it shows blocks, they are those for which the plan has room. A machine
+/// that has run out is not reported as running, nor one that has
 /// stopped as slowing down. So it fits the whole run: the ticks that reports show never fall, they are at least those
 /// of the lines up to the last answered one that settles, and at most those of the next line; and a machine that
 /// nothing moves stands. For each word that asks for a report there is one at most.
 pub fn boards_report_where_they_are()
     ensures fits { (first : Opening) (h : Journal) → Conducted first h → Reported (course_of first h) (reverse (answered_of h)) (known_of h) }
     ensures told { (first : Opening) (h : Journal) (r : AnyReport) → Conducted first (at_port (reported r) ∷ h) →
-        (list_any loads (this_turn h) ≡ true) × ((IsDrained h → is_going (motion_of first h) ≡ false) × ((IsStopped first h → ⊥) × IsRoom r.buffer h)) }
+        (list_any loads (this_turn h) ≡ true) × ((IsDrained h → is_going (motion_of first h) ≡ false) × ((IsStopped first h → ⊥) × IsRoom first r.buffer h)) }
+    ensures free { (first : Opening) (h : Journal) (r : AnyReport) (blocks bytes : ℕ) → Conducted first (at_port (reported r) ∷ h) → r.buffer ≡ Some (blocks, bytes) →
+        blocks + length (plan_of h).blocks ≡ first.blocks }
     ensures few { (first : Opening) (h : Journal) → Conducted first h → reports_among (answered_of h) + cond (owes_report h) 1 0 ≤ reports_in (port_log h) }
 {}
 
@@ -313,7 +318,7 @@ pub fn boards_wait_for_a_cause()
 /// most is begun, and four turns at most end in a wait, between two tries to publish a piece: so the pulse is not left
 /// without segments by lines and replies.
 pub fn boards_keep_the_pulse_busy()
-    ensures adds { (first : Opening) (h : Journal) (m : AnyMove) → Conducted first h → this_turn h ≡ [] → IsNextTask first (ask (a_move m)) h → is_full (plan_of h) ≡ true }
+    ensures adds { (first : Opening) (h : Journal) (m : AnyMove) → Conducted first h → this_turn h ≡ [] → IsNextTask first (ask (a_move m)) h → is_full first.blocks (plan_of h) ≡ true }
     ensures starts { (first : Opening) (h : Journal) → Conducted first h → this_turn h ≡ [] → AreWaiting first h → starts_cycle first h ≡ false }
     ensures jogs { (first : Opening) (h : Journal) → Conducted first h → this_turn h ≡ [] → has_jog_to_start first h ≡ false }
     ensures lines { (first : Opening) (h : Journal) → Conducted first h → begun_while_due first h ≤ 1 }
@@ -329,7 +334,7 @@ pub fn boards_keep_the_pulse_busy()
 /// ticks count that it asks for, less those that a cut or a halt dropped; a cut counts with the last line before it.
 /// Together they are those that were given, that are left in the plan, and that are to be asked.
 pub fn cuts_lose_jogs_alone()
-    ensures parts { (first : Opening) (h : Journal) → Conducted first h → AllByRecursion IsCutPart (parts_of first h) }
+    ensures parts { (first : Opening) (h : Journal) → Conducted first h → AllByRecursion (λ p. IsCutPart first.blocks p) (parts_of first h) }
     ensures starts { (first : Opening) (h : Journal) → part_start h ≡ plan_behind (parts_of first h) }
     ensures joined { (first : Opening) (h : Journal) → AreJoined (parts_of first h) }
     ensures lines { (first : Opening) (h : Journal) → Conducted first h → outcomes_of h ≡ lines_in (parts_of first h) ++ part_outcomes h }
@@ -389,7 +394,7 @@ pub fn boards_halt_at_alarms()
 /// was halted.
 pub fn halts_drop_what_is_left()
     ensures part { (first : Opening) (h : Journal) → Conducted first h → has_halted h ≡ true →
-        IsAlarmedPart (part_outcomes h) (part_start h) (part_actions h) (part_given h) (part_plan h) }
+        IsAlarmedPart first.blocks (part_outcomes h) (part_start h) (part_actions h) (part_given h) (part_plan h) }
     ensures stands { (first : Opening) (h : Journal) → Conducted first h → has_halted h ≡ true →
         IsAtRest (plan_of h) × (motion_of first h ≡ Alarm) × (known_of h ≡ ticks_given h) }
     ensures alarmed { (first : Opening) (h : Journal) → Conducted first h → has_halted h ≡ true → has_limited h ≡ true }
@@ -419,15 +424,15 @@ pub fn machines_are_unlocked_by_lines()
 /// A run may begin from its first opening: the next line is the first one, the position is where the machine stands, at
 /// the origin, and it is not locked. So what holds of a journal from any opening holds of a run.
 pub fn runs_begin_from_an_opening()
-    ensures opens { (state : State) → MayOpen (first_opening state) }
-    ensures before { (state : State) → before_first (first_opening state) ≡ start state }
-    ensures placed { (state : State) → IsOpening state → IsPlaced (first_opening state) }
-    ensures machine { (state : State) (ps : List AnyPiece) (done : ℕ) → machine_from (first_opening state).place ps done ≡ machine_at ps done }
-    ensures free { (state : State) (h : Journal) → IsLocked (first_opening state) h → ⊥ }
-    ensures unlocked { (state : State) (h : Journal) → is_locked (first_opening state) h ≡ false }
-    ensures follow { (state : State) (h : Journal) → Conducted (first_opening state) h →
-        Follows true (start state) (lines_of h) (passed_of (first_opening state) h) (before_of (first_opening state) h) }
-    ensures told { (state : State) (outcomes : List Outcome) → replies_after (first_opening state).tells outcomes ≡ replies_in outcomes }
+    ensures opens { (blocks : ℕ) (state : State) → IsPlanSize blocks → MayOpen (first_opening blocks state) }
+    ensures before { (blocks : ℕ) (state : State) → before_first (first_opening blocks state) ≡ start state }
+    ensures placed { (blocks : ℕ) (state : State) → IsOpening state → IsPlaced (first_opening blocks state) }
+    ensures machine { (blocks : ℕ) (state : State) (ps : List AnyPiece) (done : ℕ) → machine_from (first_opening blocks state).place ps done ≡ machine_at ps done }
+    ensures free { (blocks : ℕ) (state : State) (h : Journal) → IsLocked (first_opening blocks state) h → ⊥ }
+    ensures unlocked { (blocks : ℕ) (state : State) (h : Journal) → is_locked (first_opening blocks state) h ≡ false }
+    ensures follow { (blocks : ℕ) (state : State) (h : Journal) → Conducted (first_opening blocks state) h →
+        Follows true (start state) (lines_of h) (passed_of (first_opening blocks state) h) (before_of (first_opening blocks state) h) }
+    ensures told { (blocks : ℕ) (state : State) (outcomes : List Outcome) → replies_after (first_opening blocks state).tells outcomes ≡ replies_in outcomes }
 {}
 
 /// A journal tells the pulse of no stop and finds no halt: what went to it are the pieces that were published, and the ticks

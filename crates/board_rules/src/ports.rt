@@ -2,7 +2,6 @@
 
 ghost use Rattle.std.specs.Prelude.{◌≡◌, ℕ, ◌∷◌, ◌≤◌, true, OnOk, OnErr, IfErr, IfSome, IfNone};
 ghost use Rattle.board_rules.specs.Ports.{BoardLog, MayAnswer, MayPublish, MayStop, MayAskHalt, MayBeDone, said, IsMarkedPast, HasTakenFew, HasFewReports, LacksReplyRoom, LacksPieceRoom, asks_report};
-ghost use Rattle.status_report.specs.Answering.{receive_room};
 ghost use Rattle.board_rules.specs.Ports.PortStep.{took, found_empty, found_closed, found_free, found_mark, no_reply_room, took_exec, took_ovr, published, no_piece_room, loaded, stored_stop, found_no_halt, found_halt};
 
 use code_table::{Exec, Ovr};
@@ -16,6 +15,9 @@ pub trait BoardPort {
     /// What this side does not change.
     ghost Rest: { Type 0 };
 
+    /// So many bytes may be on the link at once.
+    ghost room: { ℕ };
+
     /// This side of the port has done what the log says, the latest first.
     ghost stands: { Self → Rest → BoardLog → Type 0 };
 
@@ -28,9 +30,9 @@ pub trait BoardPort {
         ensures empty { result ≡ ByteIn.Empty → (rest : Rest) (l : BoardLog) → stands self.old rest l → stands self.new rest (found_empty ∷ l) }
         ensures closed { result ≡ ByteIn.Closed → (rest : Rest) (l : BoardLog) → stands self.old rest l → stands self.new rest (found_closed ∷ l) };
 
-    /// How many more bytes there is room for on the link, at most 128.
+    /// How many more bytes there is room for on the link.
     fn free(&mut self) -> u8
-        ensures room { result ≤ receive_room }
+        ensures room { result ≤ room }
         ensures free { (rest : Rest) (l : BoardLog) → stands self.old rest l → stands self.new rest (found_free result ∷ l) };
 
     /// The number of the mark that the host has stored, and how many bytes it had stored before; 0 and 0 before the first.

@@ -1,5 +1,5 @@
 -- Moves are added to the plan, one by one, and queued blocks are started.
-use Rattle.std.proofs.Common.{◌≡◌, ◌⊎◌, inl, inr, Bool, List, [], ◌∷◌, ◌||◌, ◌&&◌, true, false, refl, sym, ap, ◌∙◌, subst, append-nil}
+use Rattle.std.proofs.Common.{◌-◌, ℕ, ◌≡◌, ◌⊎◌, inl, inr, Bool, List, [], ◌∷◌, ◌||◌, ◌&&◌, true, false, refl, sym, ap, ◌∙◌, subst, append-nil}
 use Rattle.std.specs.List.{list_any}
 use Rattle.feed_hold.specs.declared.Motion.TheVariants as motions
 use Rattle.feed_hold.specs.Motions.Call.{on_start}
@@ -23,7 +23,7 @@ use Rattle.board_turns.specs.Boards.{Keeps, NoneWaits}
 use Rattle.board_machine.specs.Machines.{start_motion}
 use Rattle.board_turns.specs.Turning.{IsNextMove, NoneFits, DidAlone, HasAdded, HasFilled, starting}
 use Rattle.board_rules.proofs.Tries.{alone_did, alone_on, alone_motion}
-use Rattle.board_turns.proofs.Starting.{none_left_to_change, starts_off}
+use Rattle.board_turns.proofs.Starting.{none_left_to_change, starts_off, full_is}
 use Rattle.board_turns.proofs.Ends.{same_calls}
 use Rattle.board_turns.proofs.Steps.{none_halts}
 
@@ -46,7 +46,7 @@ adds_one first m h mid a next = record {
   some = inr (first_is_next first m h mid a.some next, refl);
 }
 
-moved_by : (first : Opening) (h next : Journal) → (next ≡ h) ⊎ (IsNextMove first h × (list_any moving (this_turn next) ≡ true)) → NoneFits first next → IsNextMove first h → is_full (plan_of h) ≡ false → list_any moving (this_turn next) ≡ true
+moved_by : (first : Opening) (h next : Journal) → (next ≡ h) ⊎ (IsNextMove first h × (list_any moving (this_turn next) ≡ true)) → NoneFits first next → IsNextMove first h → is_full first.blocks (plan_of h) ≡ false → list_any moving (this_turn next) ≡ true
 moved_by first h next (inl e) fits move room = absurd (let full = subst (NoneFits first) e fits move.0 move.1 in let x = sym full ∙ room in cc)
 moved_by first h next (inr s) fits move room = s.1
 
@@ -66,8 +66,8 @@ has_added first h next a fits = record {
 }
 
 -- a full plan has no room
-pub none_fits_full : (first : Opening) (c : Board) (h : Journal) → Keeps first c h → is_full c.machine.plan ≡ true → NoneFits first h
-none_fits_full first c h k full m next = subst (λ (p : Planned). is_full p ≡ true) k.machine.plan_is full
+pub none_fits_full : {N : ℕ} (first : Opening) (c : Board N) (h : Journal) → Keeps first c h → is_full (N - 1) c.machine.plan ≡ true → NoneFits first h
+none_fits_full first c h k full m next = sym (full_is first c h k) ∙ full
 
 no_move : (t : Todo) (tasks : List Task) → IsTodo t tasks → (t ≡ todo.Move → ⊥) → (m : PlannedMove) → IsNextOf (ask (a_move m)) tasks → ⊥
 no_move todo.Nothing tasks is other m next = absurd cc
@@ -81,31 +81,31 @@ no_move todo.Finish tasks is other m next = absurd cc
 no_move todo.Halt tasks is other m next = absurd cc
 
 -- no move is next
-pub none_fits_other : (first : Opening) (c : Board) (h : Journal) (t : Todo) → Keeps first c h → IsTodo t c.lines.left → (t ≡ todo.Move → ⊥) → NoneFits first h
+pub none_fits_other : {N : ℕ} (first : Opening) (c : Board N) (h : Journal) (t : Todo) → Keeps first c h → IsTodo t c.lines.left → (t ≡ todo.Move → ⊥) → NoneFits first h
 none_fits_other first c h t k is other m next = absurd (no_move t (left_of first h) (subst (IsTodo t) k.lines.left_is is) other m next)
 
-pub has_room_now : (first : Opening) (c : Board) (h : Journal) → Keeps first c h → is_full c.machine.plan ≡ false → is_full (plan_of h) ≡ false
-has_room_now first c h k room = subst (λ (p : Planned). is_full p ≡ false) k.machine.plan_is room
+pub has_room_now : {N : ℕ} (first : Opening) (c : Board N) (h : Journal) → Keeps first c h → is_full (N - 1) c.machine.plan ≡ false → is_full first.blocks (plan_of h) ≡ false
+has_room_now first c h k room = sym (full_is first c h k) ∙ room
 
 -- ---- queued blocks
 
 -- what calls for a start, by the fields
-calls_now : (first : Opening) (c : Board) (h : Journal) → Keeps first c h → (is_full c.machine.plan || (awaits_motion c.lines.left || c.jogged)) ≡ (is_full (plan_of h) || (awaits_motion (left_of first h) || has_jogged h))
-calls_now first c h k =
-    same_calls (is_full c.machine.plan) (is_full (plan_of h)) c.lines.left (left_of first h) c.jogged (has_jogged h) (ap is_full k.machine.plan_is) k.lines.left_is k.jogged_is
+calls_now : {N : ℕ} (first : Opening) (c : Board N) (h : Journal) → Keeps first c h → (is_full (N - 1) c.machine.plan || (awaits_motion c.lines.left || c.jogged)) ≡ (is_full first.blocks (plan_of h) || (awaits_motion (left_of first h) || has_jogged h))
+calls_now {N} first c h k =
+    same_calls (is_full (N - 1) c.machine.plan) (is_full first.blocks (plan_of h)) c.lines.left (left_of first h) c.jogged (has_jogged h) (full_is first c h k) k.lines.left_is k.jogged_is
 
 -- none waits where nothing calls for a start
-pub none_waits_now : (first : Opening) (c : Board) (h : Journal) → Keeps first c h
-    → (c.machine.hold.motion ≡ motions.Idle → has_blocks c.machine.plan.blocks ≡ true → (is_full c.machine.plan || (awaits_motion c.lines.left || c.jogged)) ≡ false) → NoneWaits first h
+pub none_waits_now : {N : ℕ} (first : Opening) (c : Board N) (h : Journal) → Keeps first c h
+    → (c.machine.hold.motion ≡ motions.Idle → has_blocks c.machine.plan.blocks ≡ true → (is_full (N - 1) c.machine.plan || (awaits_motion c.lines.left || c.jogged)) ≡ false) → NoneWaits first h
 none_waits_now first c h k none w =
     sym (calls_now first c h k) ∙ none (k.machine.motion_is ∙ w.stands) (ap (λ (p : Planned). has_blocks p.blocks) k.machine.plan_is ∙ w.blocks)
 
 -- a start that the plan, or what is next, calls for
-pub may_start : (first : Opening) (c : Board) (h : Journal) → Keeps first c h → motion_of first h ≡ motions.Idle → has_blocks c.machine.plan.blocks ≡ true → (is_full c.machine.plan || (awaits_motion c.lines.left || c.jogged)) ≡ true → MayStart first c.jogged h
+pub may_start : {N : ℕ} (first : Opening) (c : Board N) (h : Journal) → Keeps first c h → motion_of first h ≡ motions.Idle → has_blocks c.machine.plan.blocks ≡ true → (is_full (N - 1) c.machine.plan || (awaits_motion c.lines.left || c.jogged)) ≡ true → MayStart first c.jogged h
 may_start first c h k stands blocks called = record {
   goes = none_halts first c h k (ap is_limited stands);
   blocks = subst (λ (p : Planned). has_blocks p.blocks ≡ true) k.machine.plan_is blocks;
-  called = calls (list_any found_none (this_turn h)) (is_full (plan_of h) || (awaits_motion (left_of first h) || has_jogged h)) (whole_of h && begins_with_dollar (open_of h)) (sym (calls_now first c h k) ∙ called);
+  called = calls (list_any found_none (this_turn h)) (is_full first.blocks (plan_of h) || (awaits_motion (left_of first h) || has_jogged h)) (whole_of h && begins_with_dollar (open_of h)) (sym (calls_now first c h k) ∙ called);
   jogs = sym k.jogged_is;
 }
   where

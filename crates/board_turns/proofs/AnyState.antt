@@ -1,5 +1,5 @@
 -- The state that a run begins with changes nothing of what is left to do, nor of the motion; so it changes no board's number.
-use Rattle.std.proofs.Common.{◌≡◌, ◌+◌, ◌*◌, ◌||◌, cond, List, [], ◌∷◌, ◌++◌, drop, nat_eq, length, refl, ap, ◌∙◌}
+use Rattle.std.proofs.Common.{◌≡◌, ℕ, ◌+◌, ◌*◌, ◌||◌, cond, List, [], ◌∷◌, ◌++◌, drop, nat_eq, length, refl, ap, ◌∙◌}
 use Rattle.feed_hold.specs.Motions.{is_moving}
 use Rattle.feed_hold.specs.declared.Motion.{Motion}
 use Rattle.feed_hold.specs.declared.Motion.TheVariants as motions
@@ -48,15 +48,15 @@ record AreAlike (s t : Opening) : Type 0 where
 abbrev greets : Motion → List Reply
 greets m = cond (is_moving m) (Alarm 3 ∷ []) [] ++ Banner ∷ cond (is_moving m || is_alarm m) (Message Locked ∷ []) []
 
-alike_behind : (s t : State) (es : NewestFirst Closed) → AreAlike (opening_behind s es) (opening_behind t es)
-alike_behind s t [] = record { motion = refl; tells = refl }
-alike_behind s t (e ∷ es) =
-    let same : motion_of (opening_behind s es) e.journal ≡ motion_of (opening_behind t es) e.journal =
-    (let was = alike_behind s t es in motion_any (opening_behind s es) (opening_behind t es) was.motion e.journal) in
+alike_behind : (blocks : ℕ) (s t : State) (es : NewestFirst Closed) → AreAlike (opening_behind blocks s es) (opening_behind blocks t es)
+alike_behind blocks s t [] = record { motion = refl; tells = refl }
+alike_behind blocks s t (e ∷ es) =
+    let same : motion_of (opening_behind blocks s es) e.journal ≡ motion_of (opening_behind blocks t es) e.journal =
+    (let was = alike_behind blocks s t es in motion_any (opening_behind blocks s es) (opening_behind blocks t es) was.motion e.journal) in
     record { motion = ap (λ (m : Motion). cond (is_moving m || is_alarm m) motions.Alarm motions.Idle) same; tells = ap greets same }
 
-pub number_any : (s t : State) (es : NewestFirst Closed) (f : Flags) (h : Journal) → number_of (opening_behind s es) f h ≡ number_of (opening_behind t es) f h
-number_any s t es f h =
-    let alike = alike_behind s t es in let first = opening_behind s es in let other = opening_behind t es in
+pub number_any : (blocks : ℕ) (s t : State) (es : NewestFirst Closed) (f : Flags) (h : Journal) → number_of (opening_behind blocks s es) f h ≡ number_of (opening_behind blocks t es) f h
+number_any blocks s t es f h =
+    let alike = alike_behind blocks s t es in let first = opening_behind blocks s es in let other = opening_behind blocks t es in
     ap (λ (ts : List Task). 3 * (words_left f + pauses ts) + changes_left (motion_of first h) (has_cut h) + one_if (nat_eq (length (closed_tells h)) 0)) (left_any first other alike.tells h)
     ∙ ap (λ (m : Motion). 3 * (words_left f + pauses (left_of other h)) + changes_left m (has_cut h) + one_if (nat_eq (length (closed_tells h)) 0)) (motion_any first other alike.motion h)

@@ -71,15 +71,15 @@ may_begin first h o may calm found = record {
   unowed = may.looked.unowed;
   load = may.looked.load;
   idle = may.looked.idle;
-  starts = λ waiting. or_none (list_any found_none (this_turn h)) (is_full (plan_of h) || (awaits_motion (left_of first h) || has_jogged h)) (whole_of h) (begins_with_dollar (open_of h)) may.looked.unpolled (may.looked.none_waits waiting) (may.starts waiting);
+  starts = λ waiting. or_none (list_any found_none (this_turn h)) (is_full first.blocks (plan_of h) || (awaits_motion (left_of first h) || has_jogged h)) (whole_of h) (begins_with_dollar (open_of h)) may.looked.unpolled (may.looked.none_waits waiting) (may.starts waiting);
   tried = and_none (missed_of first h) (is_due first h) may.looked.unmissed;
 }
 
 -- a line is begun
-begins : (first : Opening) (was now : Board) (h : Journal) (o : Outcome) → (j : IsJudged first was now h o) → MayBegin first o h
+begins : {N : ℕ} (first : Opening) (was now : Board N) (h : Journal) (o : Outcome) → (j : IsJudged first was now h o) → MayBegin first o h
 begins first was now h o j = may_begin first h o j.may (calm_whole first was h j.keeps j.may.looked.whole) j.found
 
-works : (first : Opening) (was now : Board) (h : Journal) (o : Outcome) → (j : IsJudged first was now h o) → Works now.lines o.work (after (before_of first h) o)
+works : {N : ℕ} (first : Opening) (was now : Board N) (h : Journal) (o : Outcome) → (j : IsJudged first was now h o) → Works now.lines o.work (after (before_of first h) o)
 works first was now h o j = record {
   left_is = ap (λ (i : Interpreting). i.left) j.is;
   state_is = ap (λ (i : Interpreting). i.state) j.is;
@@ -87,7 +87,7 @@ works first was now h o j = record {
 }
 
 -- all that is left of it is next
-next_judged : (first : Opening) (was now : Board) (h : Journal) (o : Outcome) (t : Todo) → IsJudged first was now h o → IsTodo t now.lines.left → IsTodo t o.work
+next_judged : {N : ℕ} (first : Opening) (was now : Board N) (h : Journal) (o : Outcome) (t : Todo) → IsJudged first was now h o → IsTodo t now.lines.left → IsTodo t o.work
 next_judged first was now h o t j is = subst (IsTodo t) (ap (λ (i : Interpreting). i.left) j.is) is
 
 not_halting : (t : Todo) (ts : List Task) → IsTodo t ts → (t ≡ todo.Halt → ⊥) → halts_next ts ≡ false
@@ -102,7 +102,7 @@ not_halting todo.Finish ts is other = ap halts_next is
 not_halting todo.Halt ts is other = absurd (other refl)
 
 -- it raises no alarm then
-calm_line : (first : Opening) (was now : Board) (h : Journal) (o : Outcome) → IsJudged first was now h o → halts_next o.work ≡ false → is_limit o.answer ≡ false
+calm_line : {N : ℕ} (first : Opening) (was now : Board N) (h : Journal) (o : Outcome) → IsJudged first was now h o → halts_next o.work ≡ false → is_limit o.answer ≡ false
 calm_line first was now h o j none = by_line (of_begun first h o HaltsOrNot (begins first was now h o j) (inr (refl, refl)) (line_halts true (caused first h) (open_of h)))
   where
     by_line : HaltsOrNot o → is_limit o.answer ≡ false
@@ -149,12 +149,13 @@ none_awaited first h o none calm still motions.Alarm is =
 none_awaited first h o none calm still m is = ap (λ (x : AnyMotion). is_alarm x && (not (is_locked first (began o ∷ h)) && not (is_limit o.answer))) is ∙ refl
 
 -- a line is begun that does not halt the machine
-pub begun : (first : Opening) (was now : Board) (t : Todo) (h : Journal) (o : Outcome) → IsJudged first was now h o → was.resetting ≡ false → IsTodo t now.lines.left → (t ≡ todo.Halt → ⊥) → (motion_of first h ≡ motions.Alarm → unlocks (open_of h) ≡ false)
+pub begun : {N : ℕ} (first : Opening) (was now : Board N) (t : Todo) (h : Journal) (o : Outcome) → IsJudged first was now h o → was.resetting ≡ false → IsTodo t now.lines.left → (t ≡ todo.Halt → ⊥) → (motion_of first h ≡ motions.Alarm → unlocks (open_of h) ≡ false)
     → Keeps first now (began o ∷ h)
 begun first was now t h o j none is other still =
     let k = j.keeps in
-    subst (λ (c : Board). Keeps first c (began o ∷ h)) (sym j.same) (record {
+    subst (λ (c : Board _). Keeps first c (began o ∷ h)) (sym j.same) (record {
       placed = k.placed;
+      sized = k.sized;
       short = k.short;
       conducted = (begins first was now h o j, k.conducted);
       machine = k.machine;
@@ -185,7 +186,7 @@ limit_to m (inl idle) = ap (after_call on_limit) idle ∙ ap (λ x. Some (limit_
 limit_to m (inr run) = ap (after_call on_limit) run ∙ ap (λ x. Some (limit_motion x)) (sym run)
 
 -- it raises an alarm
-alarms : (first : Opening) (was now : Board) (h : Journal) (o : Outcome) → IsJudged first was now h o → halts_next o.work ≡ true → is_limit o.answer ≡ true
+alarms : {N : ℕ} (first : Opening) (was now : Board N) (h : Journal) (o : Outcome) → IsJudged first was now h o → halts_next o.work ≡ true → is_limit o.answer ≡ true
 alarms first was now h o j halts = by_line (of_begun first h o HaltsOrNot (begins first was now h o j) (inr (refl, refl)) (line_halts true (caused first h) (open_of h)))
   where
     by_line : HaltsOrNot o → is_limit o.answer ≡ true
@@ -193,14 +194,14 @@ alarms first was now h o j halts = by_line (of_begun first h o HaltsOrNot (begin
     by_line (inr (none, work)) = absurd (let e = sym halts ∙ none_halts_next o.work work in cc)
 
 -- so the machine stands, or runs
-stands_or_runs : (first : Opening) (was now : Board) (h : Journal) (o : Outcome) → IsJudged first was now h o → halts_next o.work ≡ true → (motion_of first h ≡ motions.Idle) ⊎ (motion_of first h ≡ motions.Run)
+stands_or_runs : {N : ℕ} (first : Opening) (was now : Board N) (h : Journal) (o : Outcome) → IsJudged first was now h o → halts_next o.work ≡ true → (motion_of first h ≡ motions.Idle) ⊎ (motion_of first h ≡ motions.Run)
 stands_or_runs first was now h o j halts = alarm_stands first h o (begins first was now h o j, j.keeps.conducted) (alarms first was now h o j halts)
 
 -- the machine is as it was
-pub machine_judged : (first : Opening) (was now : Board) (h : Journal) (o : Outcome) → IsJudged first was now h o → Runs now.machine (plan_of h) (motion_of first h) (hand_of h) (given_of h)
-machine_judged first was now h o j = subst (λ (c : Board). Runs c.machine (plan_of h) (motion_of first h) (hand_of h) (given_of h)) (sym j.same) j.keeps.machine
+pub machine_judged : {N : ℕ} (first : Opening) (was now : Board N) (h : Journal) (o : Outcome) → IsJudged first was now h o → Runs now.machine (plan_of h) (motion_of first h) (hand_of h) (given_of h)
+machine_judged first was now h o j = subst (λ (c : Board _). Runs c.machine (plan_of h) (motion_of first h) (hand_of h) (given_of h)) (sym j.same) j.keeps.machine
 
-pub may_limit : (first : Opening) (was now : Board) (h : Journal) (o : Outcome) → IsJudged first was now h o → IsTodo todo.Halt now.lines.left → (now.machine.hold.motion ≡ motions.Idle) ⊎ (now.machine.hold.motion ≡ motions.Run)
+pub may_limit : {N : ℕ} (first : Opening) (was now : Board N) (h : Journal) (o : Outcome) → IsJudged first was now h o → IsTodo todo.Halt now.lines.left → (now.machine.hold.motion ≡ motions.Idle) ⊎ (now.machine.hold.motion ≡ motions.Run)
 may_limit first was now h o j is = by_motion (stands_or_runs first was now h o j (ap halts_next (next_judged first was now h o todo.Halt j is)))
   where
     same : now.machine.hold.motion ≡ motion_of first h
@@ -231,15 +232,16 @@ none_waits_limited first h o one m = none_of (is_alarm m) (is_locked first (bega
     none_of true true c e = refl
     none_of true false c e = ap not e
 
-pub begun_limited : (first : Opening) (was now : Board) (m : Machine) (h : Journal) (o : Outcome) → IsJudged first was now h o → was.resetting ≡ false → IsTodo todo.Halt now.lines.left → Runs m (plan_of h) (limit_motion (motion_of first h)) (hand_of h) (given_of h)
+pub begun_limited : {N : ℕ} (first : Opening) (was now : Board N) (m : Machine N) (h : Journal) (o : Outcome) → IsJudged first was now h o → was.resetting ≡ false → IsTodo todo.Halt now.lines.left → Runs m (plan_of h) (limit_motion (motion_of first h)) (hand_of h) (given_of h)
     → Keeps first (record now { machine = m; alarmed = true }) (became on_limit (limit_motion (motion_of first h)) ∷ began o ∷ h)
 begun_limited first was now m h o j none is runs =
     let k = j.keeps in
     let next = next_judged first was now h o todo.Halt j is in
     let halts : halts_next o.work ≡ true = ap halts_next next in
     let stands = stands_or_runs first was now h o j halts in
-    subst (λ (c : Board). Keeps first (record c { machine = m; alarmed = true }) (became on_limit (limit_motion (motion_of first h)) ∷ began o ∷ h)) (sym j.same) (record {
+    subst (λ (c : Board _). Keeps first (record c { machine = m; alarmed = true }) (became on_limit (limit_motion (motion_of first h)) ∷ began o ∷ h)) (sym j.same) (record {
       placed = k.placed;
+      sized = k.sized;
       short = k.short;
       conducted = (
         (limit_to (motion_of first h) stands, record { alarmed = alarms first was now h o j halts; next = next; unlimited = not_limited (motion_of first h) stands }),
@@ -274,15 +276,16 @@ begun_limited first was now m h o j none is runs =
 alarm_never_cut : (m : AnyMotion) → m ≡ motions.Alarm → m ≡ motions.Cancelling → ⊥
 alarm_never_cut m alarm is = absurd (let e = sym alarm ∙ is in cc)
 
-pub begun_unlocked : (first : Opening) (was now : Board) (m : Machine) (h : Journal) (o : Outcome) → IsJudged first was now h o → was.resetting ≡ false → motion_of first h ≡ motions.Alarm → unlocks (open_of h) ≡ true → Runs m (plan_of h) motions.Idle (hand_of h) (given_of h)
+pub begun_unlocked : {N : ℕ} (first : Opening) (was now : Board N) (m : Machine N) (h : Journal) (o : Outcome) → IsJudged first was now h o → was.resetting ≡ false → motion_of first h ≡ motions.Alarm → unlocks (open_of h) ≡ true → Runs m (plan_of h) motions.Idle (hand_of h) (given_of h)
     → Keeps first (record now { machine = m }) (became on_unlock motions.Idle ∷ began o ∷ h)
 begun_unlocked first was now m h o j none alarm one runs =
     let k = j.keeps in
     let calm = calm_whole first was h k j.may.looked.whole in
     let s = still_locked first h o (begins first was now h o j, k.conducted) alarm in
     let free : is_locked first (began o ∷ h) ≡ false = ap (λ (b : Bool). is_limited first.motion && not b) (lines_on h) ∙ locks_off (is_limited first.motion) (list_any unlocks (lines_of h)) (unlocks (open_of h)) one in
-    subst (λ (c : Board). Keeps first (record c { machine = m }) (became on_unlock motions.Idle ∷ began o ∷ h)) (sym j.same) (record {
+    subst (λ (c : Board _). Keeps first (record c { machine = m }) (became on_unlock motions.Idle ∷ began o ∷ h)) (sym j.same) (record {
       placed = k.placed;
+      sized = k.sized;
       short = k.short;
       conducted = ((ap (after_call on_unlock) alarm, record { calm = s.calm; unlocked = free }), (begins first was now h o j, k.conducted));
       machine = runs;
@@ -336,7 +339,7 @@ looked_whole first h next ready line l =
     }
 
 -- queued blocks start before a line that begins with `$`
-pub may_start : (first : Opening) (board : Board) (h : Journal) → Keeps first board h → IsLooked first h → has_blocks (plan_of h).blocks ≡ true → begins_with_dollar (open_of h) ≡ true → MayStart first board.jogged h
+pub may_start : {N : ℕ} (first : Opening) (board : Board N) (h : Journal) → Keeps first board h → IsLooked first h → has_blocks (plan_of h).blocks ≡ true → begins_with_dollar (open_of h) ≡ true → MayStart first board.jogged h
 may_start first board h k l blocks dollar = record {
   goes = ap halts_next l.free;
   blocks = blocks;
@@ -474,7 +477,7 @@ begun_unowed first o mid line may (inr (inl is)) = ap owes_report is ∙ may.loo
 begun_unowed first o mid line may (inr (inr is)) = ap owes_report is ∙ may.looked.unowed
 
 -- a line is begun, its first reply is told where it has room, and moves are added behind it
-pub did_begin_line : (first : Opening) (was : Flags) (board : Board) (h seen mid spoken next : Journal) (o : Outcome) → IsReady first h → IsWholeLine first h → PassesNothing first h seen → DidAlone first seen mid → IsBegun first 1 o mid spoken → Keeps first board next
+pub did_begin_line : {N : ℕ} (first : Opening) (was : Flags) (board : Board N) (h seen mid spoken next : Journal) (o : Outcome) → IsReady first h → IsWholeLine first h → PassesNothing first h seen → DidAlone first seen mid → IsBegun first 1 o mid spoken → Keeps first board next
     → board.beat ≡ Motion → board.flags ≡ words.None → HasFilled first spoken next → BoardWorked first Did was board h next
 did_begin_line first was board h seen mid spoken next o ready line look alone b keeps beat no_word filled =
     let a = alone.passes in

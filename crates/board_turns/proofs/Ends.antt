@@ -47,7 +47,7 @@ number_tried first was p h next t =
     (let m = ap (λ m. changes_left m (has_cut next)) t.motion in let c = ap (changes_left (motion_of first h)) t.cuts in omega (arith, m, c)) t.closed
 
 -- what a board has worked up to an answer behind further steps
-pub worked_on : (first : Opening) (t : Turn) (was : Flags) (board : Board) (h mid next : Journal) (steps : List Step) → mid ≡ steps ++ h → number_of first was mid ≤ number_of first was h → BoardWorked first t was board mid next
+pub worked_on : {N : ℕ} (first : Opening) (t : Turn) (was : Flags) (board : Board N) (h mid next : Journal) (steps : List Step) → mid ≡ steps ++ h → number_of first was mid ≤ number_of first was h → BoardWorked first t was board mid next
     → BoardWorked first t was board h next
 worked_on first t was board h mid next steps is fewer w = record {
   keeps = w.keeps;
@@ -65,12 +65,12 @@ worked_on first t was board h mid next steps is fewer w = record {
     further (inl moved) = inl moved
     further (inr falls) = inr (omega (arith, falls, fewer))
 
-pub works_on : (first : Opening) (stands : BoardLog → Type 0) (t : Turn) (was : Flags) (board : Board) (h mid : Journal) (steps : List Step) → mid ≡ steps ++ h → number_of first was mid ≤ number_of first was h
+pub works_on : {N : ℕ} (first : Opening) (stands : BoardLog → Type 0) (t : Turn) (was : Flags) (board : Board N) (h mid : Journal) (steps : List Step) → mid ≡ steps ++ h → number_of first was mid ≤ number_of first was h
     → WorksOn first stands t was board mid → WorksOn first stands t was board h
 works_on first stands t was board h mid steps is fewer w = (w.0, w.1, worked_on first t was board h mid w.0 steps is fewer w.2)
 
 -- so it has behind steps that pass nothing
-pub works_passed : (first : Opening) (stands : BoardLog → Type 0) (t : Turn) (was : Flags) (board : Board) (h mid : Journal) → PassesNothing first h mid → WorksOn first stands t was board mid → WorksOn first stands t was board h
+pub works_passed : {N : ℕ} (first : Opening) (stands : BoardLog → Type 0) (t : Turn) (was : Flags) (board : Board N) (h mid : Journal) → PassesNothing first h mid → WorksOn first stands t was board mid → WorksOn first stands t was board h
 works_passed first stands t was board h mid p w = works_on first stands t was board h mid p.steps p.are (number_passes first was h mid p) w
 
 -- ---- truths
@@ -93,7 +93,7 @@ one_at_most false = omega arith
 
 -- no queued block waits for a start that is called for
 pub none_called : (first : Opening) (h : Journal) → list_any found_none (this_turn h) ≡ false → NoneWaits first h → AreWaiting first h → starts_cycle first h ≡ false
-none_called first h unpolled none waiting = or_none (list_any found_none (this_turn h)) (is_full (plan_of h) || (awaits_motion (left_of first h) || has_jogged h)) unpolled (none waiting)
+none_called first h unpolled none waiting = or_none (list_any found_none (this_turn h)) (is_full first.blocks (plan_of h) || (awaits_motion (left_of first h) || has_jogged h)) unpolled (none waiting)
 
 -- what calls for a start is the same with the same plan, the same tasks and the same last line
 pub same_calls : (f g : Bool) (ts us : List Task) (j i : Bool) → f ≡ g → ts ≡ us → j ≡ i → (f || (awaits_motion ts || j)) ≡ (g || (awaits_motion us || i))
@@ -177,7 +177,7 @@ none_for_line first h mid next p may tried filled halts whole =
 
 -- ---- a piece that is published
 
-pub sent_by : (first : Opening) (was : Flags) (board : Board) (h mid next : Journal) → MayTry first h → HasTried first true h mid → HasFilled first mid next → Keeps first board next → takes_no_word board.flags ≡ true → TakesFlags board.flags next
+pub sent_by : {N : ℕ} (first : Opening) (was : Flags) (board : Board N) (h mid next : Journal) → MayTry first h → HasTried first true h mid → HasFilled first mid next → Keeps first board next → takes_no_word board.flags ≡ true → TakesFlags board.flags next
     → BoardWorked first Did was (record board { beat = Main }) h next
 sent_by first was board h mid next may tried filled keeps no_word takes =
     let a = filled.alone.passes in
@@ -216,7 +216,7 @@ sent_by first was board h mid next may tried filled keeps no_word takes =
       moves = λ e. inl (a.moves (tried.moves refl));
     }
 
-pub sent : (first : Opening) (was : Flags) (board : Board) (h mid next : Journal) → MayTry first h → IsFree h → HasTried first true h mid → HasFilled first mid next → Keeps first board next → board.flags ≡ words.None
+pub sent : {N : ℕ} (first : Opening) (was : Flags) (board : Board N) (h mid next : Journal) → MayTry first h → IsFree h → HasTried first true h mid → HasFilled first mid next → Keeps first board next → board.flags ≡ words.None
     → BoardWorked first Did was (record board { beat = Main }) h next
 sent first was board h mid next may free tried filled keeps none =
     sent_by first was board h mid next may tried filled keeps (no_word_left board.flags none) (takes_none board next none (free_passed first mid next filled.alone.passes (free_tried first true h mid tried free)))
@@ -236,7 +236,7 @@ may_try first h may = record {
 }
 
 -- it was handed back, and room for it is waited for
-pub handed_back : (first : Opening) (was : Flags) (board : Board) (h mid next : Journal) → MayRun first h → HasTried first false h mid → HasFilled first mid next → Keeps first board next → board.beat ≡ Motion → board.flags ≡ words.None
+pub handed_back : {N : ℕ} (first : Opening) (was : Flags) (board : Board N) (h mid next : Journal) → MayRun first h → HasTried first false h mid → HasFilled first mid next → Keeps first board next → board.beat ≡ Motion → board.flags ≡ words.None
     → BoardWorked first (Wait SegmentRoom) was board h next
 handed_back first was board h mid next may tried filled keeps beat no_word =
     let a = filled.alone.passes in
@@ -311,8 +311,8 @@ may_try_first first f h r between none takes = record {
 
 still_none_waits : (first : Opening) (h next : Journal) (p : Bool) → HasTried first p h next → NoneWaits first h → NoneWaits first next
 still_none_waits first h next p tried none waiting =
-    same_calls (is_full (plan_of next)) (is_full (plan_of next)) (left_of first next) (left_of first h) (has_jogged next) (has_jogged h) refl tried.left tried.jogged
-    ∙ less_or (is_full (plan_of next)) (is_full (plan_of h)) (awaits_motion (left_of first h) || has_jogged h) tried.full (none (tried.waiting waiting))
+    same_calls (is_full first.blocks (plan_of next)) (is_full first.blocks (plan_of next)) (left_of first next) (left_of first h) (has_jogged next) (has_jogged h) refl tried.left tried.jogged
+    ∙ less_or (is_full first.blocks (plan_of next)) (is_full first.blocks (plan_of h)) (awaits_motion (left_of first h) || has_jogged h) tried.full (none (tried.waiting waiting))
 
 -- what was tried first was handed back
 pub ready_tried : (first : Opening) (h next : Journal) → Rounds first Motion h → GoingBetween h → IsFree h → HasTried first false h next → IsReady first next
@@ -430,7 +430,7 @@ awaited (finish ∷ ts) e none = inr (inr (inr refl))
 awaited (halt ∷ ts) e none = absurd cc
 
 -- where no rest is next, nor overrides that are set, a pause or the end is what waits for the motion
-pub needs_no_wait : (first : Opening) (b : Board) (h : Journal) → Keeps first b h → HasStopped first h → (IsNextTask first (ask a_rest) h → ⊥) → (IsNextTask first normal h → ⊥) → NeedsNoWait first h
+pub needs_no_wait : {N : ℕ} (first : Opening) (b : Board N) (h : Journal) → Keeps first b h → HasStopped first h → (IsNextTask first (ask a_rest) h → ⊥) → (IsNextTask first normal h → ⊥) → NeedsNoWait first h
 needs_no_wait first b h k stopped no_rest no_normal awaits = by_task (awaited (left_of first h) awaits (none_halts first b h k (ap is_limited stopped.stands)))
   where
     by_task : IsNextTask first (ask a_rest) h ⊎ (IsNextTask first pause h ⊎ (IsNextTask first normal h ⊎ IsNextTask first finish h)) → HasStopped first h × (IsNextTask first pause h ⊎ IsNextTask first finish h)
@@ -442,7 +442,7 @@ needs_no_wait first b h k stopped no_rest no_normal awaits = by_task (awaited (l
 -- ---- what was done moves on
 
 -- something was done up to a journal, behind which moves were added
-pub did_filled : (first : Opening) (was : Flags) (board : Board) (h mid next : Journal) (steps : List Step) → mid ≡ steps ++ h → Keeps first board next → board.beat ≡ Motion → TakesFlags board.flags next → HasFilled first mid next
+pub did_filled : {N : ℕ} (first : Opening) (was : Flags) (board : Board N) (h mid next : Journal) (steps : List Step) → mid ≡ steps ++ h → Keeps first board next → board.beat ≡ Motion → TakesFlags board.flags next → HasFilled first mid next
     → AreWorked mid → count_by publishing (this_turn mid) ≤ 1 → list_any found_none (this_turn mid) ≡ false → tries_of first mid + one_if (whole_of mid) ≤ 1
     → (list_any moving (this_turn next) ≡ true) ⊎ (number_of first board.flags next < number_of first was h) → BoardWorked first Did was board h next
 did_filled first was board h mid next steps is keeps beat taken filled worked once unpolled few moves =
@@ -473,12 +473,12 @@ did_filled first was board h mid next steps is keeps beat taken filled worked on
 -- ---- whether the run is being closed
 
 -- where the motion was waited for, and the rests that were next are over, nothing is left only of a run that goes on
-pub still_open : (was stopped is : Board) → awaits_motion was.lines.left ≡ true → stopped.lines ≡ was.lines → is.closing ≡ stopped.closing → (stopped.closing ≡ true → is ≡ stopped)
+pub still_open : {N : ℕ} (was stopped is : Board N) → awaits_motion was.lines.left ≡ true → stopped.lines ≡ was.lines → is.closing ≡ stopped.closing → (stopped.closing ≡ true → is ≡ stopped)
     → is.lines.left ≡ [] → is.closing ≡ false
 still_open was stopped is awaits lines closing same none = by_closing stopped.closing refl
   where
     by_closing : (b : Bool) → stopped.closing ≡ b → is.closing ≡ false
     by_closing false e = closing ∙ e
     by_closing true e =
-        let none_was : was.lines.left ≡ [] = sym (ap (λ i. i.left) lines) ∙ sym (ap (λ (c : Board). c.lines.left) (same e)) ∙ none in
+        let none_was : was.lines.left ≡ [] = sym (ap (λ i. i.left) lines) ∙ sym (ap (λ (c : Board _). c.lines.left) (same e)) ∙ none in
         absurd (let f = sym awaits ∙ ap awaits_motion none_was in cc)

@@ -27,14 +27,14 @@ fits_next (pieces.Mark m) h next = tt
 fits_next pieces.End h next = tt
 
 -- it begins where the flight leads
-pub begins_next : (first : Opening) (b : Board) (h : Journal) (p : Piece) → Keeps first b h → hand_of h ≡ p ∷ [] → BeginsAt (end_from first.place (published_of h)) p
+pub begins_next : {N : ℕ} (first : Opening) (b : Board N) (h : Journal) (p : Piece) → Keeps first b h → hand_of h ≡ p ∷ [] → BeginsAt (end_from first.place (published_of h)) p
 begins_next first b h p k is = next_begins first h k.placed k.conducted p (rw is refl)
 
 no_more : (a b c d : ℕ) → a ≤ d → d ≤ b → max a (min b c) ≤ b
 no_more a b c d e f = grind (arith, e, f)
 
 -- a flight that learns how many ticks are done
-pub learned : (first : Opening) (b : Board) (f : Flying) (h : Journal) (done : ℕ) → Keeps first b h → MayBeDone done (port_log h)
+pub learned : {N : ℕ} (first : Opening) (b : Board N) (f : Flying) (h : Journal) (done : ℕ) → Keeps first b h → MayBeDone done (port_log h)
     → ((published : List Piece) (known : ℕ) → Flies first.place b.flight published known → Flies first.place f published (max known (min done (ticks_together published))))
     → IsFlown first f (at_port (loaded done) ∷ h)
 learned first b f h done k may learns = record {
@@ -51,7 +51,7 @@ few_unfinished first h done c may =
     let f = may.few in omega (arith, e, f)
 
 -- so the flight has room for a piece more
-pub room_learned : (first : Opening) (b : Board) (f : Flying) (h : Journal) (done : ℕ) → Keeps first b h → MayBeDone done (port_log h)
+pub room_learned : {N : ℕ} (first : Opening) (b : Board N) (f : Flying) (h : Journal) (done : ℕ) → Keeps first b h → MayBeDone done (port_log h)
     → ((start : Steps3) (published : List Piece) (known : ℕ) → Flies start b.flight published known → unfinished published done < flight_room → length f.kept < flight_room) → length f.kept < flight_room
 room_learned first b f h done k may room =
     let few = few_unfinished first h done k.conducted may in

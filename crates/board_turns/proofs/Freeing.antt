@@ -1,5 +1,5 @@
 -- What words of flags are to be taken, or obeyed, behind steps that leave them.
-use Rattle.std.proofs.Common.{◌≡◌, Bool, true, false, [], sym, ap, ◌∙◌, subst}
+use Rattle.std.proofs.Common.{ℕ, ◌≡◌, Bool, true, false, [], sym, ap, ◌∙◌, subst}
 use Rattle.board_rules.specs.Openings.{Opening}
 use Rattle.board_rules.specs.Steps.{Journal}
 use Rattle.board_rules.specs.Turns.{flags_taken, unobeyed_of, owes_report}
@@ -12,7 +12,7 @@ use Rattle.board_turns.specs.Turning.{IsQuiet, PassesNothing, HasTried}
 pub free_of : (h : Journal) → IsQuiet h → IsFree h
 free_of h q = record { flags = q.flags; obeyed = q.worked.obeyed q.unowed; unowed = q.unowed }
 
-pub takes_none : (board : Board) (h : Journal) → board.flags ≡ words.None → IsFree h → TakesFlags board.flags h
+pub takes_none : {N : ℕ} (board : Board N) (h : Journal) → board.flags ≡ words.None → IsFree h → TakesFlags board.flags h
 takes_none board h none free = subst (λ f. TakesFlags f h) (sym none) free
 
 -- none is to be taken where none is left

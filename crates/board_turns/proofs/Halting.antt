@@ -50,7 +50,7 @@ use Rattle.board_turns.proofs.Ends.{rounds_still, takes_none, no_word_left, free
 
 some_left : (first : Opening) (h : Journal) → is_held_up first h ≡ true → whole_of h ≡ false → left_of first h ≡ [] → ⊥
 some_left first h held_up partial none =
-    let same = ap (λ (ts : List Task). needs_motion ts (whole_of h) (is_full (plan_of h))) none in
+    let same = ap (λ (ts : List Task). needs_motion ts (whole_of h) (is_full first.blocks (plan_of h))) none in
     absurd (let e = sym partial ∙ sym same ∙ held_up in cc)
 
 -- no reply is next then, so the banner is told
@@ -60,7 +60,7 @@ none_told _ whole full held_up = refl
 
 pub held_awaits : (first : Opening) (h : Journal) → Conducted first h → IsHeldUp first h → AwaitsWords h
 held_awaits first h c halted = record {
-  greeted = greeted_where first h c (none_told (left_of first h) (whole_of h) (is_full (plan_of h)) halted.held_up);
+  greeted = greeted_where first h c (none_told (left_of first h) (whole_of h) (is_full first.blocks (plan_of h)) halted.held_up);
   obeyed = (free_of h halted.ready.quiet).obeyed;
 }
 
@@ -90,8 +90,8 @@ may_run_halted first h halted = record {
 }
 
 -- a move that is held up has no room
-pub full_held_up : (first : Opening) (h : Journal) (m : PlannedMove) → is_held_up first h ≡ true → IsNextTask first (ask (a_move m)) h → is_full (plan_of h) ≡ true
-full_held_up first h m held_up next = sym (ap (λ (ts : List Task). needs_motion ts (whole_of h) (is_full (plan_of h))) next) ∙ held_up
+pub full_held_up : (first : Opening) (h : Journal) (m : PlannedMove) → is_held_up first h ≡ true → IsNextTask first (ask (a_move m)) h → is_full first.blocks (plan_of h) ≡ true
+full_held_up first h m held_up next = sym (ap (λ (ts : List Task). needs_motion ts (whole_of h) (is_full first.blocks (plan_of h))) next) ∙ held_up
 
 none_wait : (first : Opening) (h : Journal) → is_halting (motion_of first h) ≡ true → AreWaiting first h → ⊥
 none_wait first h halts w = absurd (let e = sym halts ∙ ap is_halting w.stands in cc)
@@ -100,8 +100,8 @@ none_wait first h halts w = absurd (let e = sym halts ∙ ap is_halting w.stands
 
 pub still_held_up : (first : Opening) (h next : Journal) → PassesNothing first h next → StaysSo first h next → is_held_up first h ≡ true → is_held_up first next ≡ true
 still_held_up first h next p s held_up =
-    ap (λ (ts : List Task). needs_motion ts (whole_of next) (is_full (plan_of next))) s.left ∙ ap (λ w. needs_motion (left_of first h) w (is_full (plan_of next))) p.whole
-    ∙ ap (λ (p : Planned). needs_motion (left_of first h) (whole_of h) (is_full p)) s.plan ∙ held_up
+    ap (λ (ts : List Task). needs_motion ts (whole_of next) (is_full first.blocks (plan_of next))) s.left ∙ ap (λ w. needs_motion (left_of first h) w (is_full first.blocks (plan_of next))) p.whole
+    ∙ ap (λ (p : Planned). needs_motion (left_of first h) (whole_of h) (is_full first.blocks p)) s.plan ∙ held_up
 
 few_settled : (first : Opening) (h next : Journal) → HasSettled first h next → tries_of first h + one_if (whole_of h) ≤ 1 → tries_of first next + one_if (whole_of next) ≤ 1
 few_settled first h next s few = let t = s.passes.tries in let w = ap one_if s.passes.whole in omega (arith, few, t, w)
@@ -126,7 +126,7 @@ ends_settled first h next halted s halts =
       halts = halts;
     }
 
-pub rounds_settled : (first : Opening) (board : Board) (h next : Journal) → IsHeldUp first h → HasSettled first h next → board.beat ≡ Motion → Rounds first board.beat next
+pub rounds_settled : {N : ℕ} (first : Opening) (board : Board N) (h next : Journal) → IsHeldUp first h → HasSettled first h next → board.beat ≡ Motion → Rounds first board.beat next
 rounds_settled first board h next halted s beat =
     subst (λ b. (Rounds first) b next) (sym beat) (rounds_still first next (λ w. absurd (none_wait first h halted.halts (s.waiting w))) (few_settled first h next s (few_halted first h halted)))
 
@@ -139,7 +139,7 @@ pub fewer_words : (first : Opening) (f was : Flags) (h next : Journal) → f ≡
 fewer_words first f was h next e g falls = let a = ap words_left e in let b = ap words_left g in omega (arith, falls, a, b)
 
 -- something came of a machine that has stopped
-pub did_settle : (first : Opening) (board : Board) (was : Flags) (h next : Journal) → Keeps first board next → IsHeldUp first h → HasSettled first h next → HasSlowedDown first h → (HasSlowedDown first next → ⊥)
+pub did_settle : {N : ℕ} (first : Opening) (board : Board N) (was : Flags) (h next : Journal) → Keeps first board next → IsHeldUp first h → HasSettled first h next → HasSlowedDown first h → (HasSlowedDown first next → ⊥)
     → board.beat ≡ Motion → board.flags ≡ words.None → was ≡ words.None → BoardWorked first Did was board h next
 did_settle first board was h next k halted s slowed other beat no_word none = record {
   keeps = k;
@@ -194,7 +194,7 @@ by_speed v goes slows some stops is none = by_test (nat_eq v 0) goes slows some 
     by_test false goes slows false stops is none = absurd cc
 
 -- a machine that slows down, with no segment due, stands still
-pub slow_stands : (first : Opening) (board : Board) (h : Journal) → Keeps first board h → is_stopping (motion_of first h) ≡ true → is_due first h ≡ false → (plan_of h).speed ≡ 0
+pub slow_stands : {N : ℕ} (first : Opening) (board : Board N) (h : Journal) → Keeps first board h → is_stopping (motion_of first h) ≡ true → is_due first h ≡ false → (plan_of h).speed ≡ 0
 slow_stands first board h k slows due = by_blocks (plan_of h).blocks refl
   where
     by_blocks : (bs : List Block) → (plan_of h).blocks ≡ bs → (plan_of h).speed ≡ 0
@@ -204,7 +204,7 @@ slow_stands first board h k slows due = by_blocks (plan_of h).blocks refl
         grind (arith, nat_tests, zero)
 
 -- where nothing is in hand or due, a machine that halts and is not held has slowed down
-pub slowed_halted : (first : Opening) (board : Board) (h : Journal) → Keeps first board h → IsHeldUp first h → (HasPiece first h → ⊥) → (motion_of first h ≡ motions.Held → ⊥) → HasSlowedDown first h
+pub slowed_halted : {N : ℕ} (first : Opening) (board : Board N) (h : Journal) → Keeps first board h → IsHeldUp first h → (HasPiece first h → ⊥) → (motion_of first h ≡ motions.Held → ⊥) → HasSlowedDown first h
 slowed_halted first board h k halted none other =
     let slows = stopping_by (motion_of first h) halted.halts other in
     record { slows = slows; speed = slow_stands first board h k slows (not_due first h none); empty = none_in_hand first h none }
@@ -227,7 +227,7 @@ slowed_undue : (first : Opening) (h : Journal) → HasSlowedDown first h → is_
 slowed_undue first h s = no_more_due (is_going (motion_of first h)) (is_stopping (motion_of first h)) (has_blocks (plan_of h).blocks) (plan_of h).speed (not_both (motion_of first h)) s.slows s.speed
 
 -- the stop is waited for: ticks are found not to be done
-pub waits_for_stop : (first : Opening) (board : Board) (was : Flags) (h next : Journal) → Keeps first board next → IsHeldUp first h → HasSettled first h next → HasSlowedDown first next
+pub waits_for_stop : {N : ℕ} (first : Opening) (board : Board N) (was : Flags) (h next : Journal) → Keeps first board next → IsHeldUp first h → HasSettled first h next → HasSlowedDown first next
     → board.beat ≡ Motion → board.flags ≡ words.None → BoardWorked first (Wait on.Motion) was board h next
 waits_for_stop first board was h next k halted s slowed beat no_word = record {
   keeps = k;
@@ -359,7 +359,7 @@ pub changed_taken : (word : Exec) (h : Journal) → count_by replans (this_turn 
 changed_taken word h same = counts_none replans (at_port (took_exec word)) (this_turn h) refl ∙ same ∙ sym (counts_none takes_changes (at_port (took_exec word)) (this_turn h) refl)
 
 ends_behind : (first : Opening) (w : Option Exec) (h : Journal) → count_by publishing (this_turn h) ≤ 1 → unobeyed_of h ≡ option_to_list w → count_by replans (this_turn h) ≡ count_by takes_changes (this_turn h)
-    → ((m : PlannedMove) → IsNextTask first (ask (a_move m)) h → is_full (plan_of h) ≡ true) → (AreWaiting first h → starts_cycle first h ≡ false) → tries_of first h ≤ most_tries → HaltsInTime first (obeying first w h) → EndsTurn first (obeying first w h)
+    → ((m : PlannedMove) → IsNextTask first (ask (a_move m)) h → is_full first.blocks (plan_of h) ≡ true) → (AreWaiting first h → starts_cycle first h ≡ false) → tries_of first h ≤ most_tries → HaltsInTime first (obeying first w h) → EndsTurn first (obeying first w h)
 ends_behind first None h once next changed adds starts few halts =
     record { once = once; adds = adds; starts = starts; tries = few; obeyed = λ e. next; changed = changed; halts = halts }
 ends_behind first (Some word) h once next changed adds starts few halts =
@@ -375,14 +375,14 @@ ends_behind first (Some word) h once next changed adds starts few halts =
       halts = halts;
     }
 
-pub ends_obeyed : (first : Opening) (word : Exec) (h : Journal) → count_by publishing (this_turn h) ≡ 0 → unobeyed_of h ≡ [] → AreWorked h → ((m : PlannedMove) → IsNextTask first (ask (a_move m)) h → is_full (plan_of h) ≡ true)
+pub ends_obeyed : (first : Opening) (word : Exec) (h : Journal) → count_by publishing (this_turn h) ≡ 0 → unobeyed_of h ≡ [] → AreWorked h → ((m : PlannedMove) → IsNextTask first (ask (a_move m)) h → is_full first.blocks (plan_of h) ≡ true)
     → (AreWaiting first h → starts_cycle first h ≡ false) → tries_of first h ≤ most_tries → HaltsInTime first (obeyed first word h) → EndsTurn first (obeyed first word h)
 ends_obeyed first word h quiet none w adds starts few halts =
     let b = counts_one publishing (at_port (took_exec word)) (this_turn h) refl in
     ends_behind first (to_obey word) (taken word h) (omega (arith, b, quiet)) (word_waits word h none) (changed_taken word h w.changed) adds
     (λ waits. starts (record { stands = waits.stands; blocks = waits.blocks })) few halts
 
-pub ends_taken : (first : Opening) (word : Exec) (h : Journal) → owes_report (taken word h) ≡ true → count_by publishing (this_turn h) ≡ 0 → AreWorked h → ((m : PlannedMove) → IsNextTask first (ask (a_move m)) h → is_full (plan_of h) ≡ true)
+pub ends_taken : (first : Opening) (word : Exec) (h : Journal) → owes_report (taken word h) ≡ true → count_by publishing (this_turn h) ≡ 0 → AreWorked h → ((m : PlannedMove) → IsNextTask first (ask (a_move m)) h → is_full first.blocks (plan_of h) ≡ true)
     → (AreWaiting first h → starts_cycle first h ≡ false) → tries_of first h ≤ most_tries → HaltsInTime first (taken word h) → EndsTurn first (taken word h)
 ends_taken first word h owed quiet w adds starts few halts =
     let took = at_port (took_exec word) in
@@ -438,13 +438,13 @@ halts_before : (first : Opening) (w : Option Exec) (h : Journal) → Conducted f
 halts_before first None h c halts = halts
 halts_before first (Some word) h c halts = c.0.1.halts
 
-ends_awaited : (first : Opening) (board : Board) (word : Exec) (h mid : Journal) → Keeps first board (obeyed first word mid) → IsHeldUp first h → HasSettled first h mid → EndsTurn first (obeyed first word mid)
+ends_awaited : {N : ℕ} (first : Opening) (board : Board N) (word : Exec) (h mid : Journal) → Keeps first board (obeyed first word mid) → IsHeldUp first h → HasSettled first h mid → EndsTurn first (obeyed first word mid)
 ends_awaited first board word h mid k halted s =
     let ends = ends_settled first h mid halted s (halts_before first (to_obey word) (taken word mid) k.conducted (halts_by first board (obeyed first word mid) k)) in
     ends_obeyed first word mid (s.passes.quiet ∙ halted.ready.quiet.quiet) (free_settled first h mid halted s).obeyed (s.passes.worked halted.ready.quiet.worked) ends.adds ends.starts ends.tries
     (halts_by first board (obeyed first word mid) k)
 
-rounds_awaited : (first : Opening) (word : Exec) (board : Board) (h mid : Journal) → IsHeldUp first h → HasSettled first h mid → board.beat ≡ Motion → Rounds first board.beat (obeyed first word mid)
+rounds_awaited : {N : ℕ} (first : Opening) (word : Exec) (board : Board N) (h mid : Journal) → IsHeldUp first h → HasSettled first h mid → board.beat ≡ Motion → Rounds first board.beat (obeyed first word mid)
 rounds_awaited first word board h mid halted s beat =
     subst (λ b. (Rounds first) b (obeyed first word mid)) (sym beat)
     (rounds_behind first (to_obey word) (taken word mid) (λ w. absurd (none_wait first h halted.halts (s.waiting (record { stands = w.stands; blocks = w.blocks })))) (few_settled first h mid s (few_halted first h halted)))
@@ -454,7 +454,7 @@ pub obeyed_behind : (first : Opening) (word : Exec) (h mid : Journal) (steps : L
 obeyed_behind first word h mid steps are = behind_word first (to_obey word) h (taken word mid) (record { steps = at_port (took_exec word) ∷ steps; are = ap (λ (j : Journal). at_port (took_exec word) ∷ j) are })
 
 -- the machine is resumed
-pub did_resume : (first : Opening) (board : Board) (was : Flags) (word : Exec) (h mid : Journal) → Keeps first board (obeyed first word mid) → IsHeldUp first h → HasSettled first h mid → motion_of first h ≡ motions.Held
+pub did_resume : {N : ℕ} (first : Opening) (board : Board N) (was : Flags) (word : Exec) (h mid : Journal) → Keeps first board (obeyed first word mid) → IsHeldUp first h → HasSettled first h mid → motion_of first h ≡ motions.Held
     → (motion_of first (obeyed first word mid) ≡ motions.Held → ⊥) → owes_report (taken word mid) ≡ false → board.beat ≡ Motion → board.flags ≡ words.None → was ≡ words.None → BoardWorked first Did was board h (obeyed first word mid)
 did_resume first board was word h mid k halted s held resumes unowed beat no_word none = record {
   keeps = k;
@@ -479,7 +479,7 @@ did_resume first board was word h mid k halted s held resumes unowed beat no_wor
         omega (arith, zero, one, l, p, c, e)
 
 -- the resume is waited for
-pub waits_for_resume : (first : Opening) (board : Board) (was : Flags) (word : Exec) (h mid : Journal) → Keeps first board (obeyed first word mid) → IsHeldUp first h → HasSettled first h mid → motion_of first h ≡ motions.Held
+pub waits_for_resume : {N : ℕ} (first : Opening) (board : Board N) (was : Flags) (word : Exec) (h mid : Journal) → Keeps first board (obeyed first word mid) → IsHeldUp first h → HasSettled first h mid → motion_of first h ≡ motions.Held
     → motion_of first (obeyed first word mid) ≡ motions.Held → owes_report (taken word mid) ≡ false → board.beat ≡ Motion → board.flags ≡ words.None → BoardWorked first (Wait on.Resume) was board h (obeyed first word mid)
 waits_for_resume first board was word h mid k halted s held stays unowed beat no_word = record {
   keeps = k;
@@ -525,7 +525,7 @@ waits_for_resume first board was word h mid k halted s held stays unowed beat no
     or_first false b e = absurd cc
 
 -- a report is asked for while the resume is waited for
-pub did_ask : (first : Opening) (board : Board) (was : Flags) (word : Exec) (h mid : Journal) → Keeps first board (taken word mid) → IsHeldUp first h → HasSettled first h mid → owes_report (taken word mid) ≡ true
+pub did_ask : {N : ℕ} (first : Opening) (board : Board N) (was : Flags) (word : Exec) (h mid : Journal) → Keeps first board (taken word mid) → IsHeldUp first h → HasSettled first h mid → owes_report (taken word mid) ≡ true
     → board.beat ≡ Motion → board.flags ≡ words.Report (to_obey word) → was ≡ words.None → BoardWorked first Did was board h (taken word mid)
 did_ask first board was word h mid k halted s owed beat asks none = record {
   keeps = k;

@@ -1,5 +1,5 @@
 -- What is known of a board that keeps its journal.
-use Rattle.std.proofs.Common.{◌≡◌, ◌+◌, ◌≤◌, ◌<◌, ◌^◌, ◌⊎◌, inl, inr, List, [], ◌∷◌, drop, Bool, true, false, cond, Some, None, sym, refl, ap, ◌∙◌, subst, arith}
+use Rattle.std.proofs.Common.{ℕ, ◌≡◌, ◌+◌, ◌≤◌, ◌<◌, ◌^◌, ◌⊎◌, inl, inr, List, [], ◌∷◌, drop, Bool, true, false, cond, Some, None, sym, refl, ap, ◌∙◌, subst, arith}
 use Rattle.std.specs.Option.{option_to_list, is_some}
 use Rattle.std.specs.declared.option.Option.{Option}
 use Rattle.feed_hold.specs.declared.Motion.{Motion}
@@ -17,7 +17,7 @@ use Rattle.status_report.specs.Replies.{IsReply}
 use Rattle.step_line.specs.declared.Piece.{Piece}
 use Rattle.overrides.specs.Percents.{IsOverrides}
 use Rattle.plan_rules.specs.Plans.{Planned}
-use Rattle.planner_runs.specs.Runs.{IsAtRest, most_blocks, fresh_plan}
+use Rattle.planner_runs.specs.Runs.{IsAtRest, fresh_plan}
 use Rattle.planner_runs.proofs.Runs.{fresh_starts, rests_behind, reached_from}
 use Rattle.line_interpreter.specs.Lefts.{IsNextOf}
 use Rattle.board_rules.specs.Ports.{MayPublish}
@@ -35,23 +35,23 @@ use Rattle.board_turns.proofs.Stages.{alarm_limits, halts_limited, left_alarmed,
 use Rattle.board_rules.proofs.Facts.{uncounted}
 
 -- what is next of what is left, is next of the journal's tasks
-pub is_next : (first : Opening) (c : Board) (h : Journal) (t : Task) → Keeps first c h → IsNextOf t c.lines.left → IsNextTask first t h
+pub is_next : {N : ℕ} (first : Opening) (c : Board N) (h : Journal) (t : Task) → Keeps first c h → IsNextOf t c.lines.left → IsNextTask first t h
 is_next first c h t k e = subst (λ ts. IsNextOf t ts) k.lines.left_is e
 
-pub hand_empty : (first : Opening) (c : Board) (h : Journal) → Keeps first c h → c.machine.hand ≡ None → hand_of h ≡ []
+pub hand_empty : {N : ℕ} (first : Opening) (c : Board N) (h : Journal) → Keeps first c h → c.machine.hand ≡ None → hand_of h ≡ []
 hand_empty first c h k e = sym k.machine.hand_is ∙ ap (λ o. option_to_list o) e
 
 pub none_by_test : {A : Type 0} (o : Option A) → is_some o ≡ false → o ≡ None
 none_by_test None e = refl
 none_by_test (Some x) e = absurd cc
 
-pub in_hand : (first : Opening) (c : Board) (h : Journal) (p : Piece) → Keeps first c h → c.machine.hand ≡ Some p → hand_of h ≡ p ∷ []
+pub in_hand : {N : ℕ} (first : Opening) (c : Board N) (h : Journal) (p : Piece) → Keeps first c h → c.machine.hand ≡ Some p → hand_of h ≡ p ∷ []
 in_hand first c h p k e = sym k.machine.hand_is ∙ ap (λ o. option_to_list o) e
 
-pub some_in_hand : (first : Opening) (c : Board) (h : Journal) (p : Piece) → Keeps first c h → c.machine.hand ≡ Some p → hand_of h ≡ [] → ⊥
+pub some_in_hand : {N : ℕ} (first : Opening) (c : Board N) (h : Journal) (p : Piece) → Keeps first c h → c.machine.hand ≡ Some p → hand_of h ≡ [] → ⊥
 some_in_hand first c h p k e none = let x = sym (in_hand first c h p k e) ∙ none in absurd cc
 
-pub hand_left : (first : Opening) (c : Board) (h : Journal) → Keeps first c h → (c.machine.hand ≡ None → ⊥) → hand_of h ≡ [] → ⊥
+pub hand_left : {N : ℕ} (first : Opening) (c : Board N) (h : Journal) → Keeps first c h → (c.machine.hand ≡ None → ⊥) → hand_of h ≡ [] → ⊥
 hand_left first c h k some none = by_hand c.machine.hand refl
   where
     by_hand : (o : Option Piece) → c.machine.hand ≡ o → ⊥
@@ -59,14 +59,14 @@ hand_left first c h k some none = by_hand c.machine.hand refl
     by_hand (Some p) e = some_in_hand first c h p k e none
 
 -- there is one piece at most
-pub one_in_hand : (first : Opening) (c : Board) (h : Journal) → Keeps first c h → drop 1 (hand_of h) ≡ []
+pub one_in_hand : {N : ℕ} (first : Opening) (c : Board N) (h : Journal) → Keeps first c h → drop 1 (hand_of h) ≡ []
 one_in_hand first c h k = subst (λ (ps : List Piece). drop 1 ps ≡ []) k.machine.hand_is (by_hand c.machine.hand)
   where
     by_hand : (o : Option Piece) → drop 1 (option_to_list o) ≡ []
     by_hand None = refl
     by_hand (Some p) = refl
 
-pub hand_of_one : (first : Opening) (c : Board) (h : Journal) (p : Piece) → Keeps first c h → hand_of h ≡ p ∷ [] → c.machine.hand ≡ None → ⊥
+pub hand_of_one : {N : ℕ} (first : Opening) (c : Board N) (h : Journal) (p : Piece) → Keeps first c h → hand_of h ≡ p ∷ [] → c.machine.hand ≡ None → ⊥
 hand_of_one first c h p k is none = let x = sym (hand_empty first c h k none) ∙ is in absurd cc
 
 due_by : (m : Motion) (p : Planned) → has_segment m p ≡ true → (is_going m ≡ true) ⊎ (is_stopping m ≡ true)
@@ -80,22 +80,15 @@ due_by motions.Stopping p due = inr refl
 due_by motions.Alarm p due = absurd cc
 
 -- the machine runs, or slows down to a stop, where a segment is due
-pub due_moves : (first : Opening) (c : Board) (h : Journal) → Keeps first c h → is_due first h ≡ true → (is_going (motion_of first h) ≡ true) ⊎ (is_stopping (motion_of first h) ≡ true)
+pub due_moves : {N : ℕ} (first : Opening) (c : Board N) (h : Journal) → Keeps first c h → is_due first h ≡ true → (is_going (motion_of first h) ≡ true) ⊎ (is_stopping (motion_of first h) ≡ true)
 due_moves first c h k due = due_by (motion_of first h) (plan_of h) due
 
 -- where no piece is in hand, a segment is due
-pub due_now : (first : Opening) (c : Board) (h : Journal) → Keeps first c h → HasPiece first h → c.machine.hand ≡ None → is_due first h ≡ true
+pub due_now : {N : ℕ} (first : Opening) (c : Board N) (h : Journal) → Keeps first c h → HasPiece first h → c.machine.hand ≡ None → is_due first h ≡ true
 due_now first c h k (inl some) none = absurd (some (hand_empty first c h k none))
 due_now first c h k (inr due) none = due
 
 -- ---- a soft limit
-
--- where a line may be begun no soft limit stops the machine, and it is not held, nor slows down for that
-pub begins_unlimited : (m : Motion) → begins_in m ≡ true → is_limited m ≡ false
-begins_unlimited motions.Idle is = refl
-begins_unlimited motions.Run is = refl
-begins_unlimited motions.Jog is = refl
-begins_unlimited m is = absurd cc
 
 pub begins_by : (m : Motion) → is_halting m ≡ false → is_limited m ≡ false → begins_in m ≡ true
 begins_by motions.Idle off none = refl
@@ -104,22 +97,22 @@ begins_by motions.Jog off none = refl
 begins_by m off none = absurd cc
 
 -- a machine that is to be halted slows down for that, or stands in alarm
-pub halts_by : (first : Opening) (c : Board) (h : Journal) → Keeps first c h → halts_next (left_of first h) ≡ true → is_limited (motion_of first h) ≡ true
+pub halts_by : {N : ℕ} (first : Opening) (c : Board N) (h : Journal) → Keeps first c h → halts_next (left_of first h) ≡ true → is_limited (motion_of first h) ≡ true
 halts_by first c h k next = halts_limited first h k.conducted k.limited next
 
 -- so none is to be where no soft limit stops it, and no line has raised an alarm
-pub none_halts : (first : Opening) (c : Board) (h : Journal) → Keeps first c h → is_limited (motion_of first h) ≡ false → halts_next (left_of first h) ≡ false
+pub none_halts : {N : ℕ} (first : Opening) (c : Board N) (h : Journal) → Keeps first c h → is_limited (motion_of first h) ≡ false → halts_next (left_of first h) ≡ false
 none_halts first c h k none = by_next (halts_next (left_of first h)) refl
   where
     by_next : (b : Bool) → halts_next (left_of first h) ≡ b → halts_next (left_of first h) ≡ false
     by_next true e = absurd (let f = sym none ∙ halts_by first c h k e in cc)
     by_next false e = e
 
-pub calm_now : (first : Opening) (c : Board) (h : Journal) → Keeps first c h → is_limited (motion_of first h) ≡ false → has_limited h ≡ false
+pub calm_now : {N : ℕ} (first : Opening) (c : Board N) (h : Journal) → Keeps first c h → is_limited (motion_of first h) ≡ false → has_limited h ≡ false
 calm_now first c h k none = unalarmed first h k.conducted k.limited none
 
 -- and where a line was taken whole
-pub calm_whole : (first : Opening) (c : Board) (h : Journal) → Keeps first c h → whole_of h ≡ true → has_limited h ≡ false
+pub calm_whole : {N : ℕ} (first : Opening) (c : Board N) (h : Journal) → Keeps first c h → whole_of h ≡ true → has_limited h ≡ false
 calm_whole first c h k whole = by_alarm (has_limited h) refl
   where
     by_alarm : (b : Bool) → has_limited h ≡ b → has_limited h ≡ false
@@ -127,37 +120,37 @@ calm_whole first c h k whole = by_alarm (has_limited h) refl
     by_alarm false none = none
 
 -- behind an alarm no try to publish is counted
-pub few_tried : (first : Opening) (c : Board) (h : Journal) → Keeps first c h → (hand_of h ≡ [] → ⊥) → has_limited h ≡ true → cond (is_counted first h) (tries_of first h + 1) (tries_of first h) ≤ 1
+pub few_tried : {N : ℕ} (first : Opening) (c : Board N) (h : Journal) → Keeps first c h → (hand_of h ≡ [] → ⊥) → has_limited h ≡ true → cond (is_counted first h) (tries_of first h + 1) (tries_of first h) ≤ 1
 few_tried first c h k some one =
     let e = ap (λ b. cond b (tries_of first h + 1) (tries_of first h)) (uncounted first h (left_alarmed first h k.conducted one some)) in
     let t = k.tries one in
     omega (arith, e, t)
 
 -- where no block stands nothing is left to run
-pub at_rest : (first : Opening) (c : Board) (h : Journal) → Keeps first c h → (plan_of h).blocks ≡ [] → IsAtRest (plan_of h)
-at_rest first c h k none = (rests_behind most_blocks fresh_plan (plan_of h) (actions_of h) (planned_of h) fresh_starts (run_is first h k.conducted) none).rest
+pub at_rest : {N : ℕ} (first : Opening) (c : Board N) (h : Journal) → Keeps first c h → (plan_of h).blocks ≡ [] → IsAtRest (plan_of h)
+at_rest first c h k none = (rests_behind first.blocks fresh_plan (plan_of h) (actions_of h) (planned_of h) fresh_starts (run_is first h k.conducted) none).rest
 
-pub few_ticks : (first : Opening) (c : Board) (h : Journal) → Keeps first c h → c.machine.given < 2 ^ 62
+pub few_ticks : {N : ℕ} (first : Opening) (c : Board N) (h : Journal) → Keeps first c h → c.machine.given < 2 ^ 62
 few_ticks first c h k = subst (λ n. n < 2 ^ 62) (sym k.machine.given_is) (few_given first h k.conducted)
 
-pub in_range : (first : Opening) (c : Board) (h : Journal) → Keeps first c h → IsOverrides c.machine.overrides
+pub in_range : {N : ℕ} (first : Opening) (c : Board N) (h : Journal) → Keeps first c h → IsOverrides c.machine.overrides
 in_range first c h k =
-    subst IsOverrides k.machine.same (reached_from most_blocks fresh_plan (plan_of h) (actions_of h) (planned_of h) fresh_starts (run_is first h k.conducted)).overrides
+    subst IsOverrides k.machine.same (reached_from first.blocks fresh_plan (plan_of h) (actions_of h) (planned_of h) fresh_starts (run_is first h k.conducted)).overrides
 
-pub same_overrides : (first : Opening) (c : Board) (h : Journal) → Keeps first c h → c.machine.plan.overrides ≡ c.machine.overrides
+pub same_overrides : {N : ℕ} (first : Opening) (c : Board N) (h : Journal) → Keeps first c h → c.machine.plan.overrides ≡ c.machine.overrides
 same_overrides first c h k = ap (λ (p : Planned). p.overrides) k.machine.plan_is ∙ k.machine.same
 
 -- the piece in hand may be published
-pub may_publish : (first : Opening) (c : Board) (h : Journal) (p : Piece) → Keeps first c h → hand_of h ≡ p ∷ [] → MayPublish (port_log h) p
+pub may_publish : {N : ℕ} (first : Opening) (c : Board N) (h : Journal) (p : Piece) → Keeps first c h → hand_of h ≡ p ∷ [] → MayPublish (port_log h) p
 may_publish first c h p k is =
     let next : IsInHand p h = is ∙ ap (λ (ps : List Piece). p ∷ drop 1 ps) (sym is) in
     may_publish_next first h p k.conducted next
 
-pub may_publish_now : (first : Opening) (c : Board) (h : Journal) (p : Piece) → Keeps first c h → hand_of h ≡ p ∷ [] → MayPublishNow first p h
+pub may_publish_now : {N : ℕ} (first : Opening) (c : Board N) (h : Journal) (p : Piece) → Keeps first c h → hand_of h ≡ p ∷ [] → MayPublishNow first p h
 may_publish_now first c h p k is = record { conducted = k.conducted; hand = is ∙ ap (λ (ps : List Piece). p ∷ drop 1 ps) (sym is) }
 
 -- the reply that is next may be answered
-pub may_answer : (first : Opening) (c : Board) (h : Journal) (r : Reply) → Keeps first c h → IsNextTask first (tell r) h → IsReply r → MayTellNow first r h
+pub may_answer : {N : ℕ} (first : Opening) (c : Board N) (h : Journal) (r : Reply) → Keeps first c h → IsNextTask first (tell r) h → IsReply r → MayTellNow first r h
 may_answer first c h r k next text = record { conducted = k.conducted; next = inr next; text = text }
 
 -- a reply that is no report is answered as such

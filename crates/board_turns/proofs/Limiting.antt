@@ -54,18 +54,13 @@ limited_off m is stands = absurd (let e = sym is ∙ ap is_limited stands in cc)
 pub none_waiting : (first : Opening) (h : Journal) → is_limited (motion_of first h) ≡ true → AreWaiting first h → ⊥
 none_waiting first h is w = limited_off (motion_of first h) is w.stands
 
-not_halting : (m : AnyMotion) → is_limited m ≡ true → is_halting m ≡ false
-not_halting motions.Stopping is = refl
-not_halting motions.Alarm is = refl
-not_halting m is = absurd cc
-
 limited_by : (m : AnyMotion) → is_limited m ≡ true → (is_stopping m ≡ true) ⊎ (rests m ≡ true)
 limited_by motions.Stopping is = inl refl
 limited_by motions.Alarm is = inr refl
 limited_by m is = absurd cc
 
 -- where nothing is in hand or due, it has no speed
-no_speed_now : (first : Opening) (b : Board) (h : Journal) → Keeps first b h → is_limited (motion_of first h) ≡ true → is_due first h ≡ false → (plan_of h).speed ≡ 0
+no_speed_now : {N : ℕ} (first : Opening) (b : Board N) (h : Journal) → Keeps first b h → is_limited (motion_of first h) ≡ true → is_due first h ≡ false → (plan_of h).speed ≡ 0
 no_speed_now first b h k is idle = by_motion (limited_by (motion_of first h) is)
   where
     by_motion : (is_stopping (motion_of first h) ≡ true) ⊎ (rests (motion_of first h) ≡ true) → (plan_of h).speed ≡ 0
@@ -73,7 +68,7 @@ no_speed_now first b h k is idle = by_motion (limited_by (motion_of first h) is)
     by_motion (inr stands) = no_speed first h k.conducted stands
 
 -- once each tick is done, it may be halted
-pub at_limit : (first : Opening) (b : Board) (h : Journal) (done : ℕ) → Keeps first b h → is_limited (motion_of first h) ≡ true → IsNextTask first halt h → (HasPiece first h → ⊥) → done ≡ b.machine.given → IsAtLimit first (at_port (loaded done) ∷ h)
+pub at_limit : {N : ℕ} (first : Opening) (b : Board N) (h : Journal) (done : ℕ) → Keeps first b h → is_limited (motion_of first h) ≡ true → IsNextTask first halt h → (HasPiece first h → ⊥) → done ≡ b.machine.given → IsAtLimit first (at_port (loaded done) ∷ h)
 at_limit first b h done k is next none all = record {
   next = next;
   limited = is;
@@ -87,7 +82,7 @@ at_limit first b h done k is next none all = record {
 some_halt : (first : Opening) (h : Journal) → IsNextTask first halt h → left_of first h ≡ [] → ⊥
 some_halt first h next none = none_next (left_of first h) halt none next
 
-few_ready : (first : Opening) (b : Board) (h : Journal) → Keeps first b h → IsReady first h → has_limited h ≡ true → tries_of first h + one_if (whole_of h) ≤ 1
+few_ready : {N : ℕ} (first : Opening) (b : Board N) (h : Journal) → Keeps first b h → IsReady first h → has_limited h ≡ true → tries_of first h + one_if (whole_of h) ≤ 1
 few_ready first b h k ready alarmed =
     let one = alarm_limits first h k.conducted k.limited alarmed in
     let few = k.tries alarmed in
@@ -95,7 +90,7 @@ few_ready first b h k ready alarmed =
     omega (arith, few, w)
 
 -- ticks are found not to be done
-pub waits_at_limit : (first : Opening) (b : Board) (h : Journal) (done : ℕ) → Keeps first b h → IsReady first h → is_limited (motion_of first h) ≡ true → IsNextTask first halt h → (HasPiece first h → ⊥) → b.beat ≡ Motion → b.flags ≡ flags.None
+pub waits_at_limit : {N : ℕ} (first : Opening) (b : Board N) (h : Journal) (done : ℕ) → Keeps first b h → IsReady first h → is_limited (motion_of first h) ≡ true → IsNextTask first halt h → (HasPiece first h → ⊥) → b.beat ≡ Motion → b.flags ≡ flags.None
     → MayBeDone done (port_log h) → done < b.machine.given → BoardWorked first (Wait on.Motion) b.flags b h (at_port (loaded done) ∷ h)
 waits_at_limit first b h done k ready is next none beat no_word found fewer =
     let mid : Journal = at_port (loaded done) ∷ h in
@@ -167,10 +162,11 @@ passes_halted first h = record {
 }
 
 -- what was planned is dropped where it stands in alarm
-halts : (first : Opening) (c : Board) (m : Machine) (i : Interpreting) (h : Journal) → Keeps first c h → IsAtLimit first h → motion_of first h ≡ motions.Alarm → Runs m (cleared (plan_of h)) (motion_of first h) (hand_of h) (given_of h)
+halts : {N : ℕ} (first : Opening) (c : Board N) (m : Machine N) (i : Interpreting) (h : Journal) → Keeps first c h → IsAtLimit first h → motion_of first h ≡ motions.Alarm → Runs m (cleared (plan_of h)) (motion_of first h) (hand_of h) (given_of h)
     → i ≡ record c.lines { left = drop 1 c.lines.left } → Keeps first (record c { machine = m; lines = i }) (halted ∷ h)
 halts first c m i h k at alarm runs is = record {
   placed = k.placed;
+  sized = k.sized;
   short = k.short;
   conducted = (record { next = at.next; alarm = alarm; still = at.speed; empty = at.empty; done = at.done }, k.conducted);
   machine = runs;
@@ -207,11 +203,11 @@ halted_alone first h alarm = record {
 }
 
 -- behind a journal it is in alarm
-abbrev pub Locks : Opening → Board → Journal → Type 0
+abbrev pub Locks : {N : ℕ} → Opening → Board N → Journal → Type 0
 Locks first c h = (next : Journal) × Keeps first c next × IsInAlarm first h next
 
 -- it was in alarm already
-pub locked_before : (first : Opening) (c : Board) (h : Journal) → Keeps first c h → IsAtLimit first h → c.machine.hold.motion ≡ motions.Alarm → Locks first c h
+pub locked_before : {N : ℕ} (first : Opening) (c : Board N) (h : Journal) → Keeps first c h → IsAtLimit first h → c.machine.hold.motion ≡ motions.Alarm → Locks first c h
 locked_before first c h k at is = (h, k, record { at = at; alarm = sym k.machine.motion_is ∙ is; alone = record { passes = passes_none first h; port = refl }; left = refl })
 
 stopping_by : (m : AnyMotion) → is_limited m ≡ true → (m ≡ motions.Alarm → ⊥) → m ≡ motions.Stopping
@@ -220,13 +216,13 @@ stopping_by motions.Alarm is other = absurd (other refl)
 stopping_by m is other = absurd cc
 
 -- it has slowed down for that
-pub was_slowing : (first : Opening) (c : Board) (h : Journal) → Keeps first c h → IsAtLimit first h → (c.machine.hold.motion ≡ motions.Alarm → ⊥) → motion_of first h ≡ motions.Stopping
+pub was_slowing : {N : ℕ} (first : Opening) (c : Board N) (h : Journal) → Keeps first c h → IsAtLimit first h → (c.machine.hold.motion ≡ motions.Alarm → ⊥) → motion_of first h ≡ motions.Stopping
 was_slowing first c h k at other = stopping_by (motion_of first h) at.limited (λ e. other (k.machine.motion_is ∙ e))
 
 has_stopped : (first : Opening) (h : Journal) → IsAtLimit first h → motion_of first h ≡ motions.Stopping → IsStopped first h
 has_stopped first h at slows = record { slowed = record { slows = ap is_stopping slows; speed = at.speed; empty = at.empty }; done = at.done }
 
-pub locks_now : (first : Opening) (c : Board) (m : Machine) (h : Journal) → Keeps first c h → IsAtLimit first h → motion_of first h ≡ motions.Stopping → Runs m (plan_of h) motions.Alarm (hand_of h) (given_of h) → Locks first (record c { machine = m }) h
+pub locks_now : {N : ℕ} (first : Opening) (c : Board N) (m : Machine N) (h : Journal) → Keeps first c h → IsAtLimit first h → motion_of first h ≡ motions.Stopping → Runs m (plan_of h) motions.Alarm (hand_of h) (given_of h) → Locks first (record c { machine = m }) h
 locks_now first c m h k at slows runs = (
   became on_stopped motions.Alarm ∷ h,
   locks first c m h k slows (has_stopped first h at slows) runs,
@@ -239,7 +235,7 @@ locks_now first c m h k at slows runs = (
 )
 
 -- what was planned is dropped then
-pub halts_now : (first : Opening) (c : Board) (m : Machine) (i : Interpreting) (h mid : Journal) → Keeps first c mid → IsInAlarm first h mid → Runs m (cleared (plan_of mid)) (motion_of first mid) (hand_of mid) (given_of mid)
+pub halts_now : {N : ℕ} (first : Opening) (c : Board N) (m : Machine N) (i : Interpreting) (h mid : Journal) → Keeps first c mid → IsInAlarm first h mid → Runs m (cleared (plan_of mid)) (motion_of first mid) (hand_of mid) (given_of mid)
     → i ≡ record c.lines { left = drop 1 c.lines.left } → (next : Journal) × Keeps first (record c { machine = m; lines = i }) next × HasHalted first h next
 halts_now first c m i h mid k locked runs is =
     let alone = halted_alone first mid locked.alarm in (
@@ -271,7 +267,7 @@ ready_halted first h mid next ready is look left stops =
 
 -- ---- the run is closed
 
-pub may_close : (first : Opening) (b : Board) (h : Journal) → Keeps first b h → has_limited h ≡ true → left_of first h ≡ [] → b.closing ≡ false → MayClose first h
+pub may_close : {N : ℕ} (first : Opening) (b : Board N) (h : Journal) → Keeps first b h → has_limited h ≡ true → left_of first h ≡ [] → b.closing ≡ false → MayClose first h
 may_close first b h k alarmed none open_yet =
     let one = alarm_limits first h k.conducted k.limited alarmed in
     record { free = none; going = k.going open_yet; begun = one.1; closed = inr alarmed }
@@ -283,7 +279,7 @@ closing_falls first f h none going =
     let d = ap (λ (rs : List Reply). one_if (nat_eq (length (rs ++ Bye ∷ [])) 0)) going in
     omega (arith, p, c, d)
 
-pub closes_limited : (first : Opening) (board now : Board) (h : Journal) → Keeps first board h → Keeps first now (closing ∷ h) → IsReady first h → has_limited h ≡ true → left_of first h ≡ [] → board.closing ≡ false → now.beat ≡ Motion
+pub closes_limited : {N : ℕ} (first : Opening) (board now : Board N) (h : Journal) → Keeps first board h → Keeps first now (closing ∷ h) → IsReady first h → has_limited h ≡ true → left_of first h ≡ [] → board.closing ≡ false → now.beat ≡ Motion
     → board.flags ≡ flags.None → now.flags ≡ flags.None → BoardWorked first Did board.flags now h (closing ∷ h)
 closes_limited first board now h k keeps ready alarmed none open_yet beat no_word_was no_word =
     let few = few_ready first board h k ready alarmed in
@@ -314,16 +310,16 @@ closes_limited first board now h k keeps ready alarmed none open_yet beat no_wor
 -- ---- what is next
 
 -- the alarm is told behind the halt
-pub alarm_next : (first : Opening) (c : Board) (h mid next : Journal) → Keeps first c next → left_of first mid ≡ left_of first h → HasHalted first mid next → left_of first h ≡ halting_work → (r : Reply) × IsNextOf (tell r) c.lines.left
+pub alarm_next : {N : ℕ} (first : Opening) (c : Board N) (h mid next : Journal) → Keeps first c next → left_of first mid ≡ left_of first h → HasHalted first mid next → left_of first h ≡ halting_work → (r : Reply) × IsNextOf (tell r) c.lines.left
 alarm_next first c h mid next k same stops left =
     let e : c.lines.left ≡ tell (Alarm soft_limit) ∷ tell (Message ResetToContinue) ∷ [] = k.lines.left_is ∙ stops.left ∙ ap (λ (ts : List Task). drop 1 ts) (same ∙ left) in
     (Alarm soft_limit, e ∙ ap (λ (ts : List Task). tell (Alarm soft_limit) ∷ drop 1 ts) (sym e))
 
-not_ending : {A : Type 0} (first : Opening) (b : Board) (h : Journal) (t : Task) → Keeps first b h → is_limited (motion_of first h) ≡ true → ends_run t ≡ false → IsNextOf t b.lines.left → A
+not_ending : {N : ℕ} {A : Type 0} (first : Opening) (b : Board N) (h : Journal) (t : Task) → Keeps first b h → is_limited (motion_of first h) ≡ true → ends_run t ≡ false → IsNextOf t b.lines.left → A
 not_ending first b h t k is other next = absurd (let e = sym (limited_next first h t k.conducted is (is_next first b h t k next)) ∙ other in cc)
 
 -- nothing else is next of a run that a soft limit ends
-pub nothing_else : (first : Opening) (b : Board) (h : Journal) (t : Todo) → Keeps first b h → is_limited (motion_of first h) ≡ true → IsTodo t b.lines.left → (t ≡ todo.Halt → ⊥) → (t ≡ todo.Tell → ⊥) → (t ≡ todo.Finish → ⊥) → (t ≡ todo.Nothing → ⊥) → ⊥
+pub nothing_else : {N : ℕ} (first : Opening) (b : Board N) (h : Journal) (t : Todo) → Keeps first b h → is_limited (motion_of first h) ≡ true → IsTodo t b.lines.left → (t ≡ todo.Halt → ⊥) → (t ≡ todo.Tell → ⊥) → (t ≡ todo.Finish → ⊥) → (t ≡ todo.Nothing → ⊥) → ⊥
 nothing_else first b h todo.Nothing k is next stops tells ends none = none refl
 nothing_else first b h todo.Rest k is next stops tells ends none = not_ending first b h (ask a_rest) k is refl next
 nothing_else first b h (todo.Mark m) k is next stops tells ends none = not_ending first b h (ask (a_mark m)) k is refl next.0

@@ -1,5 +1,5 @@
 -- What is next is done: what the rules ask of it, and how the turn ends by it.
-use Rattle.std.proofs.Common.{◌≡◌, ℕ, ◌+◌, ◌≤◌, ◌<◌, inl, inr, Bool, true, false, ◌||◌, ◌⊎◌, List, [], ◌∷◌, ◌++◌, length, drop, nat_eq, sym, refl, ap, ◌∙◌, subst, arith}
+use Rattle.std.proofs.Common.{◌-◌, ◌≡◌, ℕ, ◌+◌, ◌≤◌, ◌<◌, inl, inr, Bool, true, false, ◌||◌, ◌⊎◌, List, [], ◌∷◌, ◌++◌, length, drop, nat_eq, sym, refl, ap, ◌∙◌, subst, arith}
 use Rattle.std.specs.List.{list_any}
 use Rattle.outside.specs.declared.On.TheVariants.{Byte, ReplyRoom}
 use Rattle.outside.specs.declared.Turn.TheVariants.{Did, Wait}
@@ -39,9 +39,10 @@ use Rattle.board_turns.proofs.PortSteps.{not_told}
 use Rattle.board_rules.proofs.Facts.{not_whole, uncounted, unmissed}
 use Rattle.board_rules.proofs.Tries.{publishes_none, publishes_one, worked_behind, passes_did, passes_end, passes_motion}
 use Rattle.board_turns.proofs.Standing.{full_is_queued, goes_or_stands}
-use Rattle.board_turns.proofs.Starting.{none_left_to_change, starts_off, starts_going}
+use Rattle.board_turns.proofs.Starting.{none_left_to_change, starts_off, starts_going, full_is}
 use Rattle.board_rules.proofs.Lasts.{behind_asked, IsClosing}
 use Rattle.board_turns.proofs.Ends.{none_called, none_waited, rounds_still, one_at_most, takes_none, ready_sent, ready_idle, may_await, free_of, no_word_left}
+use Rattle.board_rules.proofs.Opening.{opened}
 
 -- ---- how a turn begins
 
@@ -90,24 +91,24 @@ not_halting first h goes up = by_halt (is_halting (motion_of first h)) refl
     by_halt false e = begins_by (motion_of first h) e goes.unlimited
 
 -- a full plan is run
-pub full_piece : (first : Opening) (h : Journal) → Conducted first h → NoneWaits first h → GoesOn first h → IsNextMove first h → is_full (plan_of h) ≡ true → HasPiece first h
-full_piece first h c none goes move full = inr (by_motion (goes_or_stands (motion_of first h) (not_halting first h goes (held_up_full (left_of first h) move.0 (whole_of h) (is_full (plan_of h)) move.1 full))))
+pub full_piece : (first : Opening) (h : Journal) → Conducted first h → NoneWaits first h → GoesOn first h → IsNextMove first h → is_full first.blocks (plan_of h) ≡ true → HasPiece first h
+full_piece first h c none goes move full = inr (by_motion (goes_or_stands (motion_of first h) (not_halting first h goes (held_up_full (left_of first h) move.0 (whole_of h) (is_full first.blocks (plan_of h)) move.1 full))))
   where
     blocks : has_blocks (plan_of h).blocks ≡ true
-    blocks = full_is_queued (plan_of h).blocks full
+    blocks = full_is_queued first.blocks (plan_of h).blocks (opened first h c).sized.0 full
 
     full_too : (a b : Bool) → a ≡ true → (a || b) ≡ false → is_due first h ≡ true
     full_too true b ea e = absurd cc
     full_too false b ea e = absurd cc
 
     by_motion : StandsOrGoes (motion_of first h) → is_due first h ≡ true
-    by_motion (inl idle) = full_too (is_full (plan_of h)) (awaits_motion (left_of first h) || has_jogged h) full (none (record { stands = idle; blocks = blocks }))
+    by_motion (inl idle) = full_too (is_full first.blocks (plan_of h)) (awaits_motion (left_of first h) || has_jogged h) full (none (record { stands = idle; blocks = blocks }))
     by_motion (inr (inl run)) = ap (λ m. has_segment m (plan_of h)) run ∙ blocks
     by_motion (inr (inr jog)) = ap (λ m. has_segment m (plan_of h)) jog ∙ blocks
 
 -- ---- lines
 
-none_left : (first : Opening) (b : Board) (h : Journal) → Keeps first b h → b.lines.left ≡ [] → left_of first h ≡ []
+none_left : {N : ℕ} (first : Opening) (b : Board N) (h : Journal) → Keeps first b h → b.lines.left ≡ [] → left_of first h ≡ []
 none_left first b h k none = sym k.lines.left_is ∙ none
 
 -- what is next where nothing is left is a line that was taken whole
@@ -115,7 +116,7 @@ held_up_line : (ts : List Task) (whole full : Bool) → ts ≡ [] → whole ≡ 
 held_up_line [] whole full none is = is
 held_up_line (t ∷ ts) whole full none is = absurd cc
 
-pub whole_line : (first : Opening) (b : Board) (h : Journal) → Keeps first b h → LetsLines first h → b.lines.left ≡ [] → b.closing ≡ false → b.input.whole ≡ true → IsWholeLine first h
+pub whole_line : {N : ℕ} (first : Opening) (b : Board N) (h : Journal) → Keeps first b h → LetsLines first h → b.lines.left ≡ [] → b.closing ≡ false → b.input.whole ≡ true → IsWholeLine first h
 whole_line first b h k goes none open_yet whole =
     let free = none_left first b h k none in
     let is = sym k.input.whole_is ∙ whole in
@@ -125,14 +126,14 @@ either_true : (a b : Bool) → a ≡ true → (a || b) ≡ true
 either_true true b is = refl
 either_true false b is = absurd cc
 
-pub lets_lines : (first : Opening) (b : Board) (h : Journal) → Keeps first b h → GoesOn first h → LetsLines first h
+pub lets_lines : {N : ℕ} (first : Opening) (b : Board N) (h : Journal) → Keeps first b h → GoesOn first h → LetsLines first h
 lets_lines first b h k goes = record {
   calm = calm_now first b h k goes.unlimited;
-  begins = λ free whole. either_true (begins_in (motion_of first h)) (is_locked first h) (not_halting first h goes (held_up_line (left_of first h) (whole_of h) (is_full (plan_of h)) free whole));
+  begins = λ free whole. either_true (begins_in (motion_of first h)) (is_locked first h) (not_halting first h goes (held_up_line (left_of first h) (whole_of h) (is_full first.blocks (plan_of h)) free whole));
 }
 
 -- so does a machine that is locked
-pub lets_locked : (first : Opening) (b : Board) (h : Journal) → Keeps first b h → is_limited (motion_of first h) ≡ true → b.alarmed ≡ false → LetsLines first h
+pub lets_locked : {N : ℕ} (first : Opening) (b : Board N) (h : Journal) → Keeps first b h → is_limited (motion_of first h) ≡ true → b.alarmed ≡ false → LetsLines first h
 lets_locked first b h k is none = record { calm = calm; begins = λ free whole. by_cause (limited_alarmed first h k.conducted is) }
   where
     calm : has_limited h ≡ false
@@ -147,7 +148,7 @@ lets_locked first b h k is none = record { calm = calm; begins = λ free whole. 
     by_cause (inr locked) = or_locked (begins_in (motion_of first h)) (is_locked first h) (still_is first h k.unlocked calm locked.1)
 
 -- a byte may be polled for where no line waits to be begun
-pub may_poll : (first : Opening) (b : Board) (h : Journal) → Keeps first b h → LetsLines first h → b.lines.left ≡ [] → b.closing ≡ false → b.input.whole ≡ false → MayPoll first h
+pub may_poll : {N : ℕ} (first : Opening) (b : Board N) (h : Journal) → Keeps first b h → LetsLines first h → b.lines.left ≡ [] → b.closing ≡ false → b.input.whole ≡ false → MayPoll first h
 may_poll first b h k goes none open_yet partial = record {
   calm = goes.calm;
   all_done = none_left first b h k none;
@@ -156,17 +157,17 @@ may_poll first b h k goes none open_yet partial = record {
 }
 
 -- what is next is held up as the fields tell
-held_up : (first : Opening) (b : Board) (h : Journal) → Keeps first b h → is_held_up first h ≡ needs_motion b.lines.left b.input.whole (is_full b.machine.plan)
+held_up : {N : ℕ} (first : Opening) (b : Board N) (h : Journal) → Keeps first b h → is_held_up first h ≡ needs_motion b.lines.left b.input.whole (is_full (N - 1) b.machine.plan)
 held_up first b h k =
-    ap (λ (ts : List Task). needs_motion ts (whole_of h) (is_full (plan_of h))) (sym k.lines.left_is) ∙ ap (λ w. needs_motion b.lines.left w (is_full (plan_of h))) (sym k.input.whole_is)
-    ∙ ap (λ p. needs_motion b.lines.left b.input.whole (is_full p)) (sym k.machine.plan_is)
+    ap (λ (ts : List Task). needs_motion ts (whole_of h) (is_full first.blocks (plan_of h))) (sym k.lines.left_is) ∙ ap (λ w. needs_motion b.lines.left w (is_full first.blocks (plan_of h))) (sym k.input.whole_is)
+    ∙ ap (λ t. needs_motion b.lines.left b.input.whole t) (sym (full_is first b h k))
 
 -- what is next is held up by a machine that is held, or slows down for that
-pub is_halted : (first : Opening) (b : Board) (h : Journal) → Keeps first b h → IsReady first h → is_halting b.machine.hold.motion ≡ true → needs_motion b.lines.left b.input.whole (is_full b.machine.plan) ≡ true → IsHeldUp first h
+pub is_halted : {N : ℕ} (first : Opening) (b : Board N) (h : Journal) → Keeps first b h → IsReady first h → is_halting b.machine.hold.motion ≡ true → needs_motion b.lines.left b.input.whole (is_full (N - 1) b.machine.plan) ≡ true → IsHeldUp first h
 is_halted first b h k ready halts up = record { ready = ready; halts = ap is_halting (sym k.machine.motion_is) ∙ halts; held_up = held_up first b h k ∙ up }
 
 -- what is next goes on, by the fields
-pub goes_on : (first : Opening) (b : Board) (h : Journal) → Keeps first b h → (is_halting b.machine.hold.motion ≡ true → needs_motion b.lines.left b.input.whole (is_full b.machine.plan) ≡ false) → is_limited b.machine.hold.motion ≡ false → GoesOn first h
+pub goes_on : {N : ℕ} (first : Opening) (b : Board N) (h : Journal) → Keeps first b h → (is_halting b.machine.hold.motion ≡ true → needs_motion b.lines.left b.input.whole (is_full (N - 1) b.machine.plan) ≡ false) → is_limited b.machine.hold.motion ≡ false → GoesOn first h
 goes_on first b h k held other = record {
   held = λ halts. (held_up first) b h k ∙ held (ap is_halting k.machine.motion_is ∙ halts);
   unlimited = ap is_limited (sym k.machine.motion_is) ∙ other;
@@ -187,15 +188,12 @@ held_up_awaited (finish ∷ ts) whole full is = refl
 held_up_awaited (halt ∷ ts) whole full is = refl
 
 -- so the motion may be waited for where what is next goes on
-pub may_await_now : (first : Opening) (b : Board) (h : Journal) → Keeps first b h → IsReady first h → GoesOn first h → awaits_motion (left_of first h) ≡ true → MayAwait first h
-may_await_now first b h k ready goes awaits = may_await first h k.conducted ready (not_halting first h goes (held_up_awaited (left_of first h) (whole_of h) (is_full (plan_of h)) awaits)) awaits
+pub may_await_now : {N : ℕ} (first : Opening) (b : Board N) (h : Journal) → Keeps first b h → IsReady first h → GoesOn first h → awaits_motion (left_of first h) ≡ true → MayAwait first h
+may_await_now first b h k ready goes awaits = may_await first h k.conducted ready (not_halting first h goes (held_up_awaited (left_of first h) (whole_of h) (is_full first.blocks (plan_of h)) awaits)) awaits
 
 -- ---- what is next, by the fields
 
-pub next_move : (first : Opening) (b : Board) (h : Journal) → Keeps first b h → IsTodo todo.Move b.lines.left → IsNextMove first h
-next_move first b h k is = (is.0, is_next first b h (ask (a_move is.0)) k is.1)
-
-pub finish_next : (first : Opening) (b : Board) (h : Journal) → Keeps first b h → NeedsNoWait first h → IsTodo todo.Finish b.lines.left → MayFinish first h × IsNextTask first finish h
+pub finish_next : {N : ℕ} (first : Opening) (b : Board N) (h : Journal) → Keeps first b h → NeedsNoWait first h → IsTodo todo.Finish b.lines.left → MayFinish first h × IsNextTask first finish h
 finish_next first b h k needs is =
     let next = is_next first b h finish k is in
     let stopped = (needs (ap awaits_motion next)).0 in
@@ -246,7 +244,7 @@ may_run_ended first h may stopped next is =
 -- ---- replies
 
 -- a reply was handed back
-pub told_later : (first : Opening) (was : Flags) (board : Board) (h : Journal) (r : Reply) → Keeps first board h → IsReady first h → IsNextTask first (tell r) h → board.beat ≡ Motion → board.flags ≡ words.None
+pub told_later : {N : ℕ} (first : Opening) (was : Flags) (board : Board N) (h : Journal) (r : Reply) → Keeps first board h → IsReady first h → IsNextTask first (tell r) h → board.beat ≡ Motion → board.flags ≡ words.None
     → BoardWorked first (Wait ReplyRoom) was board h (at_port no_reply_room ∷ h)
 told_later first was board h r k ready next beat no_word =
     let worked = worked_behind (at_port no_reply_room) h (at_port no_reply_room ∷ h) refl (record { no_changes = refl; none_planned = refl }) refl refl ready.quiet.worked in
@@ -283,7 +281,7 @@ told_later first was board h r k ready next beat no_word =
 
 -- ---- bytes
 
-pub took_worked : (first : Opening) (was : Flags) (board : Board) (b : ℕ) (h : Journal) → Keeps first board (at_port (took b) ∷ h) → TakesFlags board.flags (at_port (took b) ∷ h) → IsReady first h → MayPoll first h → board.beat ≡ Motion
+pub took_worked : {N : ℕ} (first : Opening) (was : Flags) (board : Board N) (b : ℕ) (h : Journal) → Keeps first board (at_port (took b) ∷ h) → TakesFlags board.flags (at_port (took b) ∷ h) → IsReady first h → MayPoll first h → board.beat ≡ Motion
     → BoardWorked first Did was board h (at_port (took b) ∷ h)
 took_worked first was board b h keeps takes ready may beat =
     let none : NoneWaits first (at_port (took b) ∷ h) = (λ waiting. ready.none_waits (record { stands = waiting.stands; blocks = waiting.blocks })) in
@@ -346,10 +344,10 @@ polled_end first h ready may = record {
 }
 
 -- no queued block waits for a start, by the fields
-pub none_waiting : (first : Opening) (board : Board) (h : Journal) → Keeps first board h → (board.machine.hold.motion ≡ Idle → has_blocks board.machine.plan.blocks ≡ true → ⊥) → AreWaiting first h → ⊥
+pub none_waiting : {N : ℕ} (first : Opening) (board : Board N) (h : Journal) → Keeps first board h → (board.machine.hold.motion ≡ Idle → has_blocks board.machine.plan.blocks ≡ true → ⊥) → AreWaiting first h → ⊥
 none_waiting first board h k none waiting = none (k.machine.motion_is ∙ waiting.stands) (ap (λ p. has_blocks p.blocks) k.machine.plan_is ∙ waiting.blocks)
 
-pub waits_for_byte : (first : Opening) (was : Flags) (board : Board) (h : Journal) → Keeps first board h → HasPolled first h → list_any found_nothing (this_turn h) ≡ true → (AreWaiting first h → ⊥) → board.beat ≡ Motion → board.flags ≡ words.None
+pub waits_for_byte : {N : ℕ} (first : Opening) (was : Flags) (board : Board N) (h : Journal) → Keeps first board h → HasPolled first h → list_any found_nothing (this_turn h) ≡ true → (AreWaiting first h → ⊥) → board.beat ≡ Motion → board.flags ≡ words.None
     → BoardWorked first (Wait Byte) was board h h
 waits_for_byte first was board h k polled found none beat no_word =
     let t = polled.tries in
@@ -391,7 +389,7 @@ called true b d e = refl
 called false b d e = absurd cc
 
 -- queued blocks start where a poll found no byte
-pub may_start_polled : (first : Opening) (board : Board) (h : Journal) → Keeps first board h → HasPolled first h → has_blocks board.machine.plan.blocks ≡ true → MayStart first board.jogged h
+pub may_start_polled : {N : ℕ} (first : Opening) (board : Board N) (h : Journal) → Keeps first board h → HasPolled first h → has_blocks board.machine.plan.blocks ≡ true → MayStart first board.jogged h
 may_start_polled first board h k polled blocks = record {
   goes = ap halts_next polled.free;
   blocks = sym (ap (λ p. has_blocks p.blocks) k.machine.plan_is) ∙ blocks;
@@ -430,7 +428,7 @@ closing_falls first f h polled =
     let d = ap (λ (rs : List Reply). one_if (nat_eq (length (rs ++ Bye ∷ [])) 0)) polled.going in
     omega (arith, p, c, d)
 
-pub closes_worked : (first : Opening) (board is : Board) (h : Journal) → Keeps first is (closing ∷ h) → HasPolled first h → (AreWaiting first h → ⊥) → is.beat ≡ Motion → board.flags ≡ words.None → is.flags ≡ words.None
+pub closes_worked : {N : ℕ} (first : Opening) (board is : Board N) (h : Journal) → Keeps first is (closing ∷ h) → HasPolled first h → (AreWaiting first h → ⊥) → is.beat ≡ Motion → board.flags ≡ words.None → is.flags ≡ words.None
     → BoardWorked first Did board.flags is h (closing ∷ h)
 closes_worked first board is h keeps polled none beat no_word_was no_word =
     let none_now : AreWaiting first (closing ∷ h) → ⊥ = (λ waiting. none (record { stands = waiting.stands; blocks = waiting.blocks })) in

@@ -70,7 +70,7 @@ one_at_most : (b : Bool) → one_if b ≤ 1
 one_at_most true = omega arith
 one_at_most false = omega arith
 
-pub number_few : (first : Opening) (board : Board) (h : Journal) → EpochFits first board h → number_of first board.flags h < 16
+pub number_few : {N : ℕ} (first : Opening) (board : Board N) (h : Journal) → EpochFits first board h → number_of first board.flags h < 16
 number_few first board h fits =
     let p = pause_once first h fits.keeps.conducted in
     let w = few_words board.flags in

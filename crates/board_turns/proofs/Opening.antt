@@ -7,7 +7,7 @@ use Rattle.flight.specs.Flights.{Flying, Flies}
 use Rattle.flight.specs.Places.{machine_from}
 use Rattle.line_interpreter.specs.Interpreting.{Interpreting}
 use Rattle.line_interpreter.specs.Lefts.{greeting}
-use Rattle.line_interpreter.specs.Resets.{state_anew}
+use Rattle.run_rules.specs.Resets.{reset_state}
 use Rattle.std.specs.Int.{from_bool}
 use Rattle.planner_runs.specs.Runs.{fresh_plan}
 use Rattle.run_rules.specs.declared.State.{State}
@@ -33,11 +33,12 @@ use Rattle.board_turns.specs.declared.board.Beat.TheVariants.{Motion}
 use Rattle.board_lines.specs.declared.input.Input.{Input}
 use Rattle.board_lines.specs.Inputs.{Reads}
 use Rattle.board_turns.specs.Boards.{EpochFits, KeepsBetween, Works}
+use Rattle.board_rules.proofs.Opening.{opened}
 
 -- ---- any epoch
 
 -- a board of these that has taken nothing, and owes nothing
-abbrev pub anew : Machine → Flying → Interpreting → Input → State → Board
+abbrev pub anew : {N : ℕ} → Machine N → Flying → Interpreting → Input → State → Board N
 anew m f l i s = record {
   machine = m;
   flight = f;
@@ -60,12 +61,13 @@ none_unlocked : (m : AnyMotion) → (is_alarm m && (not (is_limited m && true) &
 none_unlocked motions.Alarm = refl
 none_unlocked _ = refl
 
-pub opens_epoch : (first : Opening) (m : Machine) (f : Flying) (l : Interpreting) (i : Input) (s : State) → IsPlaced first → MayOpen first → first.lines ≤ 2 ^ 31
+pub opens_epoch : {N : ℕ} (first : Opening) (m : Machine N) (f : Flying) (l : Interpreting) (i : Input) (s : State) → IsPlaced first → first.blocks ≡ N - 1 → MayOpen first → first.lines ≤ 2 ^ 31
     → Runs m fresh_plan first.motion [] [] → Works l (telling first.tells) (before_first first) → Reads i [] false → Flies first.place f [] 0 → s ≡ first.state
     → EpochFits first (anew m f l i s) []
-opens_epoch first m f l i s placed opens few runs works reads flies answered = record {
+opens_epoch first m f l i s placed sized opens few runs works reads flies answered = record {
   keeps = record {
     placed = placed;
+    sized = sized;
     short = omega (arith, few);
     conducted = opens;
     machine = runs;
@@ -126,7 +128,7 @@ halted_at : (base : ℕ) (first : Opening) (h : Journal) (w : Work) (halted : �
 halted_at base first h w halted is = let e : halted ≡ halted_in w - base = omega (arith, is) in ap (machine_from first.place (published_of h)) e
 
 -- the machine that was halted, as the reset leaves it
-runs_next : (base : ℕ) (first : Opening) (h : Journal) (w : Work) (m : Machine) → (motion_of first h ≡ motions.Stopping → ⊥) → Runs m fresh_plan (behind_reset (motion_of first h)) [] []
+runs_next : {N : ℕ} (base : ℕ) (first : Opening) (h : Journal) (w : Work) (m : Machine N) → (motion_of first h ≡ motions.Stopping → ⊥) → Runs m fresh_plan (behind_reset (motion_of first h)) [] []
     → Runs m fresh_plan (next_opening base first h w).motion [] []
 runs_next base first h w m other runs = record {
   plan_is = runs.plan_is;
@@ -143,7 +145,7 @@ counted true false is = absurd cc
 counted false true is = absurd cc
 
 -- the number of its first line
-number_next : (base : ℕ) (first : Opening) (h : Journal) (w : Work) (b : Board) (dropped : ℕ) → KeepsBetween first b h → dropped ≡ lfs_in (taken_in (port_log w))
+number_next : {N : ℕ} (base : ℕ) (first : Opening) (h : Journal) (w : Work) (b : Board N) (dropped : ℕ) → KeepsBetween first b h → dropped ≡ lfs_in (taken_in (port_log w))
     → b.lines.number + (dropped + from_bool b.input.whole) ≡ (next_opening base first h w).lines + 1
 number_next base first h w b dropped k drops =
     let was = k.lines.number_is in
@@ -151,27 +153,27 @@ number_next base first h w b dropped k drops =
     let whole = counted b.input.whole (whole_of h) k.input.whole_is in omega (arith, was, last, whole, drops)
 
 -- it can be counted
-pub few_lines : (base : ℕ) (first : Opening) (h : Journal) (w : Work) (b : Board) (dropped : ℕ) → KeepsBetween first b h → dropped ≡ lfs_in (taken_in (port_log w)) → (next_opening base first h w).lines ≤ 2 ^ 31
+pub few_lines : {N : ℕ} (base : ℕ) (first : Opening) (h : Journal) (w : Work) (b : Board N) (dropped : ℕ) → KeepsBetween first b h → dropped ≡ lfs_in (taken_in (port_log w)) → (next_opening base first h w).lines ≤ 2 ^ 31
     → b.lines.number + (dropped + from_bool b.input.whole) ≤ 2 ^ 31 + 1
 few_lines base first h w b dropped k drops few = let n = number_next base first h w b dropped k drops in omega (arith, n, few)
 
 -- lines that are judged from what a reset at this place leaves of a state, and greet
 abbrev pub lines_behind : Steps3 → State → (number : ℕ) → (moving locked : Bool) → Interpreting
-lines_behind at s number moving locked = record { state = state_anew at s; number = number; left = telling (greeting moving locked) }
+lines_behind at s number moving locked = record { state = reset_state at s; number = number; left = telling (greeting moving locked) }
 
 -- its lines: what greets, the state that the answered ones leave, and the number of the next
-works_next : (base : ℕ) (first : Opening) (h : Journal) (w : Work) (b : Board) (dropped : ℕ) (at : Steps3) (moving locked : Bool) (l : Interpreting) → KeepsBetween first b h
+works_next : {N : ℕ} (base : ℕ) (first : Opening) (h : Journal) (w : Work) (b : Board N) (dropped : ℕ) (at : Steps3) (moving locked : Bool) (l : Interpreting) → KeepsBetween first b h
     → dropped ≡ lfs_in (taken_in (port_log w)) → at ≡ (next_opening base first h w).place → moving ≡ is_moving (motion_of first h) → locked ≡ (is_moving (motion_of first h) || is_alarm (motion_of first h))
     → l ≡ lines_behind at b.answered (b.lines.number + (dropped + from_bool b.input.whole)) moving locked
     → Works l (telling (next_opening base first h w).tells) (before_first (next_opening base first h w))
 works_next base first h w b dropped at moving locked l k drops place moves locks is =
     record {
       left_is = ap (λ (j : Interpreting). j.left) is ∙ (λ x. telling (greeting (moves x) (locks x)));
-      state_is = ap (λ (j : Interpreting). j.state) is ∙ (λ x. state_anew (place x) (k.answered_is x));
+      state_is = ap (λ (j : Interpreting). j.state) is ∙ (λ x. reset_state (place x) (k.answered_is x));
       number_is = ap (λ (j : Interpreting). j.number) is ∙ number_next base first h w b dropped k drops;
     }
 
-pub opens_behind_reset : (base : ℕ) (first : Opening) (h : Journal) (w : Work) (b : Board) (halted dropped : ℕ) (at : Steps3) (m : Machine) (moving locked : Bool) (l : Interpreting) (i : Input) (f : Flying) (s : State)
+pub opens_behind_reset : {N : ℕ} (base : ℕ) (first : Opening) (h : Journal) (w : Work) (b : Board N) (halted dropped : ℕ) (at : Steps3) (m : Machine N) (moving locked : Bool) (l : Interpreting) (i : Input) (f : Flying) (s : State)
     → EpochFits first b h → MayReset first h → halted_in w ≡ base + halted → dropped ≡ lfs_in (taken_in (port_log w)) → (next_opening base first h w).lines ≤ 2 ^ 31
     → at ≡ machine_from first.place (published_of h) halted → moving ≡ is_moving b.machine.hold.motion → Runs m fresh_plan (behind_reset b.machine.hold.motion) [] []
     → (locked ≡ true) ↔ (m.hold.motion ≡ motions.Alarm)
@@ -185,5 +187,5 @@ opens_behind_reset base first h w b halted dropped at m moving locked l i f s fi
     let now = subst (λ (n : AnyMotion). Runs m fresh_plan (behind_reset n) [] []) motion runs in
     let locked_now = locked_is (motion_of first h) locked other (λ e. sym now.motion_is ∙ locks.0 e, λ e. locks.1 (now.motion_is ∙ e)) in
     let works = works_next base first h w b dropped at moving locked l k drops place (moves ∙ ap is_moving motion) locked_now is in
-    opens_epoch (next_opening base first h w) m f l i s refl (opens_next (reset_of base first h w) (answered_state first h)) few (runs_next base first h w m other now) works reads
+    opens_epoch (next_opening base first h w) m f l i s refl k.sized (opens_next first.blocks (reset_of base first h w) (answered_state first h) (opened first h k.conducted).sized) few (runs_next base first h w m other now) works reads
     (subst (λ (p : Steps3). Flies p f [] 0) place flies) (answered ∙ works.state_is)

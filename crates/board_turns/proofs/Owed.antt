@@ -1,5 +1,5 @@
 -- A report that is owed is tried to be told, and the turn goes on behind it.
-use Rattle.std.proofs.Common.{◌≡◌, ℕ, ◌+◌, ◌≤◌, ◌⊎◌, inl, inr, Bool, true, false, ◌||◌, not, Ok, Err, List, [], ◌∷◌, ◌++◌, drop, Some, None, sym, refl, ap, ◌∙◌, subst, arith, append_assoc}
+use Rattle.std.proofs.Common.{◌≡◌, ℕ, ◌+◌, ◌≤◌, ◌⊎◌, inl, inr, Bool, true, false, not, Ok, Err, List, [], ◌∷◌, ◌++◌, drop, Some, None, sym, refl, ap, ◌∙◌, subst, arith, append_assoc}
 use Rattle.std.specs.Prelude.{OnOk, OnErr}
 use Rattle.std.specs.Result.{is_ok}
 use Rattle.std.specs.declared.result.Result.{Result}
@@ -104,21 +104,21 @@ found_room first word bytes h f =
       tries = f.tries;
     }
 
-pub found_asked : (first : Opening) (word : Option Exec) (buffer : Option (ℕ × ℕ)) (h next : Journal) → IsFound first word h → HasAskedRoom buffer h next → IsFound first word next
+pub found_asked : (first : Opening) (word : Option Exec) (buffer : Option (ℕ × ℕ)) (h next : Journal) → IsFound first word h → HasAskedRoom first buffer h next → IsFound first word next
 found_asked first word buffer h next f a = by_are a.are
   where
     by_are : (next ≡ h) ⊎ ((bytes : ℕ) × (next ≡ at_port (found_free bytes) ∷ h)) → IsFound first word next
     by_are (inl same) = subst (λ (j : Journal). IsFound first word j) (sym same) f
     by_are (inr asked) = subst (λ (j : Journal). IsFound first word j) (sym asked.1) (found_room first word asked.0 h f)
 
-pub flies_asked : (first : Opening) (c : Board) (buffer : Option (ℕ × ℕ)) (h next : Journal) → Flies first.place c.flight (published_of h) (known_of h) → HasAskedRoom buffer h next → Flies first.place c.flight (published_of next) (known_of next)
+pub flies_asked : {N : ℕ} (first : Opening) (c : Board N) (buffer : Option (ℕ × ℕ)) (h next : Journal) → Flies first.place c.flight (published_of h) (known_of h) → HasAskedRoom first buffer h next → Flies first.place c.flight (published_of next) (known_of next)
 flies_asked first c buffer h next flies a = by_are a.are
   where
     by_are : (next ≡ h) ⊎ ((bytes : ℕ) × (next ≡ at_port (found_free bytes) ∷ h)) → Flies first.place c.flight (published_of next) (known_of next)
     by_are (inl same) = subst (λ (j : Journal). Flies first.place c.flight (published_of j) (known_of j)) (sym same) flies
     by_are (inr asked) = subst (λ (j : Journal). Flies first.place c.flight (published_of j) (known_of j)) (sym asked.1) flies
 
-behind_asked : (first : Opening) (buffer : Option (ℕ × ℕ)) (h mid next : Journal) → HasObserved first h mid → HasAskedRoom buffer mid next → IsBehind h next
+behind_asked : (first : Opening) (buffer : Option (ℕ × ℕ)) (h mid next : Journal) → HasObserved first h mid → HasAskedRoom first buffer mid next → IsBehind h next
 behind_asked first buffer h mid next o a = by_are a.are
   where
     by_are : (next ≡ mid) ⊎ ((bytes : ℕ) × (next ≡ at_port (found_free bytes) ∷ mid)) → IsBehind h next
@@ -126,15 +126,15 @@ behind_asked first buffer h mid next o a = by_are a.are
     by_are (inr asked) = record { steps = at_port (found_free asked.0) ∷ o.passes.steps; are = asked.1 ∙ ap (λ (j : Journal). at_port (found_free asked.0) ∷ j) o.passes.are }
 
 -- the room that was asked for is known
-pub room_known : (buffer : Option (ℕ × ℕ)) (h next : Journal) → HasAskedRoom buffer h next → HasAskedRoom buffer next next
-room_known buffer h next a = record { are = inl refl; room = a.room }
+pub room_known : (first : Opening) (buffer : Option (ℕ × ℕ)) (h next : Journal) → HasAskedRoom first buffer h next → HasAskedRoom first buffer next next
+room_known first buffer h next a = record { are = inl refl; room = a.room }
 
 -- ---- the report
 
-pub may_tell : (first : Opening) (c : Board) (r : Report) (h : Journal) → Keeps first c h → IsTold first c r h → MayTellNow first (replies.Report r) h
+pub may_tell : {N : ℕ} (first : Opening) (c : Board N) (r : Report) (h : Journal) → Keeps first c h → IsTold first c r h → MayTellNow first (replies.Report r) h
 may_tell first c r h k told = record { conducted = k.conducted; next = inl refl; text = told.valid }
 
-report_at : (first : Opening) (c : Board) (word : Option Exec) (r : Report) (h : Journal) (k : Keeps first c h) → IsFound first word h → IsTold first c r h → IsReportAt first r h
+report_at : {N : ℕ} (first : Opening) (c : Board N) (word : Option Exec) (r : Report) (h : Journal) (k : Keeps first c h) → IsFound first word h → IsTold first c r h → IsReportAt first r h
 report_at first c word r h k f told = record {
   owed = f.owed;
   load = f.load;
@@ -190,11 +190,11 @@ reported_kept first word h f =
     }
 
 -- behind a journal a report was tried to be told
-abbrev pub Reports : Opening → (BoardLog → Type 0) → Bool → Board → Option Exec → Journal → Type 0
+abbrev pub Reports : {N : ℕ} → Opening → (BoardLog → Type 0) → Bool → Board N → Option Exec → Journal → Type 0
 Reports first stands told c word h = (next : Journal) × stands (port_log next) × Keeps first (record c { owes = not told }) next × IsReported first told word next × IsBehind h next
 
-pub reports : (first : Opening) (Rest : Type 0) (old new : Rest → Opening → BoardLog → Type 0) (rest : Rest) (answer : Result (Unit {0}) Reply) (c : Board) (word : Option Exec) (buffer : Option (ℕ × ℕ)) (r : Report) (h mid next : Journal)
-    → IsToReport first word h → HasObserved first h mid → HasAskedRoom buffer mid next → Keeps first c next → IsTold first c r next → old rest first (port_log next)
+pub reports : {N : ℕ} (first : Opening) (Rest : Type 0) (old new : Rest → Opening → BoardLog → Type 0) (rest : Rest) (answer : Result (Unit {0}) Reply) (c : Board N) (word : Option Exec) (buffer : Option (ℕ × ℕ)) (r : Report) (h mid next : Journal)
+    → IsToReport first word h → HasObserved first h mid → HasAskedRoom first buffer mid next → Keeps first c next → IsTold first c r next → old rest first (port_log next)
     → OnOk answer ((rest : Rest) (first : Opening) (h : Journal) → old rest first (port_log h) → MayTellNow first (replies.Report r) h → new rest first (said (replies.Report r) ∷ port_log h))
     → OnErr answer ((rest : Rest) (first : Opening) (l : BoardLog) → old rest first l → new rest first (no_reply_room ∷ l))
     → Reports first (new rest first) (is_ok answer) c word h
@@ -219,11 +219,11 @@ reports first Rest old new rest (Err e) c word buffer r h mid next t o a k told 
 
 -- ---- where there is no room for it
 
-motion_beat : (board : Board) → board.beat ≡ Motion → has_published board.beat ≡ true → ⊥
+motion_beat : {N : ℕ} (board : Board N) → board.beat ≡ Motion → has_published board.beat ≡ true → ⊥
 motion_beat board beat e = absurd (let s = sym (ap has_published beat) ∙ e in cc)
 
 -- the room is waited for
-waits_for_room : (first : Opening) (board : Board) (was : Flags) (h next : Journal) (steps : List Step) → next ≡ steps ++ h → Keeps first board next → LacksRoom first next → (is_due first next ≡ true → waits_of next ≡ []) → board.beat ≡ Motion
+waits_for_room : {N : ℕ} (first : Opening) (board : Board N) (was : Flags) (h next : Journal) (steps : List Step) → next ≡ steps ++ h → Keeps first board next → LacksRoom first next → (is_due first next ≡ true → waits_of next ≡ []) → board.beat ≡ Motion
     → board.flags ≡ words.Both → BoardWorked first (Wait ReplyRoom) was board h next
 waits_for_room first board was h next steps are keeps l tried beat both = record {
   keeps = keeps;
@@ -254,18 +254,12 @@ waits_for_room first board was h next steps are keeps l tried beat both = record
 }
 
 -- nothing is in hand, nor due
-pub waits_idle : (first : Opening) (board : Board) (was : Flags) (h : Journal) → Keeps first board h → LacksRoom first h → (HasPiece first h → ⊥) → board.beat ≡ Motion → BoardWorked first (Wait ReplyRoom) was (record board { flags = words.Both }) h h
+pub waits_idle : {N : ℕ} (first : Opening) (board : Board N) (was : Flags) (h : Journal) → Keeps first board h → LacksRoom first h → (HasPiece first h → ⊥) → board.beat ≡ Motion → BoardWorked first (Wait ReplyRoom) was (record board { flags = words.Both }) h h
 waits_idle first board was h k l none beat =
     waits_for_room first (record board { flags = words.Both }) was h h [] refl (other_flags first board words.Both h k) l (λ due. absurd (none (inr due))) beat refl
 
-less_or : (a b c : Bool) → (a ≡ true → b ≡ true) → (b || c) ≡ false → (a || c) ≡ false
-less_or false false c then none = none
-less_or false true c then none = absurd cc
-less_or true false c then none = absurd (let e = then refl in cc)
-less_or true true c then none = absurd cc
-
 -- a piece was handed back
-pub waits_handed : (first : Opening) (board : Board) (was : Flags) (h mid next : Journal) → Keeps first board next → LacksRoom first h → HasTried first false h mid → HasFilled first mid next → board.beat ≡ Motion → board.flags ≡ words.Both
+pub waits_handed : {N : ℕ} (first : Opening) (board : Board N) (was : Flags) (h mid next : Journal) → Keeps first board next → LacksRoom first h → HasTried first false h mid → HasFilled first mid next → board.beat ≡ Motion → board.flags ≡ words.Both
     → BoardWorked first (Wait ReplyRoom) was board h next
 waits_handed first board was h mid next k l tried filled beat both =
     let a = filled.alone.passes in
@@ -285,7 +279,7 @@ waits_handed first board was h mid next k l tried filled beat both =
     }) (λ due. a.waits ∙ tried.waits) beat both
 
 -- a piece was published, and the report is still told next
-pub sent_owing : (first : Opening) (board : Board) (was : Flags) (h mid next : Journal) → Keeps first board next → LacksRoom first h → HasTried first true h mid → HasFilled first mid next
+pub sent_owing : {N : ℕ} (first : Opening) (board : Board N) (was : Flags) (h mid next : Journal) → Keeps first board next → LacksRoom first h → HasTried first true h mid → HasFilled first mid next
     → BoardWorked first Did was (record board { flags = words.Report None; beat = Main }) h next × (list_any moving (this_turn next) ≡ true)
 sent_owing first board was h mid next k l tried filled =
     let a = filled.alone.passes in
@@ -377,7 +371,7 @@ stands_behind first stands waiting h s = subst (λ l. stands l) (sym (port_behin
 -- ---- the turn
 
 -- it was told
-pub did_report : (first : Opening) (board : Board) (was : Flags) (waiting : Option Exec) (h next : Journal) → Keeps first board (obeying first waiting next) → IsReported first true waiting next → IsBehind h next → board.beat ≡ Motion
+pub did_report : {N : ℕ} (first : Opening) (board : Board N) (was : Flags) (waiting : Option Exec) (h next : Journal) → Keeps first board (obeying first waiting next) → IsReported first true waiting next → IsBehind h next → board.beat ≡ Motion
     → BoardWorked first Did was (record board { flags = words.None }) h (obeying first waiting next)
 did_report first board was waiting h next k r b beat =
     let o = obeyed_word first true waiting next r in
@@ -403,7 +397,7 @@ did_report first board was waiting h next k r b beat =
     }
 
 -- it was not, and the board went on
-pub went_on : (first : Opening) (t : Turn) (board : Board) (was : Flags) (h mid next : Journal) → IsBehind h mid → BoardWorked first t was board mid next → (t ≡ Did → list_any moving (this_turn next) ≡ true) → BoardWorked first t was board h next
+pub went_on : {N : ℕ} (first : Opening) (t : Turn) (board : Board N) (was : Flags) (h mid next : Journal) → IsBehind h mid → BoardWorked first t was board mid next → (t ≡ Did → list_any moving (this_turn next) ≡ true) → BoardWorked first t was board h next
 went_on first t board was h mid next b w moved = record {
   keeps = w.keeps;
   rounds = w.rounds;

@@ -1,5 +1,5 @@
 -- The machine is held for a pause where it has stopped.
-use Rattle.std.proofs.Common.{◌≡◌, inr, ◌≤◌, ◌<◌, List, [], ◌∷◌, ◌++◌, length, nat_eq, refl, sym, ap, ◌∙◌, subst, arith, append_assoc}
+use Rattle.std.proofs.Common.{ℕ, ◌≡◌, inr, ◌≤◌, ◌<◌, List, [], ◌∷◌, ◌++◌, length, nat_eq, refl, sym, ap, ◌∙◌, subst, arith, append_assoc}
 use Rattle.outside.specs.declared.Turn.TheVariants.{Did}
 use Rattle.run_rules.specs.Work as work
 use Rattle.run_rules.specs.Work.Task.{pause}
@@ -31,7 +31,7 @@ falls first h next task passes =
     omega (arith, fewer, slower, one, same)
 
 -- it is held, and what comes next is added
-pub paused_filled : (first : Opening) (board was : Board) (h next : Journal) → Keeps first was h → IsReady first h → IsNextTask first pause h → HasFilled first (paused ∷ h) next → Keeps first board next → board.beat ≡ Motion → board.flags ≡ flags.None
+pub paused_filled : {N : ℕ} (first : Opening) (board was : Board N) (h next : Journal) → Keeps first was h → IsReady first h → IsNextTask first pause h → HasFilled first (paused ∷ h) next → Keeps first board next → board.beat ≡ Motion → board.flags ≡ flags.None
     → BoardWorked first Did flags.None board h next
 paused_filled first board was h next k ready task filled keeps beat no_word =
     let a = filled.alone.passes in

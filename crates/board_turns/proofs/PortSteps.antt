@@ -24,11 +24,12 @@ use Rattle.board_turns.specs.Boards.{Keeps, Works}
 use Rattle.board_turns.proofs.Known.{few_tried}
 
 -- a piece is published
-pub sent : (first : Opening) (c : Board) (m : Machine) (f : Flying) (p : Piece) (h : Journal) → Keeps first c h → hand_of h ≡ p ∷ [] → IsTimely p h → Runs m (plan_of h) (motion_of first h) [] (given_of h)
+pub sent : {N : ℕ} (first : Opening) (c : Board N) (m : Machine N) (f : Flying) (p : Piece) (h : Journal) → Keeps first c h → hand_of h ≡ p ∷ [] → IsTimely p h → Runs m (plan_of h) (motion_of first h) [] (given_of h)
     → ((known : ℕ) → Flies first.place c.flight (published_of h) known → Flies first.place f (published_of h ++ p ∷ []) known)
     → Keeps first (record c { machine = m; flight = f }) (at_port (published p) ∷ h)
 sent first c m f p h k is timely runs flies = record {
   placed = k.placed;
+  sized = k.sized;
   short = k.short;
   conducted = ((is ∙ ap (λ (ps : List Piece). p ∷ drop 1 ps) (sym is), timely), k.conducted);
   machine = subst (λ (ps : List Piece). Runs m (plan_of h) (motion_of first h) (drop 1 ps) (given_of h)) (sym is) runs;
@@ -53,9 +54,10 @@ sent first c m f p h k is timely runs flies = record {
 }
 
 -- it is handed back
-pub not_sent : (first : Opening) (c : Board) (done : ℕ) (h : Journal) → Keeps first c h → (hand_of h ≡ [] → ⊥) → LacksPieceRoom done (port_log h) → Keeps first c (at_port (no_piece_room done) ∷ h)
+pub not_sent : {N : ℕ} (first : Opening) (c : Board N) (done : ℕ) (h : Journal) → Keeps first c h → (hand_of h ≡ [] → ⊥) → LacksPieceRoom done (port_log h) → Keeps first c (at_port (no_piece_room done) ∷ h)
 not_sent first c done h k some full = record {
   placed = k.placed;
+  sized = k.sized;
   short = k.short;
   conducted = (record { some = some; full = full }, k.conducted);
   machine = k.machine;
@@ -80,9 +82,10 @@ not_sent first c done h k some full = record {
 }
 
 -- so many ticks are found done
-pub looked : (first : Opening) (c : Board) (done : ℕ) (h : Journal) → Keeps first c h → MayBeDone done (port_log h) → Keeps first c (at_port (loaded done) ∷ h)
+pub looked : {N : ℕ} (first : Opening) (c : Board N) (done : ℕ) (h : Journal) → Keeps first c h → MayBeDone done (port_log h) → Keeps first c (at_port (loaded done) ∷ h)
 looked first c done h k may = record {
   placed = k.placed;
+  sized = k.sized;
   short = k.short;
   conducted = (may, k.conducted);
   machine = k.machine;
@@ -107,7 +110,7 @@ looked first c done h k may = record {
 }
 
 -- a task less is left
-pub one_less : (c : Board) (i : Interpreting) (first : Opening) (h : Journal) → Works c.lines (left_of first h) (before_of first h) → i ≡ record c.lines { left = drop 1 c.lines.left }
+pub one_less : {N : ℕ} (c : Board N) (i : Interpreting) (first : Opening) (h : Journal) → Works c.lines (left_of first h) (before_of first h) → i ≡ record c.lines { left = drop 1 c.lines.left }
     → Works i (drop 1 (left_of first h)) (before_of first h)
 one_less c i first h w is = record {
   left_is = ap (λ (j : Interpreting). j.left) is ∙ ap (λ (ts : List Task). drop 1 ts) w.left_is;
@@ -116,10 +119,11 @@ one_less c i first h w is = record {
 }
 
 -- a reply is told
-pub told : (first : Opening) (c : Board) (i : Interpreting) (s : State) (greeted : Bool) (r : Reply) (h : Journal) → Keeps first c h → IsNextTask first (tell r) h → is_report r ≡ false → owes_report h ≡ false → (r ≡ Bye → hand_of h ≡ []) → i ≡ record c.lines { left = drop 1 c.lines.left }
+pub told : {N : ℕ} (first : Opening) (c : Board N) (i : Interpreting) (s : State) (greeted : Bool) (r : Reply) (h : Journal) → Keeps first c h → IsNextTask first (tell r) h → is_report r ≡ false → owes_report h ≡ false → (r ≡ Bye → hand_of h ≡ []) → i ≡ record c.lines { left = drop 1 c.lines.left }
     → s ≡ cond (is_answer r) c.lines.state c.answered → greeted ≡ (is_banner r || c.greeted) → Keeps first (record c { lines = i; answered = s; greeted = greeted }) (at_port (answered r) ∷ h)
 told first c i s greeted r h k next plain unowed empty is state greets = record {
   placed = k.placed;
+  sized = k.sized;
   short = k.short;
   conducted = (record { next = next; plain = plain; unowed = unowed; empty = empty; unlocked = k.unlocked }, k.conducted);
   machine = k.machine;
@@ -144,9 +148,10 @@ told first c i s greeted r h k next plain unowed empty is state greets = record 
 }
 
 -- it is handed back
-pub not_told : (first : Opening) (c : Board) (h : Journal) → Keeps first c h → tells_next (left_of first h) ≡ true → Keeps first c (at_port no_reply_room ∷ h)
+pub not_told : {N : ℕ} (first : Opening) (c : Board N) (h : Journal) → Keeps first c h → tells_next (left_of first h) ≡ true → Keeps first c (at_port no_reply_room ∷ h)
 not_told first c h k next = record {
   placed = k.placed;
+  sized = k.sized;
   short = k.short;
   conducted = (ap (λ b. b || owes_report h) next, k.conducted);
   machine = k.machine;
@@ -171,9 +176,10 @@ not_told first c h k next = record {
 }
 
 -- a report is told
-pub report_told : (first : Opening) (c : Board) (r : Report) (h : Journal) (k : Keeps first c h) → IsReportAt first r h → Keeps first (record c { owes = false }) (at_port (reported r) ∷ h)
+pub report_told : {N : ℕ} (first : Opening) (c : Board N) (r : Report) (h : Journal) (k : Keeps first c h) → IsReportAt first r h → Keeps first (record c { owes = false }) (at_port (reported r) ∷ h)
 report_told first c r h k may = record {
   placed = k.placed;
+  sized = k.sized;
   short = k.short;
   conducted = (may, k.conducted);
   machine = k.machine;
@@ -202,9 +208,10 @@ or_true true b e = refl
 or_true false b e = e
 
 -- it is handed back
-pub report_kept : (first : Opening) (c : Board) (h : Journal) → Keeps first c h → owes_report h ≡ true → Keeps first (record c { owes = true }) (at_port no_reply_room ∷ h)
+pub report_kept : {N : ℕ} (first : Opening) (c : Board N) (h : Journal) → Keeps first c h → owes_report h ≡ true → Keeps first (record c { owes = true }) (at_port no_reply_room ∷ h)
 report_kept first c h k owed = record {
   placed = k.placed;
+  sized = k.sized;
   short = k.short;
   conducted = (or_true (tells_next (left_of first h)) (owes_report h) owed, k.conducted);
   machine = k.machine;
@@ -229,9 +236,10 @@ report_kept first c h k owed = record {
 }
 
 -- no byte is found
-pub polled_empty : (first : Opening) (c : Board) (h : Journal) → Keeps first c h → MayPoll first h → Keeps first c (at_port found_empty ∷ h)
+pub polled_empty : {N : ℕ} (first : Opening) (c : Board N) (h : Journal) → Keeps first c h → MayPoll first h → Keeps first c (at_port found_empty ∷ h)
 polled_empty first c h k may = record {
   placed = k.placed;
+  sized = k.sized;
   short = k.short;
   conducted = (may, k.conducted);
   machine = k.machine;
@@ -256,9 +264,10 @@ polled_empty first c h k may = record {
 }
 
 -- none is found, and the link is closed
-pub polled_closed : (first : Opening) (c : Board) (h : Journal) → Keeps first c h → MayPoll first h → Keeps first c (at_port found_closed ∷ h)
+pub polled_closed : {N : ℕ} (first : Opening) (c : Board N) (h : Journal) → Keeps first c h → MayPoll first h → Keeps first c (at_port found_closed ∷ h)
 polled_closed first c h k may = record {
   placed = k.placed;
+  sized = k.sized;
   short = k.short;
   conducted = (may, k.conducted);
   machine = k.machine;

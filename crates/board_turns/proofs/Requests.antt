@@ -1,5 +1,5 @@
 -- What a board keeps where it takes its words of flags, and obeys them.
-use Rattle.std.proofs.Common.{◌≡◌, inl, inr, [], ◌∷◌, Bool, true, false, not, ◌&&◌, ap, sym, refl, ◌∙◌, subst, append-nil}
+use Rattle.std.proofs.Common.{ℕ, ◌≡◌, inl, inr, [], ◌∷◌, Bool, true, false, not, ◌&&◌, ap, sym, refl, ◌∙◌, subst, append-nil}
 use Rattle.code_table.specs.declared.flags.Exec.{Exec}
 use Rattle.code_table.specs.declared.flags.Ovr.{Ovr}
 use Rattle.feed_hold.specs.Motions.{after_word}
@@ -24,10 +24,11 @@ use Rattle.board_turns.specs.Boards.{Keeps}
 use Rattle.board_rules.proofs.Uncut.{cut_obeyed}
 
 -- a word of requests is taken
-pub takes_word : (first : Opening) (c : Board) (owes resetting : Bool) (word : Exec) (h : Journal) → Keeps first c h → MayTakeRequests word h → owes ≡ owes_report (at_port (took_exec word) ∷ h)
+pub takes_word : {N : ℕ} (first : Opening) (c : Board N) (owes resetting : Bool) (word : Exec) (h : Journal) → Keeps first c h → MayTakeRequests word h → owes ≡ owes_report (at_port (took_exec word) ∷ h)
     → resetting ≡ has_reset (at_port (took_exec word) ∷ h) → Keeps first (record c { owes = owes; resetting = resetting }) (at_port (took_exec word) ∷ h)
 takes_word first c owes resetting word h k may is asks = record {
   placed = k.placed;
+  sized = k.sized;
   short = k.short;
   conducted = (may, k.conducted);
   machine = k.machine;
@@ -59,11 +60,12 @@ word_alarms motions.Alarm was word queued (inr (inr stops)) awaits none = absurd
 word_alarms m was word queued (inr how) awaits none = refl
 
 -- a word that was taken is obeyed
-pub obeys : (first : Opening) (c : Board) (m : Machine) (word : Exec) (h : Journal) → Keeps first c h → MayObey first word (has_blocks (plan_of h).blocks) h
+pub obeys : {N : ℕ} (first : Opening) (c : Board N) (m : Machine N) (word : Exec) (h : Journal) → Keeps first c h → MayObey first word (has_blocks (plan_of h).blocks) h
     → Runs m (plan_of h) (after_word word (has_blocks (plan_of h).blocks) (motion_of first h)) (hand_of h) (given_of h)
     → Keeps first (record c { machine = m }) (became (on_exec word (has_blocks (plan_of h).blocks)) (after_word word (has_blocks (plan_of h).blocks) (motion_of first h)) ∷ h)
 obeys first c m word h k may runs = record {
   placed = k.placed;
+  sized = k.sized;
   short = k.short;
   conducted = ((refl, may), k.conducted);
   machine = runs;
@@ -88,9 +90,10 @@ obeys first c m word h k may runs = record {
 }
 
 -- a word of changes of overrides is taken
-pub takes_changes : (first : Opening) (c : Board) (word : Ovr) (h : Journal) → Keeps first c h → is_greeted h ≡ true → Keeps first c (at_port (took_ovr word) ∷ h)
+pub takes_changes : {N : ℕ} (first : Opening) (c : Board N) (word : Ovr) (h : Journal) → Keeps first c h → is_greeted h ≡ true → Keeps first c (at_port (took_ovr word) ∷ h)
 takes_changes first c word h k greeted = record {
   placed = k.placed;
+  sized = k.sized;
   short = k.short;
   conducted = (greeted, k.conducted);
   machine = k.machine;
@@ -115,11 +118,12 @@ takes_changes first c word h k greeted = record {
 }
 
 -- it is planned for what a word makes of the overrides
-pub changes : (first : Opening) (c : Board) (m : Machine) (word : Ovr) (h : Journal) → Keeps first c h → is_greeted h ≡ true → has_changes word ≡ true → IsOverrides m.overrides
+pub changes : {N : ℕ} (first : Opening) (c : Board N) (m : Machine N) (word : Ovr) (h : Journal) → Keeps first c h → is_greeted h ≡ true → has_changes word ≡ true → IsOverrides m.overrides
     → Runs m (record (plan_of h) { overrides = taken (plan_of h).overrides word }) (motion_of first h) (hand_of h) (given_of h)
     → Keeps first (record c { machine = m }) (did (Override (taken (plan_of h).overrides word)) [] ∷ at_port (took_ovr word) ∷ h)
 changes first c m word h k greeted some range runs = record {
   placed = k.placed;
+  sized = k.sized;
   short = k.short;
   conducted = (
     (record { word = word; earlier = port_log h; last = refl; some = some; taken = refl }, (subst IsOverrides (sym runs.same) range, refl)),
@@ -147,5 +151,5 @@ changes first c m word h k greeted some range runs = record {
 }
 
 -- a board that keeps the same of the banner keeps it told
-pub still_greeted : (first : Opening) (was is : Board) (h next : Journal) → Keeps first was h → Keeps first is next → is.greeted ≡ was.greeted → is_greeted h ≡ true → is_greeted next ≡ true
+pub still_greeted : {N : ℕ} (first : Opening) (was is : Board N) (h next : Journal) → Keeps first was h → Keeps first is next → is.greeted ≡ was.greeted → is_greeted h ≡ true → is_greeted next ≡ true
 still_greeted first was is h next k n same greeted = sym n.greeted_is ∙ same ∙ k.greeted_is ∙ greeted

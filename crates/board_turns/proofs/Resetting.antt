@@ -1,12 +1,9 @@
 -- When a reset that is asked for may be worked, and what of a line and of a run is not begun before.
-use Rattle.std.proofs.Common.{◌≡◌, Bool, true, false, ◌||◌, List, [], ◌∷◌, ◌++◌, refl, sym, ap, ◌∙◌}
+use Rattle.std.proofs.Common.{ℕ, ◌≡◌, Bool, true, false, ◌||◌, List, [], ◌∷◌, ◌++◌, refl, sym, ap, ◌∙◌}
 use Rattle.run_rules.specs.Work.{Task}
 use Rattle.run_rules.specs.Work.Task.{ask, tell, pause, normal, finish, halt}
 use Rattle.status_report.specs.declared.Reply.{Reply}
 use Rattle.status_report.specs.declared.Reply.TheVariants.{Bye}
-use Rattle.line_interpreter.specs.Lefts.{IsTodo}
-use Rattle.line_interpreter.specs.declared.tasks.Todo.{Todo}
-use Rattle.line_interpreter.specs.declared.tasks.Todo.TheVariants as todos
 use Rattle.board_rules.specs.Openings.{Opening}
 use Rattle.board_rules.specs.Steps.{Journal, closed_tells, has_limited}
 use Rattle.board_rules.specs.Steps.Step.{closing}
@@ -14,7 +11,7 @@ use Rattle.board_rules.specs.Turns.{awaits_motion, owes_report, tells_next}
 use Rattle.board_epochs.specs.Resets.{MayReset, has_reset, drops_resets, is_closing}
 use Rattle.board_epochs.proofs.Prompting.{going, none_told, undropped}
 use Rattle.board_turns.specs.declared.board.Board.{Board}
-use Rattle.board_turns.specs.Boards.{Keeps, KeepsBetween, EpochFits, GoingFits, GoingBetween, BoardIsOver}
+use Rattle.board_turns.specs.Boards.{Keeps, EpochFits, GoingFits, GoingBetween}
 use Rattle.board_turns.proofs.Turns.{begins_turn}
 
 -- ---- whether a reset is dropped
@@ -33,7 +30,7 @@ closing_now h true is closed = is
 closing_now h false is closed = absurd (let e = sym closed ∙ none_told h is in cc)
 
 -- the run is being closed, as the board has it
-closing_is : (first : Opening) (c : Board) (h : Journal) → Keeps first c h → (b : Bool) → c.closing ≡ b → is_closing h ≡ b
+closing_is : {N : ℕ} (first : Opening) (c : Board N) (h : Journal) → Keeps first c h → (b : Bool) → c.closing ≡ b → is_closing h ≡ b
 closing_is first c h k true is = closing_now h (is_closing h) refl (k.closed is)
 closing_is first c h k false is = never_closing h (k.going is)
 
@@ -43,7 +40,7 @@ either true false c d e f = sym (ap (λ x. x || c) f ∙ e)
 either false true c d e f = sym (ap (λ x. x || c) f)
 either false false c d e f = sym (ap (λ x. x || c) f ∙ e)
 
-pub drops_by : (first : Opening) (c : Board) (h : Journal) → Keeps first c h → (c.closing || c.alarmed) ≡ drops_resets h
+pub drops_by : {N : ℕ} (first : Opening) (c : Board N) (h : Journal) → Keeps first c h → (c.closing || c.alarmed) ≡ drops_resets h
 drops_by first c h k = either c.closing c.alarmed (is_closing h) (has_limited h) (closing_is first c h k c.closing refl) (sym k.alarmed_is)
 
 or_left : (a b : Bool) → (a || b) ≡ false → a ≡ false
@@ -51,24 +48,20 @@ or_left true b none = absurd cc
 or_left false b none = refl
 
 -- none is asked for where a line has raised the alarm
-unreset_at : (first : Opening) (c : Board) (h : Journal) → Keeps first c h → has_limited h ≡ true → (b : Bool) → has_reset h ≡ b → has_reset h ≡ false
+unreset_at : {N : ℕ} (first : Opening) (c : Board N) (h : Journal) → Keeps first c h → has_limited h ≡ true → (b : Bool) → has_reset h ≡ b → has_reset h ≡ false
 unreset_at first c h k one true is = absurd (let e = sym one ∙ or_left _ _ (undropped first h k.prompt is) in cc)
 unreset_at first c h k one false is = is
 
-pub unreset_limited : (first : Opening) (c : Board) (h : Journal) → Keeps first c h → has_limited h ≡ true → has_reset h ≡ false
+pub unreset_limited : {N : ℕ} (first : Opening) (c : Board N) (h : Journal) → Keeps first c h → has_limited h ≡ true → has_reset h ≡ false
 unreset_limited first c h k one = unreset_at first c h k one (has_reset h) refl
-
--- nor where the run is over
-pub over_unready : (first : Opening) (c : Board) (h : Journal) → KeepsBetween first c h → BoardIsOver c → MayReset first h → ⊥
-over_unready first c h k over may = absurd (let e = sym (k.closed over.closing) ∙ going first h (record { conducted = k.conducted; prompt = k.prompt }) may in cc)
 
 -- ---- where a turn begins
 
-pub begins_going : (first : Opening) (c : Board) (h : Journal) → EpochFits first c h → (MayReset first h → ⊥) → GoingFits first c h
+pub begins_going : {N : ℕ} (first : Opening) (c : Board N) (h : Journal) → EpochFits first c h → (MayReset first h → ⊥) → GoingFits first c h
 begins_going first c h f unready = record { keeps = begins_turn first c h f.keeps unready; rounds = f.rounds; flags = f.flags; still = f.still }
 
 -- none is asked for where no report is owed, and no reply is next
-pub unreset_between : (first : Opening) (c : Board) (h : Journal) → Keeps first c h → GoingBetween h → owes_report h ≡ false → tells_next c.lines.left ≡ false → c.resetting ≡ false
+pub unreset_between : {N : ℕ} (first : Opening) (c : Board N) (h : Journal) → Keeps first c h → GoingBetween h → owes_report h ≡ false → tells_next c.lines.left ≡ false → c.resetting ≡ false
 unreset_between first c h k between unowed none = by_field c.resetting refl
   where
     by_field : (b : Bool) → c.resetting ≡ b → c.resetting ≡ false
@@ -84,32 +77,3 @@ awaits_no_reply (normal ∷ tasks) is = refl
 awaits_no_reply (finish ∷ tasks) is = refl
 awaits_no_reply (halt ∷ tasks) is = refl
 awaits_no_reply [] is = refl
-
--- ---- whether it may be worked
-
-pub tells_none : (t : Todo) (left : List Task) → IsTodo t left → (t ≡ todos.Tell → ⊥) → tells_next left ≡ false
-tells_none todos.Tell left is other = absurd (other refl)
-tells_none todos.Nothing left is other = ap tells_next is
-tells_none todos.Rest left is other = ap tells_next is
-tells_none (todos.Mark m) left is other = ap tells_next is.0
-tells_none todos.Move left is other = ap tells_next is.1
-tells_none todos.Pause left is other = ap tells_next is
-tells_none todos.Normal left is other = ap tells_next is
-tells_none todos.Finish left is other = ap tells_next is
-tells_none todos.Halt left is other = ap tells_next is
-
-tells_some : (t : Todo) (left : List Task) → IsTodo t left → t ≡ todos.Tell → tells_next left ≡ true
-tells_some todos.Tell left is e = ap tells_next is.1
-tells_some t left is e = absurd cc
-
-pub may_now : (first : Opening) (c : Board) (h : Journal) → KeepsBetween first c h → GoingBetween h → c.resetting ≡ true → c.owes ≡ false → tells_next c.lines.left ≡ false → MayReset first h
-may_now first c h k between asked unowed none = record { asked = sym k.resetting_is ∙ asked; between = between; unowed = sym k.owes_is ∙ unowed; told = ap tells_next (sym k.lines.left_is) ∙ none }
-
-pub may_not_unasked : (first : Opening) (c : Board) (h : Journal) → KeepsBetween first c h → c.resetting ≡ false → MayReset first h → ⊥
-may_not_unasked first c h k none may = absurd (let e = sym none ∙ k.resetting_is ∙ may.asked in cc)
-
-pub may_not_owing : (first : Opening) (c : Board) (h : Journal) → KeepsBetween first c h → c.owes ≡ true → MayReset first h → ⊥
-may_not_owing first c h k owes may = absurd (let e = sym owes ∙ k.owes_is ∙ may.unowed in cc)
-
-pub may_not_telling : (first : Opening) (c : Board) (t : Todo) (h : Journal) → KeepsBetween first c h → IsTodo t c.lines.left → t ≡ todos.Tell → MayReset first h → ⊥
-may_not_telling first c t h k is e may = absurd (let f = sym (tells_some t c.lines.left is e) ∙ ap tells_next k.lines.left_is ∙ may.told in cc)

@@ -1,5 +1,5 @@
 -- Rests that are next are over, and overrides are set to 100 percent, where the machine has stopped.
-use Rattle.std.proofs.Common.{◌≡◌, inl, inr, ◌<◌, true, List, [], ◌∷◌, length, drop, sym, refl, ◌∙◌, subst, arith, append-nil}
+use Rattle.std.proofs.Common.{ℕ, ◌≡◌, inl, inr, true, List, [], ◌∷◌, drop, sym, refl, ◌∙◌, subst, append-nil}
 use Rattle.feed_hold.specs.declared.Motion.{Motion}
 use Rattle.step_line.specs.Asking.Asked.{a_move, a_mark, a_rest}
 use Rattle.step_line.specs.declared.Piece.{Piece}
@@ -46,17 +46,17 @@ still_stopped_even first h s = record {
 }
 
 -- what was done by itself where the machine has stopped, and still has
-abbrev pub Passed : Opening → Board → Journal → Type 0
+abbrev pub Passed : {N : ℕ} → Opening → Board N → Journal → Type 0
 Passed first board h = (next : Journal) × Keeps first board next × HasStopped first next × DidAlone first h next
 
 -- a rest that is next is over
-pub rest_over : (first : Opening) (c : Board) (i : Interpreting) (h : Journal) → Keeps first c h → HasStopped first h → IsNextOf (ask a_rest) c.lines.left → i ≡ record c.lines { left = drop 1 c.lines.left }
+pub rest_over : {N : ℕ} (first : Opening) (c : Board N) (i : Interpreting) (h : Journal) → Keeps first c h → HasStopped first h → IsNextOf (ask a_rest) c.lines.left → i ≡ record c.lines { left = drop 1 c.lines.left }
     → Passed first (record c { lines = i }) h
 rest_over first c i h k stopped is same =
     (did Rest [] ∷ h, rested first c i h k (is_next first c h (ask a_rest) k is) stopped.drained stopped.stands same, still_stopped first h stopped, alone_did first Rest [] h refl)
 
 -- each override is set to 100 percent
-pub normal_over : (first : Opening) (c : Board) (m : Machine) (i : Interpreting) (h : Journal) → Keeps first c h → HasStopped first h → IsNextOf normal c.lines.left
+pub normal_over : {N : ℕ} (first : Opening) (c : Board N) (m : Machine N) (i : Interpreting) (h : Journal) → Keeps first c h → HasStopped first h → IsNextOf normal c.lines.left
     → ((p : Planned) (now : Motion) (hand given : List Piece) → Runs c.machine p now hand given → Runs m (record p { overrides = normal_overrides }) now hand given)
     → i ≡ record c.lines { left = drop 1 c.lines.left } → Passed first (record c { machine = m; lines = i }) h
 normal_over first c m i h k stopped is runs same = (
@@ -95,28 +95,19 @@ pub rest_next : (t : Todo) (left : List Task) → IsTodo t left → (t ≡ todo.
 rest_next t left is other (inl next) = next
 rest_next t left is other (inr next) = absurd (no_normal t left is other next)
 
--- something is next
-pub some_passed : (left : List Task) → IsPassed left → left ≡ [] → ⊥
-some_passed left (inl next) none = none_next left (ask a_rest) none next
-some_passed left (inr next) none = none_next left normal none next
-
-pub fewer_left : (left : List Task) → IsPassed left → length (drop 1 left) < length left
-fewer_left [] next = absurd (some_passed [] next refl)
-fewer_left (t ∷ ts) next = omega arith
-
 -- a board that closes its run has neither left
-pub none_passed : (first : Opening) (c : Board) (h : Journal) → Keeps first c h → c.closing ≡ true → IsPassed c.lines.left → ⊥
+pub none_passed : {N : ℕ} (first : Opening) (c : Board N) (h : Journal) → Keeps first c h → c.closing ≡ true → IsPassed c.lines.left → ⊥
 none_passed first c h k closing (inl next) = no_rest_closing first h k.conducted (λ none. absurd (let e = sym none ∙ k.closed closing in cc)) (is_next first c h (ask a_rest) k next)
 none_passed first c h k closing (inr next) = no_normal_closing first h k.conducted (λ none. absurd (let e = sym none ∙ k.closed closing in cc)) (is_next first c h normal k next)
 
 -- a board whose plan has other overrides, or the same
-pub passed_even : (first : Opening) (was b : Board) (m : Machine) (i : Interpreting) (h : Journal) → Keeps first was h → HasStopped first h → IsNextOf normal was.lines.left
+pub passed_even : {N : ℕ} (first : Opening) (was b : Board N) (m : Machine N) (i : Interpreting) (h : Journal) → Keeps first was h → HasStopped first h → IsNextOf normal was.lines.left
     → ((p : Planned) (now : Motion) (hand given : List Piece) → Runs was.machine p now hand given → Runs m (record p { overrides = normal_overrides }) now hand given)
     → b ≡ record was { machine = m } → i ≡ record b.lines { left = drop 1 b.lines.left } → Passed first (record b { lines = i }) h
 passed_even first was b m i h k stopped is runs e same =
-    subst (λ (x : Board). i ≡ record x.lines { left = drop 1 x.lines.left } → Passed first (record x { lines = i }) h) (sym e) (λ s. (normal_over first) was m i h k stopped is runs s) same
+    subst (λ (x : Board _). i ≡ record x.lines { left = drop 1 x.lines.left } → Passed first (record x { lines = i }) h) (sym e) (λ s. (normal_over first) was m i h k stopped is runs s) same
 
-pub passed_rest : (first : Opening) (was b : Board) (i : Interpreting) (h : Journal) → Keeps first was h → HasStopped first h → IsNextOf (ask a_rest) was.lines.left
+pub passed_rest : {N : ℕ} (first : Opening) (was b : Board N) (i : Interpreting) (h : Journal) → Keeps first was h → HasStopped first h → IsNextOf (ask a_rest) was.lines.left
     → b ≡ was → i ≡ record b.lines { left = drop 1 b.lines.left } → Passed first (record b { lines = i }) h
 passed_rest first was b i h k stopped is e same =
-    subst (λ (x : Board). i ≡ record x.lines { left = drop 1 x.lines.left } → Passed first (record x { lines = i }) h) (sym e) (λ s. (rest_over first) was i h k stopped is s) same
+    subst (λ (x : Board _). i ≡ record x.lines { left = drop 1 x.lines.left } → Passed first (record x { lines = i }) h) (sym e) (λ s. (rest_over first) was i h k stopped is s) same

@@ -47,17 +47,17 @@ none_in None is = refl
 none_in (Some p) is = absurd cc
 
 -- what the fields of a machine say of it
-abbrev pub SlowedDown : Machine → Type 0
+abbrev pub SlowedDown : {N : ℕ} → Machine N → Type 0
 SlowedDown m = (is_stopping m.hold.motion ≡ true) × (m.plan.speed ≡ 0) × (m.hand ≡ None)
 
-pub slowed_now : (first : Opening) (b : Board) (h : Journal) → Keeps first b h → HasSlowedDown first h → SlowedDown b.machine
+pub slowed_now : {N : ℕ} (first : Opening) (b : Board N) (h : Journal) → Keeps first b h → HasSlowedDown first h → SlowedDown b.machine
 slowed_now first b h k s = (
   ap is_stopping k.machine.motion_is ∙ s.slows,
   ap (λ (p : Planned). p.speed) k.machine.plan_is ∙ s.speed,
   none_in b.machine.hand (k.machine.hand_is ∙ s.empty),
 )
 
-pub slowed_is : (first : Opening) (b : Board) (h : Journal) → Keeps first b h → SlowedDown b.machine → HasSlowedDown first h
+pub slowed_is : {N : ℕ} (first : Opening) (b : Board N) (h : Journal) → Keeps first b h → SlowedDown b.machine → HasSlowedDown first h
 slowed_is first b h k s = record {
   slows = sym (ap is_stopping k.machine.motion_is) ∙ s.0;
   speed = sym (ap (λ (p : Planned). p.speed) k.machine.plan_is) ∙ s.1;
@@ -69,7 +69,7 @@ slowed_looked : (first : Opening) (done : ℕ) (h : Journal) → HasSlowedDown f
 slowed_looked first done h s = record { slows = s.slows; speed = s.speed; empty = s.empty }
 
 -- each tick is found done
-pub found_stopped : (first : Opening) (b : Board) (f : Flying) (done : ℕ) (h : Journal) → Keeps first b h → HasSlowedDown first h → MayBeDone done (port_log h) → done ≡ b.machine.given
+pub found_stopped : {N : ℕ} (first : Opening) (b : Board N) (f : Flying) (done : ℕ) (h : Journal) → Keeps first b h → HasSlowedDown first h → MayBeDone done (port_log h) → done ≡ b.machine.given
     → ((published : List Piece) (known : ℕ) → Flies first.place b.flight published known → Flies first.place f published (max known (min done (ticks_together published)))) → IsFoundStopped first f (at_port (loaded done) ∷ h)
 found_stopped first b f done h k slowed may all learns = record {
   stopped = record { slowed = slowed_looked first done h slowed; done = all ∙ k.machine.given_is };
@@ -78,7 +78,7 @@ found_stopped first b f done h k slowed may all learns = record {
 }
 
 -- a board whose flight has learned that
-pub looked_learned : (first : Opening) (b : Board) (f : Flying) (done : ℕ) (h : Journal) → Keeps first b h → MayBeDone done (port_log h)
+pub looked_learned : {N : ℕ} (first : Opening) (b : Board N) (f : Flying) (done : ℕ) (h : Journal) → Keeps first b h → MayBeDone done (port_log h)
     → ((published : List Piece) (known : ℕ) → Flies first.place b.flight published known → Flies first.place f published (max known (min done (ticks_together published)))) → Keeps first (record b { flight = f }) (at_port (loaded done) ∷ h)
 looked_learned first b f done h k may learns = other_flight first b f (at_port (loaded done) ∷ h) (looked first b done h k may) (learned first b f h done k may learns)
 
@@ -86,14 +86,14 @@ looked_learned first b f done h k may learns = other_flight first b f (at_port (
 
 -- no move that is next has room, where that was so
 pub none_fits_so : (first : Opening) (h next : Journal) → StaysSo first h next ⊎ IsCutNow first h next → NoneFits first h → NoneFits first next
-none_fits_so first h next (inl stays) fits m is = ap is_full stays.plan ∙ fits m (subst (λ (ts : List Task). ts ≡ ask (a_move m) ∷ drop 1 ts) stays.left is)
+none_fits_so first h next (inl stays) fits m is = ap (is_full first.blocks) stays.plan ∙ fits m (subst (λ (ts : List Task). ts ≡ ask (a_move m) ∷ drop 1 ts) stays.left is)
 none_fits_so first h next (inr cuts) fits m is = absurd (none_asked (left_of first next) (a_move m) cuts.none is)
 
 -- nor does a queued block wait for a start
 pub none_waits_so : (first : Opening) (h next : Journal) → has_jogged next ≡ has_jogged h → StaysSo first h next ⊎ IsCutNow first h next → NoneWaits first h → AreWaiting first h → AreWaiting first next
-    → (is_full (plan_of next) || (awaits_motion (left_of first next) || has_jogged next)) ≡ false
+    → (is_full first.blocks (plan_of next) || (awaits_motion (left_of first next) || has_jogged next)) ≡ false
 none_waits_so first h next jogged (inl stays) none before waiting =
-    same_calls (is_full (plan_of next)) (is_full (plan_of h)) (left_of first next) (left_of first h) (has_jogged next) (has_jogged h) (ap is_full stays.plan) stays.left jogged ∙ none before
+    same_calls (is_full first.blocks (plan_of next)) (is_full first.blocks (plan_of h)) (left_of first next) (left_of first h) (has_jogged next) (has_jogged h) (ap (is_full first.blocks) stays.plan) stays.left jogged ∙ none before
 none_waits_so first h next jogged (inr cuts) none before waiting = absurd (let e = sym waiting.stands ∙ cuts.cancelled in cc)
 
 -- ---- it was settled
@@ -113,7 +113,7 @@ settled_none first h moves = record {
 }
 
 -- ticks are found not to be done
-pub settled_later : (first : Opening) (b : Board) (h : Journal) (done : ℕ) → Keeps first b h → (done ≡ b.machine.given → ⊥) → HasSettled first h (at_port (loaded done) ∷ h)
+pub settled_later : {N : ℕ} (first : Opening) (b : Board N) (h : Journal) (done : ℕ) → Keeps first b h → (done ≡ b.machine.given → ⊥) → HasSettled first h (at_port (loaded done) ∷ h)
 settled_later first b h done k fewer = record {
   passes = passes_load first done h;
   stays = inl (record { left = refl; hand = refl; plan = refl });

@@ -8,7 +8,6 @@ use Rattle.feed_hold.proofs.Reaching.{StaysOrReaches, reached}
 use Rattle.planner_runs.specs.declared.Action.{Action}
 use Rattle.planner_runs.specs.declared.Action.TheVariants.{Add, Take, Override, Mark, Rest, Clear, Reset}
 use Rattle.overrides.specs.declared.Overrides.{Overrides}
-use Rattle.planner_runs.specs.Runs.{most_blocks}
 use Rattle.plan_rules.specs.declared.Mode.TheVariants.{Go, Hold}
 use Rattle.status_report.specs.declared.Reply.{Reply}
 use Rattle.status_report.specs.declared.Reply.TheVariants.{Bye}
@@ -283,13 +282,13 @@ on_override first h o ps none = on_same first h (did (Override o) ps ∷ h) (rec
     keeps : (qs : List Piece) → qs ++ ps ≡ qs
     keeps qs = ap (λ (rs : List Piece). qs ++ rs) none ∙ append-nil qs
 
-on_did : (first : Opening) (h : Journal) (a : Action) (ps : List Piece) → MayDo first a h → Gives a ps (plan_of h) → Halting first h → Halting first (did a ps ∷ h)
+on_did : (first : Opening) (h : Journal) (a : Action) (ps : List Piece) → MayDo first a h → Gives first.blocks a ps (plan_of h) → Halting first h → Halting first (did a ps ∷ h)
 on_did first h (Add m) ps may gives = on_asked first h (did (Add m) ps ∷ h) (ask (a_move m)) may (λ e. absurd cc) refl (λ e. absurd cc) refl refl (λ e. e) refl
 on_did first h (Mark m) ps may gives = on_asked first h (did (Mark m) ps ∷ h) (ask (a_mark m)) may.next (λ e. absurd cc) refl (λ e. absurd cc) refl refl (λ e. e) refl
 on_did first h Rest ps may gives = on_asked first h (did Rest ps ∷ h) (ask a_rest) may.next (λ e. absurd cc) refl (λ e. absurd cc) refl refl (λ e. e) refl
 on_did first h (Take Go) ps may gives = on_take first h (did (Take Go) ps ∷ h) (λ e. absurd (let f = sym (ap is_going e) ∙ may.goes in cc)) refl refl refl refl refl
 on_did first h (Take Hold) ps may gives = on_take first h (did (Take Hold) ps ∷ h) (λ e. absurd (let f = sym (ap is_stopping e) ∙ may.slows in cc)) refl refl refl refl refl
-on_did first h (Override o) ps may gives = on_override first h o ps (none_given most_blocks (plan_after (Override o) ps (plan_of h)) (plan_after (Override o) ps (plan_of h)) ps gives.1)
+on_did first h (Override o) ps may gives = on_override first h o ps (none_given first.blocks (plan_after (Override o) ps (plan_of h)) (plan_after (Override o) ps (plan_of h)) ps gives.1)
 on_did first h Clear ps may gives = absurd may
 on_did first h Reset ps may gives = absurd may
 

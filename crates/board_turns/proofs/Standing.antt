@@ -9,7 +9,6 @@ use Rattle.feed_hold.specs.Motions.Call.{on_drained}
 use Rattle.outside.specs.declared.On.TheVariants as on
 use Rattle.outside.specs.declared.Turn.TheVariants.{Wait}
 use Rattle.line_geom.specs.declared.Block.{Block}
-use Rattle.planner_runs.specs.Runs.{most_blocks}
 use Rattle.step_line.specs.declared.Piece.{Piece}
 use Rattle.step_line.specs.declared.planned_move.PlannedMove.{PlannedMove}
 use Rattle.step_line.specs.Asking.Asked.{a_move}
@@ -38,6 +37,7 @@ use Rattle.board_turns.proofs.Steps.{at_rest, hand_empty, none_by_test, drained,
 use Rattle.board_turns.proofs.PortSteps.{looked}
 use Rattle.board_rules.proofs.Tries.{passes_load, passes_motion, passes_on}
 use Rattle.board_turns.proofs.Ends.{rounds_still, some_awaited, free_of, free_passed, takes_none, no_word_left}
+use Rattle.std.proofs.lemmas.Bool.Decides.{nat_tests}
 
 -- ---- hands and blocks
 
@@ -50,18 +50,18 @@ no_blocks [] is = refl
 no_blocks (b ∷ blocks) is = absurd cc
 
 -- a full plan has blocks
-pub full_is_queued : (blocks : List Block) → nat_le most_blocks (length blocks) ≡ true → has_blocks blocks ≡ true
-full_is_queued [] e = absurd cc
-full_is_queued (b ∷ blocks) e = refl
+pub full_is_queued : (most : ℕ) (blocks : List Block) → 1 ≤ most → nat_le most (length blocks) ≡ true → has_blocks blocks ≡ true
+full_is_queued most [] some e = grind (arith, nat_tests, some, e)
+full_is_queued most (b ∷ blocks) some e = refl
 
 -- what the fields say of the hand and of the plan
-pub hand_none : (first : Opening) (b : Board) (h : Journal) → Keeps first b h → is_some b.machine.hand ≡ false → hand_of h ≡ []
+pub hand_none : {N : ℕ} (first : Opening) (b : Board N) (h : Journal) → Keeps first b h → is_some b.machine.hand ≡ false → hand_of h ≡ []
 hand_none first b h k is = hand_empty first b h k (none_by_test b.machine.hand is)
 
-pub hand_some : (first : Opening) (b : Board) (h : Journal) → Keeps first b h → is_some b.machine.hand ≡ true → hand_of h ≡ [] → ⊥
+pub hand_some : {N : ℕ} (first : Opening) (b : Board N) (h : Journal) → Keeps first b h → is_some b.machine.hand ≡ true → hand_of h ≡ [] → ⊥
 hand_some first b h k is none = one_in_hand b.machine.hand is (k.machine.hand_is ∙ none)
 
-pub blocks_are : (first : Opening) (b : Board) (h : Journal) (some : Bool) → Keeps first b h → some ≡ has_blocks b.machine.plan.blocks → has_blocks (plan_of h).blocks ≡ some
+pub blocks_are : {N : ℕ} (first : Opening) (b : Board N) (h : Journal) (some : Bool) → Keeps first b h → some ≡ has_blocks b.machine.plan.blocks → has_blocks (plan_of h).blocks ≡ some
 blocks_are first b h some k is = ap (λ p. has_blocks p.blocks) (sym k.machine.plan_is) ∙ sym is
 
 -- a machine that lets a line be begun stands, runs or jogs
@@ -72,7 +72,7 @@ goes_or_stands motions.Jog going = inr (inr refl)
 goes_or_stands m going = absurd cc
 
 -- so its cycle may be over
-pub may_drain : (first : Opening) (b : Board) (h : Journal) → Keeps first b h → begins_in (motion_of first h) ≡ true → (b.machine.hold.motion ≡ motions.Idle) ⊎ (is_going b.machine.hold.motion ≡ true)
+pub may_drain : {N : ℕ} (first : Opening) (b : Board N) (h : Journal) → Keeps first b h → begins_in (motion_of first h) ≡ true → (b.machine.hold.motion ≡ motions.Idle) ⊎ (is_going b.machine.hold.motion ≡ true)
 may_drain first b h k going = by_motion (goes_or_stands (motion_of first h) going)
   where
     by_motion : StandsOrGoes (motion_of first h) → (b.machine.hold.motion ≡ motions.Idle) ⊎ (is_going b.machine.hold.motion ≡ true)
@@ -89,7 +89,7 @@ going_begins m goes = absurd cc
 -- ---- where nothing is left to run
 
 -- nothing is left to run, and each tick is found done
-pub all_done : (first : Opening) (b : Board) (h : Journal) (done : ℕ) → Keeps first b h → hand_of h ≡ [] → has_blocks (plan_of h).blocks ≡ false → done ≡ b.machine.given
+pub all_done : {N : ℕ} (first : Opening) (b : Board N) (h : Journal) (done : ℕ) → Keeps first b h → hand_of h ≡ [] → has_blocks (plan_of h).blocks ≡ false → done ≡ b.machine.given
     → IsDrained (at_port (loaded done) ∷ h)
 all_done first b h done k hand none all = record {
   plan = at_rest first b h k (no_blocks (plan_of h).blocks none);
@@ -98,7 +98,7 @@ all_done first b h done k hand none all = record {
 }
 
 -- the cycle is over
-pub over : (first : Opening) (b : Board) (m : Machine) (h : Journal) (done : ℕ) → Keeps first b h → begins_in (motion_of first h) ≡ true → MayBeDone done (port_log h) → hand_of h ≡ [] → has_blocks (plan_of h).blocks ≡ false → done ≡ b.machine.given
+pub over : {N : ℕ} (first : Opening) (b : Board N) (m : Machine N) (h : Journal) (done : ℕ) → Keeps first b h → begins_in (motion_of first h) ≡ true → MayBeDone done (port_log h) → hand_of h ≡ [] → has_blocks (plan_of h).blocks ≡ false → done ≡ b.machine.given
     → Runs m (plan_of h) motions.Idle (hand_of h) (given_of h)
     → Keeps first (record b { machine = m }) (became on_drained motions.Idle ∷ at_port (loaded done) ∷ h)
 over first b m h done k going may hand none all runs =
@@ -149,7 +149,7 @@ or_true false false is none = absurd cc
 
 -- no queued block waits where the motion is waited for
 pub none_waits : (first : Opening) (h : Journal) → MayAwait first h → AreWaiting first h → ⊥
-none_waits first h may waiting = or_true (is_full (plan_of h)) (awaits_motion (left_of first h) || has_jogged h) (ap (λ b. b || has_jogged h) may.awaits) (may.none_waits waiting)
+none_waits first h may waiting = or_true (is_full first.blocks (plan_of h)) (awaits_motion (left_of first h) || has_jogged h) (ap (λ b. b || has_jogged h) may.awaits) (may.none_waits waiting)
 
 -- so a block there is due
 pub due_where_awaited : (first : Opening) (h : Journal) → StandsOrGoes (motion_of first h) → MayAwait first h → has_blocks (plan_of h).blocks ≡ true → is_due first h ≡ true
@@ -157,14 +157,14 @@ due_where_awaited first h (inl idle) may some = absurd (none_waits first h may (
 due_where_awaited first h (inr (inl run)) may some = ap (λ m. has_segment m (plan_of h)) run ∙ some
 due_where_awaited first h (inr (inr jog)) may some = ap (λ m. has_segment m (plan_of h)) jog ∙ some
 
-pub has_piece_by_hand : (first : Opening) (b : Board) (h : Journal) → Keeps first b h → is_some b.machine.hand ≡ true → HasPiece first h
+pub has_piece_by_hand : {N : ℕ} (first : Opening) (b : Board N) (h : Journal) → Keeps first b h → is_some b.machine.hand ≡ true → HasPiece first h
 has_piece_by_hand first b h k is = inl (hand_some first b h k is)
 
-pub has_piece_by_blocks : (first : Opening) (b : Board) (h : Journal) → Keeps first b h → MayAwait first h → has_blocks (plan_of h).blocks ≡ true → HasPiece first h
+pub has_piece_by_blocks : {N : ℕ} (first : Opening) (b : Board N) (h : Journal) → Keeps first b h → MayAwait first h → has_blocks (plan_of h).blocks ≡ true → HasPiece first h
 has_piece_by_blocks first b h k may some = inr (due_where_awaited first h (goes_or_stands (motion_of first h) may.going) may some)
 
 -- the ticks that are found done are all, where they aren't fewer than were given
-pub done_all : (first : Opening) (b : Board) (h : Journal) (done : ℕ) → Keeps first b h → MayBeDone done (port_log h) → b.machine.given ≤ done → done ≡ b.machine.given
+pub done_all : {N : ℕ} (first : Opening) (b : Board N) (h : Journal) (done : ℕ) → Keeps first b h → MayBeDone done (port_log h) → b.machine.given ≤ done → done ≡ b.machine.given
 done_all first b h done k may least =
     let high : done ≤ ticks_published h = done_within first h done k.conducted may in
     let within = published_within first h k.conducted in
@@ -172,12 +172,12 @@ done_all first b h done k may least =
     omega (arith, least, high, within, given)
 
 -- with nothing in hand, all that was given is published
-pub all_published : (first : Opening) (b : Board) (h : Journal) → Keeps first b h → hand_of h ≡ [] → ticks_published h ≡ ticks_given h
+pub all_published : {N : ℕ} (first : Opening) (b : Board N) (h : Journal) → Keeps first b h → hand_of h ≡ [] → ticks_published h ≡ ticks_given h
 all_published first b h k none =
     ap ticks_together (sym (hand_is first h k.conducted ∙ ap (λ (ps : List Piece). published_of h ++ ps) none ∙ append-nil (published_of h)))
 
 -- the motion is waited for: ticks are found not to be done
-pub waits_for_motion : (first : Opening) (b : Board) (h : Journal) (done : ℕ) → Keeps first b h → MayAwait first h → b.beat ≡ MotionBeat → b.flags ≡ flags.None → MayBeDone done (port_log h) → hand_of h ≡ []
+pub waits_for_motion : {N : ℕ} (first : Opening) (b : Board N) (h : Journal) (done : ℕ) → Keeps first b h → MayAwait first h → b.beat ≡ MotionBeat → b.flags ≡ flags.None → MayBeDone done (port_log h) → hand_of h ≡ []
     → has_blocks (plan_of h).blocks ≡ false → done < b.machine.given → BoardWorked first (Wait on.Motion) b.flags b h (at_port (loaded done) ∷ h)
 waits_for_motion first b h done k may beat no_word found hand none fewer =
     let some = some_awaited first h may.awaits in

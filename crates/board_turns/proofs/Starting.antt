@@ -1,12 +1,13 @@
 -- What queued blocks start: the cycle, or a jog.
-use Rattle.std.proofs.Common.{◌≡◌, ◌≤◌, Bool, true, false, ◌&&◌, refl, arith}
+use Rattle.std.proofs.Common.{◌-◌, ℕ, ◌≡◌, ◌≤◌, Bool, true, false, ◌&&◌, refl, arith, sym, ap, ◌∙◌}
 use Rattle.feed_hold.specs.declared.Motion.TheVariants as motions
 use Rattle.board_rules.specs.Openings.{Opening}
-use Rattle.board_rules.specs.Steps.{Journal, motion_of}
+use Rattle.board_rules.specs.Steps.{Journal, motion_of, plan_of}
 use Rattle.board_rules.specs.Cuts.{has_cut, is_cancelling}
-use Rattle.board_rules.specs.Turns.{is_alarm, is_halting, begins_in}
+use Rattle.board_rules.specs.Turns.{is_alarm, is_halting, begins_in, is_full}
 use Rattle.board_machine.specs.Machines.{start_motion}
-use Rattle.board_turns.specs.Boards.{changes_left}
+use Rattle.board_turns.specs.Boards.{changes_left, Keeps}
+use Rattle.board_turns.specs.declared.board.Board.{Board}
 
 -- the machine does not stand
 pub starts_off : {A : Type 0} (jog : Bool) → start_motion jog ≡ motions.Idle → A
@@ -37,3 +38,7 @@ uncut_started false false is = refl
 pub none_awaited_started : (jog awaits : Bool) → (is_alarm (start_motion jog) && awaits) ≡ false
 none_awaited_started true awaits = refl
 none_awaited_started false awaits = refl
+
+-- a plan is full by the fields exactly where it is by the rules
+pub full_is : {N : ℕ} (first : Opening) (b : Board N) (h : Journal) → Keeps first b h → is_full (N - 1) b.machine.plan ≡ is_full first.blocks (plan_of h)
+full_is {N} first b h k = ap (is_full (N - 1)) k.machine.plan_is ∙ ap (λ n. is_full n (plan_of h)) (sym k.sized)

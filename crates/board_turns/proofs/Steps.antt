@@ -1,5 +1,5 @@
 -- One lemma a step of the plan and of the motion: a board keeps on what its fields say of what it has done.
-use Rattle.std.proofs.Common.{◌≡◌, ◌⊎◌, inl, inr, List, [], ◌∷◌, ◌++◌, drop, Bool, true, false, not, ◌&&◌, Some, None, sym, refl, ap, ◌∙◌, subst, append-nil}
+use Rattle.std.proofs.Common.{ℕ, ◌≡◌, ◌⊎◌, inl, inr, List, [], ◌∷◌, ◌++◌, drop, Bool, true, false, not, ◌&&◌, Some, None, sym, refl, ap, ◌∙◌, subst, append-nil}
 use Rattle.feed_hold.specs.declared.Motion.{Motion}
 use Rattle.feed_hold.specs.declared.Motion.TheVariants as motions
 use Rattle.feed_hold.specs.Motions.{after, is_stopping}
@@ -37,18 +37,19 @@ use Rattle.board_turns.specs.Turning.{HasPiece, starting}
 use Rattle.board_rules.proofs.Uncut.{uncut_else, uncut_idle}
 use Rattle.board_turns.proofs.Starting.{none_awaited_started, uncut_started}
 pub use Rattle.board_turns.proofs.Turns.{closes, ends, other_beat, other_flags, other_flight, room_found}
-pub use Rattle.board_turns.proofs.Known.{is_next, hand_empty, none_by_test, in_hand, some_in_hand, hand_left, one_in_hand, hand_of_one, due_moves, due_now, at_rest, few_ticks, in_range, same_overrides, may_publish, may_publish_now, may_answer, few_tried, begins_unlimited, begins_by, halts_by, none_halts, calm_now}
+pub use Rattle.board_turns.proofs.Known.{is_next, hand_empty, none_by_test, in_hand, some_in_hand, hand_left, one_in_hand, hand_of_one, due_moves, due_now, at_rest, few_ticks, in_range, same_overrides, may_publish, may_publish_now, may_answer, few_tried, begins_by, halts_by, none_halts, calm_now}
 use Rattle.board_turns.proofs.PortSteps.{one_less}
 
 -- ---- the plan
 -- a move is added
-pub added_move : (first : Opening) (c : Board) (m : Machine) (i : Interpreting) (mv : PlannedMove) (h : Journal) → Keeps first c h → IsNextTask first (ask (a_move mv)) h → IsPlannedMove mv → is_full (plan_of h) ≡ false
+pub added_move : {N : ℕ} (first : Opening) (c : Board N) (m : Machine N) (i : Interpreting) (mv : PlannedMove) (h : Journal) → Keeps first c h → IsNextTask first (ask (a_move mv)) h → IsPlannedMove mv → is_full first.blocks (plan_of h) ≡ false
     → Runs m (with_move (plan_of h) mv) (motion_of first h) (hand_of h) (given_of h) → i ≡ record c.lines { left = drop 1 c.lines.left }
     → Keeps first (record c { machine = m; lines = i }) (did (Add mv) [] ∷ h)
 added_move first c m i mv h k next planned room runs is = record {
   placed = k.placed;
+  sized = k.sized;
   short = k.short;
-  conducted = ((next, (record { move = planned; room = has_room (plan_of h) room }, refl)), k.conducted);
+  conducted = ((next, (record { move = planned; room = has_room first.blocks (plan_of h) room }, refl)), k.conducted);
   machine = rw (append-nil (hand_of h), append-nil (given_of h)) runs;
   lines = one_less c i first h k.lines is;
   input = k.input;
@@ -88,11 +89,12 @@ may_take first h (inl goes) empty = subst (λ (mode : Mode). MayDo first (Take m
 may_take first h (inr slows) empty = subst (λ (mode : Mode). MayDo first (Take mode) h) (sym (stopping_mode (motion_of first h) slows)) (record { slows = slows; empty = empty })
 
 -- a segment is taken: to slow down where the machine is to stop
-pub took_segment : (first : Opening) (c : Board) (m : Machine) (s : Segment) (h : Journal) → Keeps first c h → (is_going (motion_of first h) ≡ true) ⊎ (is_stopping (motion_of first h) ≡ true) → hand_of h ≡ []
+pub took_segment : {N : ℕ} (first : Opening) (c : Board N) (m : Machine N) (s : Segment) (h : Journal) → Keeps first c h → (is_going (motion_of first h) ≡ true) ⊎ (is_stopping (motion_of first h) ≡ true) → hand_of h ≡ []
     → IsNext (plan_of h) (mode_in (motion_of first h)) s → Runs m (advanced (plan_of h) s.n s.w_out) (motion_of first h) (pieces.Segment s ∷ []) (given_of h ++ pieces.Segment s ∷ [])
     → Keeps first (record c { machine = m }) (did (Take (mode_in (motion_of first h))) (pieces.Segment s ∷ []) ∷ h)
 took_segment first c m s h k moves empty next runs = record {
   placed = k.placed;
+  sized = k.sized;
   short = k.short;
   conducted = ((may_take first h moves empty, (next, refl)), k.conducted);
   machine = rw empty runs;
@@ -117,7 +119,7 @@ took_segment first c m s h k moves empty next runs = record {
 }
 
 -- the segment that is due comes into the empty hand
-pub took_next : (first : Opening) (c : Board) (m : Machine) (h : Journal) → Keeps first c h → HasPiece first h → c.machine.hand ≡ None
+pub took_next : {N : ℕ} (first : Opening) (c : Board N) (m : Machine N) (h : Journal) → Keeps first c h → HasPiece first h → c.machine.hand ≡ None
     → ((p : Planned) (now : Motion) (given : List Piece) → Runs c.machine p now [] given
     → (s : Segment) × IsNext p (mode_in now) s × Runs m (advanced p s.n s.w_out) now (pieces.Segment s ∷ []) (given ++ pieces.Segment s ∷ []))
     → (s : Segment) × Keeps first (record c { machine = m }) (did (Take (mode_in (motion_of first h))) (pieces.Segment s ∷ []) ∷ h) × (is_due first h ≡ true) × (hand_of h ≡ [])
@@ -128,11 +130,12 @@ took_next first c m h k has none takes =
     (t.0, took_segment first c m t.0 h k (due_moves first c h k due) empty t.1 t.2, due, empty)
 
 -- a mark is made
-pub marked : (first : Opening) (c : Board) (m : Machine) (i : Interpreting) (mark : AnyMark) (h : Journal) → Keeps first c h → IsNextTask first (ask (a_mark mark)) h → IsMark mark → hand_of h ≡ [] → IsAtRest (plan_of h)
+pub marked : {N : ℕ} (first : Opening) (c : Board N) (m : Machine N) (i : Interpreting) (mark : AnyMark) (h : Journal) → Keeps first c h → IsNextTask first (ask (a_mark mark)) h → IsMark mark → hand_of h ≡ [] → IsAtRest (plan_of h)
     → Runs m (plan_of h) (motion_of first h) (pieces.Mark mark ∷ []) (given_of h ++ pieces.Mark mark ∷ []) → i ≡ record c.lines { left = drop 1 c.lines.left }
     → Keeps first (record c { machine = m; lines = i }) (did (Mark mark) (pieces.Mark mark ∷ []) ∷ h)
 marked first c m i mark h k next good empty rest runs is = record {
   placed = k.placed;
+  sized = k.sized;
   short = k.short;
   conducted = ((record { next = next; empty = empty }, (refl, good, rest, refl)), k.conducted);
   machine = rw empty runs;
@@ -157,10 +160,11 @@ marked first c m i mark h k next good empty rest runs is = record {
 }
 
 -- a rest is over
-pub rested : (first : Opening) (c : Board) (i : Interpreting) (h : Journal) → Keeps first c h → IsNextTask first (ask a_rest) h → IsDrained h → motion_of first h ≡ motions.Idle → i ≡ record c.lines { left = drop 1 c.lines.left }
+pub rested : {N : ℕ} (first : Opening) (c : Board N) (i : Interpreting) (h : Journal) → Keeps first c h → IsNextTask first (ask a_rest) h → IsDrained h → motion_of first h ≡ motions.Idle → i ≡ record c.lines { left = drop 1 c.lines.left }
     → Keeps first (record c { lines = i }) (did Rest [] ∷ h)
 rested first c i h k next drained stands is = record {
   placed = k.placed;
+  sized = k.sized;
   short = k.short;
   conducted = ((record { next = next; drained = drained; stands = stands }, (drained.plan, refl)), k.conducted);
   machine = rw (append-nil (hand_of h), append-nil (given_of h)) k.machine;
@@ -185,11 +189,12 @@ rested first c i h k next drained stands is = record {
 }
 
 -- each override is set to 100 percent
-pub evens : (first : Opening) (c : Board) (m : Machine) (i : Interpreting) (h : Journal) → Keeps first c h → IsNextTask first normal h → IsDrained h → motion_of first h ≡ motions.Idle
+pub evens : {N : ℕ} (first : Opening) (c : Board N) (m : Machine N) (i : Interpreting) (h : Journal) → Keeps first c h → IsNextTask first normal h → IsDrained h → motion_of first h ≡ motions.Idle
     → Runs m (record (plan_of h) { overrides = normal_overrides }) (motion_of first h) (hand_of h) (given_of h) → i ≡ record c.lines { left = drop 1 c.lines.left }
     → Keeps first (record c { machine = m; lines = i }) (evened ∷ h)
 evens first c m i h k next drained stands runs is = record {
   placed = k.placed;
+  sized = k.sized;
   short = k.short;
   conducted = (record { rests = record { next = next; drained = drained; stands = stands }; replans = (fresh_starts.overrides, refl) }, k.conducted);
   machine = runs;
@@ -214,10 +219,11 @@ evens first c m i h k next drained stands runs is = record {
 }
 
 -- the machine is held for a pause
-pub held_for_pause : (first : Opening) (c : Board) (m : Machine) (i : Interpreting) (h : Journal) → Keeps first c h → IsNextTask first pause h → IsDrained h → motion_of first h ≡ motions.Idle
+pub held_for_pause : {N : ℕ} (first : Opening) (c : Board N) (m : Machine N) (i : Interpreting) (h : Journal) → Keeps first c h → IsNextTask first pause h → IsDrained h → motion_of first h ≡ motions.Idle
     → Runs m (plan_of h) motions.Held (hand_of h) (given_of h) → i ≡ record c.lines { left = drop 1 c.lines.left } → Keeps first (record c { machine = m; lines = i }) (paused ∷ h)
 held_for_pause first c m i h k next drained stands runs is = record {
   placed = k.placed;
+  sized = k.sized;
   short = k.short;
   conducted = (record { rests = record { next = next; drained = drained; stands = stands }; held = ap (λ now. after on_pause now) stands }, k.conducted);
   machine = runs;
@@ -242,11 +248,12 @@ held_for_pause first c m i h k next drained stands runs is = record {
 }
 
 -- the end is made
-pub ended : (first : Opening) (c : Board) (m : Machine) (i : Interpreting) (h : Journal) → Keeps first c h → IsNextTask first finish h → IsDrained h → stands_still (motion_of first h) ≡ true → (closed_tells h ≡ [] → ⊥)
+pub ended : {N : ℕ} (first : Opening) (c : Board N) (m : Machine N) (i : Interpreting) (h : Journal) → Keeps first c h → IsNextTask first finish h → IsDrained h → stands_still (motion_of first h) ≡ true → (closed_tells h ≡ [] → ⊥)
     → Runs m (plan_of h) (motion_of first h) (pieces.End ∷ []) (given_of h ++ pieces.End ∷ []) → i ≡ record c.lines { left = drop 1 c.lines.left }
     → Keeps first (record c { machine = m; lines = i }) (made_end ∷ h)
 ended first c m i h k next drained stands closes runs is = record {
   placed = k.placed;
+  sized = k.sized;
   short = k.short;
   conducted = (record { next = next; drained = drained; stands = stands; closes = closes }, k.conducted);
   machine = rw drained.hand runs;
@@ -277,10 +284,11 @@ starts_to false now stands = ap (λ m. after (on_start false) m) stands
 starts_to true now stands = ap (λ m. after (on_start true) m) stands
 
 -- queued blocks start the cycle, or a jog
-pub started : (first : Opening) (c : Board) (m : Machine) (jog : Bool) (h : Journal) → Keeps first c h → motion_of first h ≡ motions.Idle → MayStart first jog h → Runs m (plan_of h) (start_motion jog) (hand_of h) (given_of h)
+pub started : {N : ℕ} (first : Opening) (c : Board N) (m : Machine N) (jog : Bool) (h : Journal) → Keeps first c h → motion_of first h ≡ motions.Idle → MayStart first jog h → Runs m (plan_of h) (start_motion jog) (hand_of h) (given_of h)
     → Keeps first (record c { machine = m }) (starting jog h)
 started first c m jog h k stands may runs = record {
   placed = k.placed;
+  sized = k.sized;
   short = k.short;
   conducted = ((starts_to jog (motion_of first h) stands, may), k.conducted);
   machine = runs;
@@ -315,10 +323,11 @@ not_cancelled now (inr (inl e)) is = absurd (let f = sym e ∙ is in cc)
 not_cancelled now (inr (inr e)) is = absurd (let f = sym e ∙ is in cc)
 
 -- the cycle is over
-pub drained : (first : Opening) (c : Board) (m : Machine) (h : Journal) → Keeps first c h → StandsOrGoes (motion_of first h) → IsDrained h → Runs m (plan_of h) motions.Idle (hand_of h) (given_of h)
+pub drained : {N : ℕ} (first : Opening) (c : Board N) (m : Machine N) (h : Journal) → Keeps first c h → StandsOrGoes (motion_of first h) → IsDrained h → Runs m (plan_of h) motions.Idle (hand_of h) (given_of h)
     → Keeps first (record c { machine = m }) (became on_drained motions.Idle ∷ h)
 drained first c m h k was may runs = record {
   placed = k.placed;
+  sized = k.sized;
   short = k.short;
   conducted = ((after_drained (motion_of first h) was, may), k.conducted);
   machine = runs;

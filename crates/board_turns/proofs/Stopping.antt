@@ -47,10 +47,11 @@ use Rattle.board_rules.proofs.CutMarks.{known_where_stopped}
 use Rattle.board_rules.proofs.Facts.{number_is}
 
 -- a machine that slowed down is held where each tick is done
-pub stops : (first : Opening) (c : Board) (m : Machine) (h : Journal) → Keeps first c h → motion_of first h ≡ motions.Holding → IsStopped first h → Runs m (plan_of h) motions.Held (hand_of h) (given_of h)
+pub stops : {N : ℕ} (first : Opening) (c : Board N) (m : Machine N) (h : Journal) → Keeps first c h → motion_of first h ≡ motions.Holding → IsStopped first h → Runs m (plan_of h) motions.Held (hand_of h) (given_of h)
     → Keeps first (record c { machine = m }) (became on_stopped motions.Held ∷ h)
 stops first c m h k slows stopped runs = record {
   placed = k.placed;
+  sized = k.sized;
   short = k.short;
   conducted = ((ap (λ now. after on_stopped now) slows, record { stopped = stopped; cut_is = λ e. absurd (other e); load = λ e. absurd (other e) }), k.conducted);
   machine = runs;
@@ -90,10 +91,11 @@ alarmed_awaits_none true b one = refl
 alarmed_awaits_none false b one = ap not one
 
 -- it is in alarm where a soft limit has stopped it
-pub locks : (first : Opening) (c : Board) (m : Machine) (h : Journal) → Keeps first c h → motion_of first h ≡ motions.Stopping → IsStopped first h → Runs m (plan_of h) motions.Alarm (hand_of h) (given_of h)
+pub locks : {N : ℕ} (first : Opening) (c : Board N) (m : Machine N) (h : Journal) → Keeps first c h → motion_of first h ≡ motions.Stopping → IsStopped first h → Runs m (plan_of h) motions.Alarm (hand_of h) (given_of h)
     → Keeps first (record c { machine = m }) (became on_stopped motions.Alarm ∷ h)
 locks first c m h k slows stopped runs = record {
   placed = k.placed;
+  sized = k.sized;
   short = k.short;
   conducted = ((ap (λ now. after on_stopped now) slows, record { stopped = stopped; cut_is = λ e. absurd (other e); load = λ e. absurd (other e) }), k.conducted);
   machine = runs;
@@ -121,10 +123,11 @@ locks first c m h k slows stopped runs = record {
     other e = let f = sym slows ∙ e in absurd cc
 
 -- jogs that were cancelled were cut, and the machine stands
-pub cancel_over : (first : Opening) (c : Board) (m : Machine) (h : Journal) → Keeps first c h → motion_of first h ≡ motions.Cancelling → has_cut h ≡ true → IsFoundStopped first c.flight h → Runs m (plan_of h) motions.Idle (hand_of h) (given_of h)
+pub cancel_over : {N : ℕ} (first : Opening) (c : Board N) (m : Machine N) (h : Journal) → Keeps first c h → motion_of first h ≡ motions.Cancelling → has_cut h ≡ true → IsFoundStopped first c.flight h → Runs m (plan_of h) motions.Idle (hand_of h) (given_of h)
     → Keeps first (record c { machine = m; cut = false }) (became on_stopped motions.Idle ∷ h)
 cancel_over first c m h k cancelled was found runs = record {
   placed = k.placed;
+  sized = k.sized;
   short = k.short;
   conducted = ((ap (λ now. after on_stopped now) cancelled, record { stopped = found.stopped; cut_is = λ e. was; load = λ e. found.load }), k.conducted);
   machine = runs;
@@ -180,13 +183,13 @@ none_dropped : (t : Todo) (ts : List Task) → OneMove ts → (t ≡ todo.Move �
 none_dropped t ts (inl none) other is = sym (nothing_dropped ts none)
 none_dropped t ts (inr (m, next, none)) other is = absurd (not_next t ts m other next is)
 
-one_move_left : (first : Opening) (c : Board) (h : Journal) → Keeps first c h → motion_of first h ≡ motions.Cancelling → OneMove c.lines.left
+one_move_left : {N : ℕ} (first : Opening) (c : Board N) (h : Journal) → Keeps first c h → motion_of first h ≡ motions.Cancelling → OneMove c.lines.left
 one_move_left first c h k cancelled = subst OneMove (sym k.lines.left_is) (one_move first h k.conducted (cancel_is_jog first h k.conducted cancelled))
 
-pub dropped_next : (first : Opening) (c : Board) (h : Journal) → Keeps first c h → motion_of first h ≡ motions.Cancelling → IsTodo todo.Move c.lines.left → drop 1 c.lines.left ≡ without_asks (left_of first h)
+pub dropped_next : {N : ℕ} (first : Opening) (c : Board N) (h : Journal) → Keeps first c h → motion_of first h ≡ motions.Cancelling → IsTodo todo.Move c.lines.left → drop 1 c.lines.left ≡ without_asks (left_of first h)
 dropped_next first c h k cancelled is = move_dropped c.lines.left is.0 (one_move_left first c h k cancelled) is.1 ∙ ap without_asks k.lines.left_is
 
-pub dropped_none : (first : Opening) (c : Board) (t : Todo) (h : Journal) → Keeps first c h → motion_of first h ≡ motions.Cancelling → (t ≡ todo.Move → ⊥) → IsTodo t c.lines.left → c.lines.left ≡ without_asks (left_of first h)
+pub dropped_none : {N : ℕ} (first : Opening) (c : Board N) (t : Todo) (h : Journal) → Keeps first c h → motion_of first h ≡ motions.Cancelling → (t ≡ todo.Move → ⊥) → IsTodo t c.lines.left → c.lines.left ≡ without_asks (left_of first h)
 dropped_none first c t h k cancelled other is = none_dropped t c.lines.left (one_move_left first c h k cancelled) other is ∙ ap without_asks k.lines.left_is
 
 -- ---- the cut
@@ -196,25 +199,26 @@ ends_at place ps =
     ap (λ (rs : List Record). moved_by place (take (ticks_together ps) rs)) (sym (append-nil (flat_map ticks_of ps))) ∙ ap (moved_by place) (take-append_seam (flat_map ticks_of ps) [])
 
 -- the place where the machine has stopped is where all pieces lead that were given
-pub place_is : (first : Opening) (c : Board) (h : Journal) → Keeps first c h → IsFoundStopped first c.flight h → machine_from first.place (published_of h) (known_of h) ≡ end_from first.place (given_of h)
+pub place_is : {N : ℕ} (first : Opening) (c : Board N) (h : Journal) → Keeps first c h → IsFoundStopped first c.flight h → machine_from first.place (published_of h) (known_of h) ≡ end_from first.place (given_of h)
 place_is first c h k found =
     let all : given_of h ≡ published_of h = hand_is first h k.conducted ∙ ap (λ (ps : List Piece). published_of h ++ ps) found.stopped.slowed.empty ∙ append-nil (published_of h) in
     ap (machine_from first.place (published_of h)) (known_where_stopped first h k.conducted found.stopped) ∙ ends_at first.place (published_of h) ∙ ap (end_from first.place) (sym all)
 
 -- the interpreter's next number less one
-pub cut_number : (first : Opening) (c : Board) (h : Journal) → Keeps first c h → c.lines.number ≡ first.lines + length (outcomes_of h) + 1
+pub cut_number : {N : ℕ} (first : Opening) (c : Board N) (h : Journal) → Keeps first c h → c.lines.number ≡ first.lines + length (outcomes_of h) + 1
 cut_number first c h k = k.lines.number_is ∙ number_is first h k.conducted
 
 pub less_one : (n : ℕ) {m : ℕ} → n ≡ m + 1 → n - 1 ≡ m
 less_one n is = omega (arith, is)
 
-pub cut_made : (first : Opening) (c : Board) (m : Machine) (i : Interpreting) (k : ℕ) (at : Steps3) (h : Journal) (keeps : Keeps first c h) → IsUncut first h → IsFoundStopped first c.flight h → k ≡ first.lines + length (outcomes_of h)
+pub cut_made : {N : ℕ} (first : Opening) (c : Board N) (m : Machine N) (i : Interpreting) (k : ℕ) (at : Steps3) (h : Journal) (keeps : Keeps first c h) → IsUncut first h → IsFoundStopped first c.flight h → k ≡ first.lines + length (outcomes_of h)
     → at ≡ machine_from first.place (published_of h) (known_of h) → i.left ≡ without_asks (left_of first h) → i.number ≡ c.lines.number
     → i.state ≡ record c.lines.state { parser = rebased c.lines.state.parser at c.lines.state.settings.limits.per_mm }
     → Runs m (cleared (plan_of h)) (motion_of first h) (pieces.Mark (marks.Cut k) ∷ []) (given_of h ++ pieces.Mark (marks.Cut k) ∷ [])
     → Keeps first (record c { machine = m; lines = i; cut = true }) (cut k ∷ h)
 cut_made first c m i k at h keeps uncut found number place left same state runs = record {
   placed = keeps.placed;
+  sized = keeps.sized;
   short = keeps.short;
   conducted = (
     record {
@@ -261,7 +265,7 @@ cut_made first c m i k at h keeps uncut found number place left same state runs 
     there = ap (λ (x : Steps3). record b { parser = rebased b.parser x b.settings.limits.per_mm }) (place ∙ place_is first c h keeps found)
 
 -- a board that has dropped the move that was next
-pub cut_behind : (first : Opening) (c d : Board) (m : Machine) (i : Interpreting) (k : ℕ) (at : Steps3) (h : Journal) → Keeps first c h → IsUncut first h → IsFoundStopped first c.flight h
+pub cut_behind : {N : ℕ} (first : Opening) (c d : Board N) (m : Machine N) (i : Interpreting) (k : ℕ) (at : Steps3) (h : Journal) → Keeps first c h → IsUncut first h → IsFoundStopped first c.flight h
     → d ≡ record c { lines = record c.lines { left = d.lines.left } } → k ≡ first.lines + length (outcomes_of h)
     → at ≡ machine_from first.place (published_of h) (known_of h) → i.left ≡ without_asks (left_of first h) → i.number ≡ c.lines.number
     → i.state ≡ record c.lines.state { parser = rebased c.lines.state.parser at c.lines.state.settings.limits.per_mm }
@@ -269,7 +273,7 @@ pub cut_behind : (first : Opening) (c d : Board) (m : Machine) (i : Interpreting
     → Keeps first (record d { machine = m; lines = i; cut = true }) (cut (first.lines + length (outcomes_of h)) ∷ h)
 cut_behind first c d m i k at h keeps uncut found is number place left same state runs =
     subst (λ (n : ℕ). Keeps first (record d { machine = m; lines = i; cut = true }) (cut n ∷ h)) number
-    (subst (λ (x : Board). Keeps first (record x { machine = m; lines = i; cut = true }) (cut k ∷ h)) (sym is) (cut_made first c m i k at h keeps uncut found number place left same state runs))
+    (subst (λ (x : Board _). Keeps first (record x { machine = m; lines = i; cut = true }) (cut k ∷ h)) (sym is) (cut_made first c m i k at h keeps uncut found number place left same state runs))
 
 -- ---- what comes of it
 
@@ -280,7 +284,7 @@ holding_by motions.Cancelling slows none other = absurd (other refl)
 holding_by motions.Stopping slows none other = absurd cc
 holding_by m slows none other = absurd cc
 
-pub was_holding : (first : Opening) (c : Board) (h : Journal) → Keeps first c h → IsStopped first h → is_limited c.machine.hold.motion ≡ false → (c.machine.hold.motion ≡ motions.Cancelling → ⊥) → motion_of first h ≡ motions.Holding
+pub was_holding : {N : ℕ} (first : Opening) (c : Board N) (h : Journal) → Keeps first c h → IsStopped first h → is_limited c.machine.hold.motion ≡ false → (c.machine.hold.motion ≡ motions.Cancelling → ⊥) → motion_of first h ≡ motions.Holding
 was_holding first c h k stopped none other =
     holding_by (motion_of first h) stopped.slowed.slows (ap is_limited (sym k.machine.motion_is) ∙ none) (λ cancelled. other (k.machine.motion_is ∙ cancelled))
 
@@ -290,25 +294,25 @@ stopping_by motions.Stopping slows is = refl
 stopping_by motions.Alarm slows is = absurd cc
 stopping_by m slows is = absurd cc
 
-pub was_stopping : (first : Opening) (c : Board) (h : Journal) → Keeps first c h → IsStopped first h → is_limited c.machine.hold.motion ≡ true → motion_of first h ≡ motions.Stopping
+pub was_stopping : {N : ℕ} (first : Opening) (c : Board N) (h : Journal) → Keeps first c h → IsStopped first h → is_limited c.machine.hold.motion ≡ true → motion_of first h ≡ motions.Stopping
 was_stopping first c h k stopped is = stopping_by (motion_of first h) stopped.slowed.slows (ap is_limited (sym k.machine.motion_is) ∙ is)
 
 -- behind a journal something has come of it
-abbrev pub Comes : Opening → Board → Journal → Type 0
+abbrev pub Comes : {N : ℕ} → Opening → Board N → Journal → Type 0
 Comes first c h = (next : Journal) × Keeps first c next × ComesOf first h next
 
-pub comes_held : (first : Opening) (c : Board) (m : Machine) (h : Journal) → Keeps first c h → IsFoundStopped first c.flight h → motion_of first h ≡ motions.Holding → Runs m (plan_of h) motions.Held (hand_of h) (given_of h) → Comes first (record c { machine = m }) h
+pub comes_held : {N : ℕ} (first : Opening) (c : Board N) (m : Machine N) (h : Journal) → Keeps first c h → IsFoundStopped first c.flight h → motion_of first h ≡ motions.Holding → Runs m (plan_of h) motions.Held (hand_of h) (given_of h) → Comes first (record c { machine = m }) h
 comes_held first c m h k found slows runs = (became on_stopped motions.Held ∷ h, stops first c m h k slows found.stopped runs, is_held slows refl)
 
-pub comes_locked : (first : Opening) (c : Board) (m : Machine) (h : Journal) → Keeps first c h → IsFoundStopped first c.flight h → motion_of first h ≡ motions.Stopping → Runs m (plan_of h) motions.Alarm (hand_of h) (given_of h) → Comes first (record c { machine = m }) h
+pub comes_locked : {N : ℕ} (first : Opening) (c : Board N) (m : Machine N) (h : Journal) → Keeps first c h → IsFoundStopped first c.flight h → motion_of first h ≡ motions.Stopping → Runs m (plan_of h) motions.Alarm (hand_of h) (given_of h) → Comes first (record c { machine = m }) h
 comes_locked first c m h k found slows runs = (became on_stopped motions.Alarm ∷ h, locks first c m h k slows found.stopped runs, is_locked slows refl)
 
-pub comes_over : (first : Opening) (c : Board) (m : Machine) (h : Journal) → Keeps first c h → IsFoundStopped first c.flight h → motion_of first h ≡ motions.Cancelling → c.cut ≡ true → Runs m (plan_of h) motions.Idle (hand_of h) (given_of h) → Comes first (record c { machine = m; cut = false }) h
+pub comes_over : {N : ℕ} (first : Opening) (c : Board N) (m : Machine N) (h : Journal) → Keeps first c h → IsFoundStopped first c.flight h → motion_of first h ≡ motions.Cancelling → c.cut ≡ true → Runs m (plan_of h) motions.Idle (hand_of h) (given_of h) → Comes first (record c { machine = m; cut = false }) h
 comes_over first c m h k found cancelled was runs =
     let e = sym k.cut_is ∙ was in (became on_stopped motions.Idle ∷ h, cancel_over first c m h k cancelled e found runs, is_over cancelled e refl)
 
-pub is_uncut : (first : Opening) (c : Board) (h : Journal) → Keeps first c h → motion_of first h ≡ motions.Cancelling → c.cut ≡ false → IsUncut first h
+pub is_uncut : {N : ℕ} (first : Opening) (c : Board N) (h : Journal) → Keeps first c h → motion_of first h ≡ motions.Cancelling → c.cut ≡ false → IsUncut first h
 is_uncut first c h k cancelled none = record { cancelled = cancelled; uncut = sym k.cut_is ∙ none }
 
-pub comes_cut : (first : Opening) (c d : Board) (h : Journal) → IsUncut first h → Keeps first d (cut (first.lines + length (outcomes_of h)) ∷ h) → Comes first d h
+pub comes_cut : {N : ℕ} (first : Opening) (c d : Board N) (h : Journal) → IsUncut first h → Keeps first d (cut (first.lines + length (outcomes_of h)) ∷ h) → Comes first d h
 comes_cut first c d h uncut keeps = (cut (first.lines + length (outcomes_of h)) ∷ h, keeps, is_cut uncut (first.lines + length (outcomes_of h)) refl)

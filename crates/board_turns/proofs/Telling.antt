@@ -1,5 +1,5 @@
 -- It is looked how many ticks are done before a report is told, and the room is asked for.
-use Rattle.std.proofs.Common.{◌≡◌, ℕ, ◌+◌, ◌≤◌, inl, inr, Bool, true, false, ◌||◌, cond, not, nat_eq, List, [], ◌∷◌, length, Some, None, sym, refl, ap, ◌∙◌, subst, arith, length-append}
+use Rattle.std.proofs.Common.{◌-◌, ◌≡◌, ℕ, ◌+◌, inl, inr, Bool, true, false, ◌||◌, cond, not, nat_eq, List, [], ◌∷◌, length, Some, None, sym, refl, ap, ◌∙◌, subst, arith}
 use Rattle.std.specs.declared.option.Option.{Option}
 use Rattle.std.proofs.lemmas.Bool.Decides.{nat_tests}
 use Rattle.std.specs.List.{list_any}
@@ -9,23 +9,16 @@ use Rattle.feed_hold.specs.declared.Motion.TheVariants as motions
 use Rattle.feed_hold.specs.Motions.{after_word}
 use Rattle.feed_hold.specs.Motions.Call.{on_drained}
 use Rattle.flight.specs.Flights.{Flying, Flies}
-use Rattle.plan_rules.specs.Plans.{Planned, entered}
-use Rattle.plan_rules.specs.Blocks as blocks
-use Rattle.plan_rules.specs.Segments.{moved, advanced}
+use Rattle.plan_rules.specs.Plans.{Planned}
 use Rattle.line_geom.specs.declared.Block.{Block}
-use Rattle.planner_runs.specs.declared.Action.{Action}
-use Rattle.planner_runs.specs.declared.Action.TheVariants.{Add, Take, Override, Mark, Rest, Clear, Reset}
-use Rattle.planner_runs.specs.Runs.{Plans, block_of, fresh_plan, most_blocks, with_move, cleared}
 use Rattle.step_line.specs.declared.Piece.{Piece}
-use Rattle.step_line.specs.declared.Piece.TheVariants as pieces
 use Rattle.board_rules.specs.Openings.{Opening}
 use Rattle.board_rules.specs.Ports.{MayBeDone}
 use Rattle.board_rules.specs.Ports.PortStep.{found_free, loaded}
-use Rattle.board_rules.specs.Steps.{Journal, port_log, published_of, known_of, given_of, hand_of, plan_of, motion_of, actions_of, planned_of}
+use Rattle.board_rules.specs.Steps.{Journal, port_log, published_of, known_of, given_of, hand_of, plan_of, motion_of}
 use Rattle.board_rules.specs.Steps.Step.{at_port, became}
 use Rattle.board_rules.specs.Turns.{this_turn, has_blocks, is_going, finds_free}
 use Rattle.board_rules.specs.Conduct.{IsDrained, HasSlowedDown, IsStopped, ticks_given, MayObey}
-use Rattle.board_rules.proofs.Keeping.{run_is}
 use Rattle.board_rules.proofs.Taking.{no_jog_to_start}
 use Rattle.board_turns.specs.declared.board.Board.{Board}
 use Rattle.board_machine.specs.declared.machine.Machine.{Machine}
@@ -57,9 +50,10 @@ observed_now m now p [] false none e is = absurd cc
 observed_now m now p (x ∷ xs) all none e is = absurd cc
 
 -- a machine that keeps its plan, its motion and its hand
-pub other_machine : (first : Opening) (c : Board) (m : Machine) (h : Journal) → Keeps first c h → Runs m (plan_of h) (motion_of first h) (hand_of h) (given_of h) → Keeps first (record c { machine = m }) h
+pub other_machine : {N : ℕ} (first : Opening) (c : Board N) (m : Machine N) (h : Journal) → Keeps first c h → Runs m (plan_of h) (motion_of first h) (hand_of h) (given_of h) → Keeps first (record c { machine = m }) h
 other_machine first c m h k runs = record {
   placed = k.placed;
+  sized = k.sized;
   short = k.short;
   conducted = k.conducted;
   machine = runs;
@@ -127,7 +121,7 @@ observed_came first h next came = record {
 -- ---- a look
 
 -- what a board with another machine and another flight has observed
-abbrev pub Observes : Opening → Board → Machine → Flying → ℕ → Journal → Type 0
+abbrev pub Observes : {N : ℕ} → Opening → Board N → Machine N → Flying → ℕ → Journal → Type 0
 Observes first c m f done h =
     (next : Journal) × (port_log next ≡ loaded done ∷ port_log h) × Keeps first (record c { machine = m; flight = f }) next × HasObserved first h next × Flies first.place f (published_of next) (known_of next)
 
@@ -142,7 +136,7 @@ equal_tests : (a b : ℕ) → a ≡ b → nat_eq a b ≡ true
 equal_tests a b e = grind (arith, nat_tests, e)
 
 -- a machine that has not stopped
-pub looks : (first : Opening) (c : Board) (m : Machine) (f : Flying) (done : ℕ) (h : Journal) → Keeps first c h → MayBeDone done (port_log h) → Flies first.place f (published_of h) done → (IsStopped first (at_port (loaded done) ∷ h) → ⊥)
+pub looks : {N : ℕ} (first : Opening) (c : Board N) (m : Machine N) (f : Flying) (done : ℕ) (h : Journal) → Keeps first c h → MayBeDone done (port_log h) → Flies first.place f (published_of h) done → (IsStopped first (at_port (loaded done) ∷ h) → ⊥)
     → Runs m (plan_of h) (observed (motion_of first h) (plan_of h) (hand_of h) (nat_eq done (ticks_given h))) (hand_of h) (given_of h) → Observes first c m f done h
 looks first c m f done h k may flies moves runs = by_hand (hand_of h) refl
   where
@@ -207,7 +201,7 @@ looks first c m f done h k may flies moves runs = by_hand (hand_of h) refl
         stays (observed_kept (motion_of first h) (plan_of h) (hand_of h) (nat_eq done (ticks_given h)) some) (λ d. absurd (some d.hand))
 
 -- a machine that has stopped
-pub looks_stopped : (first : Opening) (b : Board) (f : Flying) (d : Board) (done : ℕ) (h next : Journal) → Keeps first b h → HasSlowedDown first h → d.flight ≡ f → Flies first.place f (published_of h) done → ComesOf first (at_port (loaded done) ∷ h) next → Keeps first d next
+pub looks_stopped : {N : ℕ} (first : Opening) (b : Board N) (f : Flying) (d : Board N) (done : ℕ) (h next : Journal) → Keeps first b h → HasSlowedDown first h → d.flight ≡ f → Flies first.place f (published_of h) done → ComesOf first (at_port (loaded done) ∷ h) next → Keeps first d next
     → (port_log next ≡ loaded done ∷ port_log h) × HasObserved first h next × Flies first.place d.flight (published_of next) (known_of next)
 looks_stopped first b f d done h next k slowed same flies comes keeps =
     let mid : Journal = at_port (loaded done) ∷ h in (
@@ -218,33 +212,6 @@ looks_stopped first b f d done h next k slowed same flies comes keeps =
 
 -- ---- the room
 
-fewer_moved : (n most : ℕ) (bs : List Block) → length bs ≤ most → length (moved n bs) ≤ most
-fewer_moved n most [] few = few
-fewer_moved n most (b ∷ bs) few = by_end (nat_eq n (blocks.left_of b))
-  where
-    by_end : (gone : Bool) → length (cond gone bs (record b { prepared = b.prepared + n } ∷ bs)) ≤ most
-    by_end true = omega (arith, few)
-    by_end false = few
-
--- no more blocks stand than may
-few_behind : (most : ℕ) (p last : Planned) (actions : List Action) (given : List Piece) → length p.blocks ≤ most → Plans most p actions given last → length last.blocks ≤ most
-few_behind most p last [] [] few run = subst (λ (q : Planned). length q.blocks ≤ most) (sym run) few
-few_behind most p last (Add m ∷ rest) ps few run =
-    few_behind most (with_move p m) last rest ps (let l = length-append p.blocks (entered p.blocks (block_of m) m.deviation ∷ []) in let r = run.0.room in omega (arith, l, r)) run.1
-few_behind most p last (Override o ∷ rest) ps few run = few_behind most (record p { overrides = o }) last rest ps few run.1
-few_behind most p last (Rest ∷ rest) ps few run = few_behind most p last rest ps few run.1
-few_behind most p last (Clear ∷ rest) ps few run = few_behind most (cleared p) last rest ps (omega arith) run.1
-few_behind most p last (Reset ∷ rest) ps few run = subst (λ (q : Planned). length q.blocks ≤ most) (sym run.2) (omega arith)
-few_behind most p last (Take mode ∷ rest) (pieces.Segment s ∷ ps) few run =
-    few_behind most (advanced p s.n s.w_out) last rest ps (fewer_moved s.n most p.blocks few) run.1
-few_behind most p last (Mark m ∷ rest) (pieces.Mark g ∷ ps) few run = few_behind most p last rest ps few run.3
-few_behind most p last rest ps few run = absurd run
-
-pub few_blocks : (first : Opening) (c : Board) (h : Journal) → Keeps first c h → length c.machine.plan.blocks ≤ most_blocks
-few_blocks first c h k =
-    subst (λ (p : Planned). length p.blocks ≤ most_blocks) (sym k.machine.plan_is)
-    (few_behind most_blocks fresh_plan (plan_of h) (actions_of h) (planned_of h) (omega arith) (run_is first h k.conducted))
-
 same_number : (n : ℕ) → nat_eq n n ≡ true
 same_number n = equal_tests n n refl
 
@@ -252,11 +219,11 @@ either : (a b : Bool) → a ≡ true → (a || b) ≡ true
 either true b e = refl
 either false b e = absurd cc
 
-pub asked_room : (first : Opening) (c : Board) (free bytes : ℕ) (h : Journal) → Keeps first c h → free + length c.machine.plan.blocks ≡ most_blocks → HasAskedRoom (Some (free, bytes)) h (at_port (found_free bytes) ∷ h)
-asked_room first c free bytes h k room = record {
+pub asked_room : {N : ℕ} (first : Opening) (c : Board N) (free bytes : ℕ) (h : Journal) → Keeps first c h → free + length c.machine.plan.blocks ≡ N - 1 → HasAskedRoom first (Some (free, bytes)) h (at_port (found_free bytes) ∷ h)
+asked_room {N} first c free bytes h k room = record {
   are = inr (bytes, refl);
   room = (
-    subst (λ (p : Planned). free + length p.blocks ≡ most_blocks) k.machine.plan_is room,
+    subst (λ (p : Planned). free + length p.blocks ≡ N - 1) k.machine.plan_is room ∙ sym k.sized,
     either (nat_eq bytes bytes) (list_any (finds_free bytes) (this_turn h)) (same_number bytes),
   );
 }
@@ -267,7 +234,7 @@ told_or_lacks : (told : Bool) (A : Type 0) → (told ≡ false → A) → not to
 told_or_lacks true A f e = absurd cc
 told_or_lacks false A f e = f refl
 
-pub may_obey : (first : Opening) (c : Board) (told : Bool) (word : Exec) (h : Journal) → Keeps first c h → IsReported first told (Some word) h → MayObey first word (has_blocks (plan_of h).blocks) h
+pub may_obey : {N : ℕ} (first : Opening) (c : Board N) (told : Bool) (word : Exec) (h : Journal) → Keeps first c h → IsReported first told (Some word) h → MayObey first word (has_blocks (plan_of h).blocks) h
 may_obey first c told word h k r = record {
   next = r.words;
   reported = λ owed. told_or_lacks told _ r.lacks (sym r.owed ∙ owed);
@@ -278,11 +245,11 @@ may_obey first c told word h k r = record {
   halts = halts_by first c h k;
 }
 
-pub may_obey_now : (first : Opening) (c : Board) (told : Bool) (waiting : Option Exec) (h : Journal) → Keeps first c h → IsReported first told waiting h → MayObeyNow first waiting h
+pub may_obey_now : {N : ℕ} (first : Opening) (c : Board N) (told : Bool) (waiting : Option Exec) (h : Journal) → Keeps first c h → IsReported first told waiting h → MayObeyNow first waiting h
 may_obey_now first c told None h k r = tt
 may_obey_now first c told (Some word) h k r = may_obey first c told word h k r
 
-pub obeys_waiting : (first : Opening) (c : Board) (m : Machine) (waiting : Option Exec) (word : Exec) (h : Journal) → waiting ≡ Some word → Keeps first c h → MayObeyNow first waiting h
+pub obeys_waiting : {N : ℕ} (first : Opening) (c : Board N) (m : Machine N) (waiting : Option Exec) (word : Exec) (h : Journal) → waiting ≡ Some word → Keeps first c h → MayObeyNow first waiting h
     → Runs m (plan_of h) (after_word word (has_blocks (plan_of h).blocks) (motion_of first h)) (hand_of h) (given_of h) → Keeps first (record c { machine = m }) (obeying first waiting h)
 obeys_waiting first c m waiting word h is k may runs =
     subst (λ (w : Option Exec). Keeps first (record c { machine = m }) (obeying first w h)) (sym is) (obeys first c m word h k (subst (λ (w : Option Exec). MayObeyNow first w h) is may) runs)

@@ -1,5 +1,5 @@
 -- A turn that has ended: what holds between two turns holds again behind its answer.
-use Rattle.std.proofs.Common.{◌≡◌, ◌<◌, ◌⊎◌, inl, inr, Bool, true, false, ◌&&◌, [], ◌∷◌, ◌++◌, sym, refl, ap, ◌∙◌, subst}
+use Rattle.std.proofs.Common.{ℕ, ◌≡◌, ◌<◌, ◌⊎◌, inl, inr, Bool, true, false, ◌&&◌, [], ◌∷◌, ◌++◌, sym, refl, ap, ◌∙◌, subst}
 use Rattle.std.specs.List.{list_any}
 use Rattle.outside.specs.declared.On.{On}
 use Rattle.outside.specs.declared.Turn.{Turn}
@@ -22,7 +22,7 @@ abbrev pub flags_behind : Turn → (greeted : Bool) → Flags → Flags
 flags_behind (Wait o) greeted f = words_awaited greeted f
 flags_behind t greeted f = f
 
-pub rounds_turned : (first : Opening) (t : Turn) (was : Flags) (board : Board) (h next : Journal) → BoardWorked first t was board h next → Rounds first board.beat (turned t ∷ next)
+pub rounds_turned : {N : ℕ} (first : Opening) (t : Turn) (was : Flags) (board : Board N) (h next : Journal) → BoardWorked first t was board h next → Rounds first board.beat (turned t ∷ next)
 rounds_turned first t was board h next w = record {
   waits = by_turn t w.beat;
   tried = λ e. ap (λ b. b && is_due first next) (w.rounds.tried e);
@@ -79,12 +79,12 @@ flags_turned first (Wait o) g f next may is takes = flags_waited first o g f nex
 flags_turned first Did g f next may is takes = flags_stay f Did next (both_same Did next refl refl) (turn_same (is_greeted next) Did (changes_taken next) refl) takes
 flags_turned first Done g f next may is takes = flags_stay f Done next (both_same Done next refl refl) (turn_same (is_greeted next) Done (changes_taken next) refl) takes
 
-still_turned : (first : Opening) (t : Turn) (was : Flags) (board : Board) (h next : Journal) → BoardWorked first t was board h next → has_published board.beat ≡ true → takes_no_word (flags_behind t board.greeted board.flags) ≡ true
+still_turned : {N : ℕ} (first : Opening) (t : Turn) (was : Flags) (board : Board N) (h next : Journal) → BoardWorked first t was board h next → has_published board.beat ≡ true → takes_no_word (flags_behind t board.greeted board.flags) ≡ true
 still_turned first Did was board h next w e = w.still e
 still_turned first (Wait o) was board h next w e = absurd (let s = ap has_published (w.beat o refl) in cc)
 still_turned first Done was board h next w e = w.still e
 
-pub turned_on : (first : Opening) (t : Turn) (was : Flags) (board : Board) (h next : Journal) → BoardWorked first t was board h next → EpochFits first (record board { flags = flags_behind t board.greeted board.flags }) (turned t ∷ next)
+pub turned_on : {N : ℕ} (first : Opening) (t : Turn) (was : Flags) (board : Board N) (h next : Journal) → BoardWorked first t was board h next → EpochFits first (record board { flags = flags_behind t board.greeted board.flags }) (turned t ∷ next)
 turned_on first t was board h next w = record {
   keeps = ends first board (flags_behind t board.greeted board.flags) t next w.keeps w.may;
   rounds = rounds_turned first t was board h next w;
@@ -92,7 +92,7 @@ turned_on first t was board h next w = record {
   still = still_turned first t was board h next w;
 }
 
-pub board_turned : (first : Opening) (t : Turn) (before board : Board) (h next : Journal) → BoardWorked first t before.flags board h next
+pub board_turned : {N : ℕ} (first : Opening) (t : Turn) (before board : Board N) (h next : Journal) → BoardWorked first t before.flags board h next
     → GoingTurned first t before (record board { flags = flags_behind t board.greeted board.flags }) h (turned t ∷ next)
 board_turned first t before board h next w = record {
   steps = w.steps;
@@ -106,7 +106,7 @@ board_turned first t before board h next w = record {
     by_move e (inr falls) = inr (subst (λ (x : Turn). number_of first (flags_behind x board.greeted board.flags) (turned t ∷ next) < number_of first before.flags h) (sym e) falls)
 
 -- a turn has ended, behind which these words of flags are to be taken
-pub turned_by : (first : Opening) (t : Turn) (before board : Board) (f : Flags) (h next : Journal) → flags_behind t board.greeted board.flags ≡ f → BoardWorked first t before.flags board h next
+pub turned_by : {N : ℕ} (first : Opening) (t : Turn) (before board : Board N) (f : Flags) (h next : Journal) → flags_behind t board.greeted board.flags ≡ f → BoardWorked first t before.flags board h next
     → EpochFits first (record board { flags = f }) (turned t ∷ next) × GoingTurned first t before (record board { flags = f }) h (turned t ∷ next)
 turned_by first t before board f h next is w =
     subst (λ (x : Flags). EpochFits first (record board { flags = x }) (turned t ∷ next) × GoingTurned first t before (record board { flags = x }) h (turned t ∷ next)) is

@@ -20,10 +20,11 @@ use Rattle.board_turns.specs.Boards.{Keeps, KeepsBetween, IsFlown}
 -- ---- the run and the turns
 
 -- the run is being closed
-pub closes : (first : Opening) (c : Board) (i : Interpreting) (h : Journal) → Keeps first c h → has_reset h ≡ false → MayClose first h → i ≡ record c.lines { left = finish ∷ tell Bye ∷ [] }
+pub closes : {N : ℕ} (first : Opening) (c : Board N) (i : Interpreting) (h : Journal) → Keeps first c h → has_reset h ≡ false → MayClose first h → i ≡ record c.lines { left = finish ∷ tell Bye ∷ [] }
     → Keeps first (record c { lines = i; closing = true }) (closing ∷ h)
 closes first c i h k unreset may is = record {
   placed = k.placed;
+  sized = k.sized;
   short = k.short;
   conducted = (may, k.conducted);
   machine = k.machine;
@@ -52,9 +53,10 @@ closes first c i h k unreset may is = record {
 }
 
 -- a turn ends
-pub ends : (first : Opening) (c : Board) (f : Flags) (t : Turn) (h : Journal) → Keeps first c h → MayTurn first t h → KeepsBetween first (record c { flags = f }) (turned t ∷ h)
+pub ends : {N : ℕ} (first : Opening) (c : Board N) (f : Flags) (t : Turn) (h : Journal) → Keeps first c h → MayTurn first t h → KeepsBetween first (record c { flags = f }) (turned t ∷ h)
 ends first c f t h k may = record {
   placed = k.placed;
+  sized = k.sized;
   short = k.short;
   conducted = (may, k.conducted);
   machine = k.machine;
@@ -78,9 +80,10 @@ ends first c f t h k may = record {
 }
 
 -- another begins, where no reset may be worked
-pub begins_turn : (first : Opening) (c : Board) (h : Journal) → KeepsBetween first c h → (MayReset first h → ⊥) → Keeps first c h
+pub begins_turn : {N : ℕ} (first : Opening) (c : Board N) (h : Journal) → KeepsBetween first c h → (MayReset first h → ⊥) → Keeps first c h
 begins_turn first c h k unready = record {
   placed = k.placed;
+  sized = k.sized;
   short = k.short;
   conducted = k.conducted;
   machine = k.machine;
@@ -105,9 +108,10 @@ begins_turn first c h k unready = record {
 }
 
 -- the room on the link is asked for
-pub room_found : (first : Opening) (c : Board) (bytes : ℕ) (h : Journal) → Keeps first c h → Keeps first c (at_port (found_free bytes) ∷ h)
+pub room_found : {N : ℕ} (first : Opening) (c : Board N) (bytes : ℕ) (h : Journal) → Keeps first c h → Keeps first c (at_port (found_free bytes) ∷ h)
 room_found first c bytes h k = record {
   placed = k.placed;
+  sized = k.sized;
   short = k.short;
   conducted = (tt, k.conducted);
   machine = k.machine;
@@ -132,9 +136,10 @@ room_found first c bytes h k = record {
 }
 
 -- what the next turn begins with is no part of it, nor which words of flags it takes
-pub other_beat : (first : Opening) (c : Board) (b : Beat) (h : Journal) → Keeps first c h → Keeps first (record c { beat = b }) h
+pub other_beat : {N : ℕ} (first : Opening) (c : Board N) (b : Beat) (h : Journal) → Keeps first c h → Keeps first (record c { beat = b }) h
 other_beat first c b h k = record {
   placed = k.placed;
+  sized = k.sized;
   short = k.short;
   conducted = k.conducted;
   machine = k.machine;
@@ -158,9 +163,10 @@ other_beat first c b h k = record {
   tries = k.tries;
 }
 
-pub other_flags : (first : Opening) (c : Board) (f : Flags) (h : Journal) → Keeps first c h → Keeps first (record c { flags = f }) h
+pub other_flags : {N : ℕ} (first : Opening) (c : Board N) (f : Flags) (h : Journal) → Keeps first c h → Keeps first (record c { flags = f }) h
 other_flags first c f h k = record {
   placed = k.placed;
+  sized = k.sized;
   short = k.short;
   conducted = k.conducted;
   machine = k.machine;
@@ -185,9 +191,10 @@ other_flags first c f h k = record {
 }
 
 -- the flight may know of more ticks
-pub other_flight : (first : Opening) (c : Board) (f : Flying) (h : Journal) → Keeps first c h → IsFlown first f h → Keeps first (record c { flight = f }) h
+pub other_flight : {N : ℕ} (first : Opening) (c : Board N) (f : Flying) (h : Journal) → Keeps first c h → IsFlown first f h → Keeps first (record c { flight = f }) h
 other_flight first c f h k flown = record {
   placed = k.placed;
+  sized = k.sized;
   short = k.short;
   conducted = k.conducted;
   machine = k.machine;

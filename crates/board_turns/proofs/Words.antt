@@ -1,5 +1,5 @@
 -- A turn takes a word of flags, and does what that asks for.
-use Rattle.std.proofs.Common.{◌≡◌, ◌+◌, ◌≤◌, ◌<◌, Bool, true, false, List, [], ◌∷◌, ◌++◌, cond, length, nat_eq, drop, Some, None, refl, sym, ap, ◌∙◌, subst, arith, inr}
+use Rattle.std.proofs.Common.{ℕ, ◌≡◌, ◌+◌, ◌≤◌, ◌<◌, Bool, true, false, List, [], ◌∷◌, ◌++◌, cond, length, nat_eq, drop, Some, None, refl, sym, ap, ◌∙◌, subst, arith, inr}
 use Rattle.std.specs.List.{list_any, count_by}
 use Rattle.std.specs.Option.{option_to_list}
 use Rattle.std.specs.declared.option.Option.{Option}
@@ -40,14 +40,14 @@ use Rattle.board_turns.proofs.Halting.{HaltsInTime, rounds_behind, leaves, obeye
 -- ---- between two turns
 
 -- where words of flags are to be taken, the last turn published no piece
-beat_is : (first : Opening) (board : Board) (h : Journal) → GoingFits first board h → takes_no_word board.flags ≡ false → board.beat ≡ Motion
+beat_is : {N : ℕ} (first : Opening) (board : Board N) (h : Journal) → GoingFits first board h → takes_no_word board.flags ≡ false → board.beat ≡ Motion
 beat_is first board h f some = by_beat board.beat f.still
   where
     by_beat : (b : Beat) → (has_published b ≡ true → takes_no_word board.flags ≡ true) → b ≡ Motion
     by_beat Motion still = refl
     by_beat Main still = absurd (let e = sym some ∙ still refl in cc)
 
-few_between : (first : Opening) (board : Board) (h : Journal) → GoingFits first board h → board.beat ≡ Motion → tries_of first h + one_if (whole_of h) ≤ 1
+few_between : {N : ℕ} (first : Opening) (board : Board N) (h : Journal) → GoingFits first board h → board.beat ≡ Motion → tries_of first h + one_if (whole_of h) ≤ 1
 few_between first board h f beat = let t = f.rounds.tries in let b = ap (λ x. one_if (has_published x)) beat in omega (arith, t, b)
 
 count_between : (h : Journal) (f : Step → Bool) → GoingBetween h → count_by f (this_turn h) ≡ 0
@@ -75,7 +75,7 @@ record TakesChanges (first : Opening) (h next : Journal) : Type 0 where
   motion : motion_of first next ≡ motion_of first h
   cuts : has_cut next ≡ has_cut h
   waiting : AreWaiting first next → AreWaiting first h
-  full : is_full (plan_of next) ≡ is_full (plan_of h)
+  full : is_full first.blocks (plan_of next) ≡ is_full first.blocks (plan_of h)
   taken : changes_taken next ≡ true
   greeted : is_greeted next ≡ is_greeted h
   words : unobeyed_of next ≡ unobeyed_of h
@@ -143,9 +143,9 @@ takes_changes_of first word h = by_word (has_changes word) refl
 
 none_waits_changed : (first : Opening) (h next : Journal) → TakesChanges first h next → NoneWaits first h → NoneWaits first next
 none_waits_changed first h next t none w =
-    same_calls (is_full (plan_of next)) (is_full (plan_of h)) (left_of first next) (left_of first h) (has_jogged next) (has_jogged h) t.full t.left t.jogged ∙ none (t.waiting w)
+    same_calls (is_full first.blocks (plan_of next)) (is_full first.blocks (plan_of h)) (left_of first next) (left_of first h) (has_jogged next) (has_jogged h) t.full t.left t.jogged ∙ none (t.waiting w)
 
-changes_worked : (first : Opening) (was board : Board) (h next : Journal) → GoingFits first was h → GoingBetween h → was.flags ≡ words.Both → TakesChanges first h next → Keeps first board next
+changes_worked : {N : ℕ} (first : Opening) (was board : Board N) (h next : Journal) → GoingFits first was h → GoingBetween h → was.flags ≡ words.Both → TakesChanges first h next → Keeps first board next
     → board.beat ≡ was.beat → board.flags ≡ words.Requests → BoardWorked first Did was.flags board h next
 changes_worked first was board h next f between both t keeps same_beat flag = record {
   keeps = keeps;
@@ -193,7 +193,7 @@ changes_worked first was board h next f between both t keeps same_beat flag = re
         omega (arith, two, one, p, m, c, e)
 
 -- the word of changes was taken
-pub took_changes : (first : Opening) (was board : Board) (word : Ovr) (h : Journal) → GoingFits first was h → GoingBetween h → was.flags ≡ words.Both → Keeps first board (replanned word h)
+pub took_changes : {N : ℕ} (first : Opening) (was board : Board N) (word : Ovr) (h : Journal) → GoingFits first was h → GoingBetween h → was.flags ≡ words.Both → Keeps first board (replanned word h)
     → board.beat ≡ was.beat → board.flags ≡ words.Requests → BoardWorked first Did was.flags board h (replanned word h)
 took_changes first was board word h f between both keeps same_beat flag = changes_worked first was board h (replanned word h) f between both (takes_changes_of first word h) keeps same_beat flag
 
@@ -204,40 +204,40 @@ none_waits_settled first h next s none w =
     none_waits_so first h next s.passes.jogged s.stays none (s.waiting w) w
 
 -- what the word of requests is taken behind
-record TakesRequests (first : Opening) (was board : Board) (h mid : Journal) : Type 0 where
+record TakesRequests {N : ℕ} (first : Opening) (was board : Board N) (h mid : Journal) : Type 0 where
   fits : GoingFits first was h
   between : GoingBetween h
   flag : was.flags ≡ words.Requests
   settled : HasSettled first h mid
   same_beat : board.beat ≡ was.beat
 
-has_changes_at : (first : Opening) (was : Board) (h : Journal) → GoingFits first was h → was.flags ≡ words.Requests → HasChanges h
+has_changes_at : {N : ℕ} (first : Opening) (was : Board N) (h : Journal) → GoingFits first was h → was.flags ≡ words.Requests → HasChanges h
 has_changes_at first was h f flag = subst (λ x. TakesFlags x h) flag f.flags
 
-beat_there : (first : Opening) (was board : Board) (h mid : Journal) → TakesRequests first was board h mid → board.beat ≡ Motion
+beat_there : {N : ℕ} (first : Opening) (was board : Board N) (h mid : Journal) → TakesRequests first was board h mid → board.beat ≡ Motion
 beat_there first was board h mid t = t.same_beat ∙ beat_is first was h t.fits (ap takes_no_word t.flag)
 
-few_there : (first : Opening) (was board : Board) (h mid : Journal) → TakesRequests first was board h mid → tries_of first mid + one_if (whole_of mid) ≤ 1
+few_there : {N : ℕ} (first : Opening) (was board : Board N) (h mid : Journal) → TakesRequests first was board h mid → tries_of first mid + one_if (whole_of mid) ≤ 1
 few_there first was board h mid t =
     let b = few_between first was h t.fits (sym t.same_beat ∙ beat_there first was board h mid t) in
     let n = t.settled.passes.tries in let w = ap one_if t.settled.passes.whole in omega (arith, b, n, w)
 
-none_left_there : (first : Opening) (was board : Board) (h mid : Journal) → TakesRequests first was board h mid → unobeyed_of mid ≡ []
+none_left_there : {N : ℕ} (first : Opening) (was board : Board N) (h mid : Journal) → TakesRequests first was board h mid → unobeyed_of mid ≡ []
 none_left_there first was board h mid t = t.settled.passes.words ∙ (has_changes_at first was h t.fits t.flag).obeyed
 
-may_add_there : (first : Opening) (was board : Board) (h mid : Journal) → TakesRequests first was board h mid → (m : PlannedMove) → IsNextTask first (ask (a_move m)) mid → is_full (plan_of mid) ≡ true
+may_add_there : {N : ℕ} (first : Opening) (was board : Board N) (h mid : Journal) → TakesRequests first was board h mid → (m : PlannedMove) → IsNextTask first (ask (a_move m)) mid → is_full first.blocks (plan_of mid) ≡ true
 may_add_there first was board h mid t m move =
     none_fits_so first h mid t.settled.stays (λ n next. adds first h n t.fits.keeps.conducted t.between next) m move
 
-none_there : (first : Opening) (was board : Board) (h mid : Journal) → TakesRequests first was board h mid → NoneWaits first mid
+none_there : {N : ℕ} (first : Opening) (was board : Board N) (h mid : Journal) → TakesRequests first was board h mid → NoneWaits first mid
 none_there first was board h mid t = none_waits_settled first h mid t.settled t.fits.rounds.none_waits
 
-none_called_there : (first : Opening) (was board : Board) (h mid : Journal) → TakesRequests first was board h mid → AreWaiting first mid → starts_cycle first mid ≡ false
+none_called_there : {N : ℕ} (first : Opening) (was board : Board N) (h mid : Journal) → TakesRequests first was board h mid → AreWaiting first mid → starts_cycle first mid ≡ false
 none_called_there first was board h mid t =
     none_called first mid (t.settled.passes.polled ∙ ap (λ (ss : List Step). list_any found_none ss) t.between) (none_there first was board h mid t)
 
 -- the word of requests was taken, and obeyed
-took_obeyed : (first : Opening) (was board : Board) (word : Exec) (h mid : Journal) → TakesRequests first was board h mid → Keeps first board (obeyed first word mid) → owes_report (taken_word word mid) ≡ false
+took_obeyed : {N : ℕ} (first : Opening) (was board : Board N) (word : Exec) (h mid : Journal) → TakesRequests first was board h mid → Keeps first board (obeyed first word mid) → owes_report (taken_word word mid) ≡ false
     → board.flags ≡ words.None → BoardWorked first Did was.flags board h (obeyed first word mid)
 took_obeyed first was board word h mid t keeps unowed no_word = record {
   keeps = keeps;
@@ -277,7 +277,7 @@ took_obeyed first was board word h mid t keeps unowed no_word = record {
         omega (arith, one, zero, p, two, l, c, e)
 
 -- it was taken, and a report is told first
-took_asked : (first : Opening) (was board : Board) (word : Exec) (h mid : Journal) → TakesRequests first was board h mid → Keeps first board (taken_word word mid) → owes_report (taken_word word mid) ≡ true
+took_asked : {N : ℕ} (first : Opening) (was board : Board N) (word : Exec) (h mid : Journal) → TakesRequests first was board h mid → Keeps first board (taken_word word mid) → owes_report (taken_word word mid) ≡ true
     → board.flags ≡ words.Report (to_obey word) → BoardWorked first Did was.flags board h (taken_word word mid)
 took_asked first was board word h mid t keeps owed asks = record {
   keeps = keeps;
@@ -312,7 +312,7 @@ took_asked first was board word h mid t keeps owed asks = record {
         omega (arith, one, zero, p, m, e)
 
 -- the word of requests was taken, and obeyed unless a report is told first
-pub took_requests : (first : Opening) (was board : Board) (word : Exec) (h mid : Journal) → GoingFits first was h → GoingBetween h → was.flags ≡ words.Requests → HasSettled first h mid → Keeps first board (asked first word mid)
+pub took_requests : {N : ℕ} (first : Opening) (was board : Board N) (word : Exec) (h mid : Journal) → GoingFits first was h → GoingBetween h → was.flags ≡ words.Requests → HasSettled first h mid → Keeps first board (asked first word mid)
     → board.beat ≡ was.beat → board.flags ≡ flags_behind (owes_report (taken_word word mid)) word → BoardWorked first Did was.flags board h (asked first word mid)
 took_requests first was board word h mid f between flag s keeps same_beat flags = by_owed (owes_report (taken_word word mid)) refl
   where

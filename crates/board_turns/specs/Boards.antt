@@ -1,5 +1,5 @@
 -- What the fields of a board say of what it has done.
-use Rattle.std.specs.Prelude.{◌≡◌, ◌⊎◌, ℕ, ◌+◌, ◌*◌, ◌≤◌, ◌<◌, Bool, true, false, ◌||◌, nat_eq, List, [], ◌∷◌, ◌++◌, length, ◌^◌}
+use Rattle.std.specs.Prelude.{◌-◌, ◌≡◌, ◌⊎◌, ℕ, ◌+◌, ◌*◌, ◌≤◌, ◌<◌, Bool, true, false, ◌||◌, nat_eq, List, [], ◌∷◌, ◌++◌, length, ◌^◌}
 use Rattle.std.specs.List.{list_any}
 use Rattle.outside.specs.declared.Turn.{Turn}
 use Rattle.outside.specs.declared.Turn.TheVariants.{Did}
@@ -44,8 +44,9 @@ pub record IsFlown (first : Opening) (f : Flying) (h : Journal) : Type 0 where
 
 -- What the fields of a board keep of all that it did since an opening, which its rules allow. The motion is stopped for a line that a soft limit stops,
 -- and few tries to publish stand behind the last poll there; a machine that a line unlocks is unlocked. A reset may not be worked now.
-pub record Keeps (first : Opening) (board : Board) (h : Journal) : Type 0 where
+pub record Keeps {N : ℕ} (first : Opening) (board : Board N) (h : Journal) : Type 0 where
   pub placed : IsPlaced first
+  pub sized : first.blocks ≡ N - 1
   pub short : first.lines + length (taken_of h) ≤ 2 ^ 31
   pub conducted : Conducted first h
   pub machine : Runs board.machine (plan_of h) (motion_of first h) (hand_of h) (given_of h)
@@ -69,8 +70,9 @@ pub record Keeps (first : Opening) (board : Board) (h : Journal) : Type 0 where
   pub tries : has_limited h ≡ true → tries_of first h ≤ 1
 
 -- They keep the same between two turns; a reset may be worked then.
-pub record KeepsBetween (first : Opening) (board : Board) (h : Journal) : Type 0 where
+pub record KeepsBetween {N : ℕ} (first : Opening) (board : Board N) (h : Journal) : Type 0 where
   pub placed : IsPlaced first
+  pub sized : first.blocks ≡ N - 1
   pub short : first.lines + length (taken_of h) ≤ 2 ^ 31
   pub conducted : Conducted first h
   pub machine : Runs board.machine (plan_of h) (motion_of first h) (hand_of h) (given_of h)
@@ -99,7 +101,7 @@ has_published Main = true
 
 -- no queued block waits where it would be started by what is next, or since no other block has room, or as a jog
 abbrev pub NoneWaits : Opening → Journal → Type 0
-NoneWaits first h = AreWaiting first h → (is_full (plan_of h) || (awaits_motion (left_of first h) || has_jogged h)) ≡ false
+NoneWaits first h = AreWaiting first h → (is_full first.blocks (plan_of h) || (awaits_motion (left_of first h) || has_jogged h)) ≡ false
 
 -- What holds between two turns, of which the last published a piece, or not.
 pub record Rounds (first : Opening) (beat : Beat) (h : Journal) : Type 0 where
@@ -154,14 +156,14 @@ abbrev pub GoingBetween : Journal → Type 0
 GoingBetween h = this_turn h ≡ []
 
 -- What the fields of a board say between two turns. The last one published no piece where words of flags are to be taken.
-pub record EpochFits (first : Opening) (board : Board) (h : Journal) : Type 0 where
+pub record EpochFits {N : ℕ} (first : Opening) (board : Board N) (h : Journal) : Type 0 where
   pub keeps : KeepsBetween first board h
   pub rounds : Rounds first board.beat h
   pub flags : TakesFlags board.flags h
   pub still : has_published board.beat ≡ true → takes_no_word board.flags ≡ true
 
 -- and where a turn begins: no reset may be worked
-pub record GoingFits (first : Opening) (board : Board) (h : Journal) : Type 0 where
+pub record GoingFits {N : ℕ} (first : Opening) (board : Board N) (h : Journal) : Type 0 where
   pub keeps : Keeps first board h
   pub rounds : Rounds first board.beat h
   pub flags : TakesFlags board.flags h
@@ -181,16 +183,16 @@ words_left (words.Report word) = 0
 abbrev pub number_of : Opening → Flags → Journal → ℕ
 number_of first f h = 3 * (words_left f + pauses (left_of first h)) + changes_left (motion_of first h) (has_cut h) + one_if (nat_eq (length (closed_tells h)) 0)
 
-abbrev pub board_number : Opening → Board → Journal → ℕ
+abbrev pub board_number : {N : ℕ} → Opening → Board N → Journal → ℕ
 board_number first board h = number_of first board.flags h
 
 -- A turn adds what was done in it, and its answer; where that is Did, something moves, or the board's number falls.
-pub record GoingTurned (first : Opening) (t : Turn) (was is : Board) (h next : Journal) : Type 0 where
+pub record GoingTurned {N : ℕ} (first : Opening) (t : Turn) (was is : Board N) (h next : Journal) : Type 0 where
   pub steps : List Step
   pub are : next ≡ turned t ∷ (steps ++ h)
   pub moves : t ≡ Did → (list_any moving (this_turn (steps ++ h)) ≡ true) ⊎ (number_of first is.flags next < number_of first was.flags h)
 
 -- a board that has closed its run, and has nothing left to do
-pub record BoardIsOver (board : Board) : Type 0 where
+pub record BoardIsOver {N : ℕ} (board : Board N) : Type 0 where
   pub closing : board.closing ≡ true
   pub none : board.lines.left ≡ []

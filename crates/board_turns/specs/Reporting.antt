@@ -68,14 +68,14 @@ pub record HasObserved (first : Opening) (h next : Journal) : Type 0 where
   pub due : is_due first next ≡ true → is_due first h ≡ true
 
 -- The room that a report tells was asked for, where the settings ask for that.
-pub record HasAskedRoom (buffer : Option (ℕ × ℕ)) (h next : Journal) : Type 0 where
+pub record HasAskedRoom (first : Opening) (buffer : Option (ℕ × ℕ)) (h next : Journal) : Type 0 where
   pub are : (next ≡ h) ⊎ ((bytes : ℕ) × (next ≡ at_port (found_free bytes) ∷ h))
-  pub room : IsRoom buffer next
+  pub room : IsRoom first buffer next
 
 -- a report tells what a board keeps, and what was found in this turn
-pub record IsTold (first : Opening) (board : Board) (r : Report) (h : Journal) : Type 0 where
+pub record IsTold {N : ℕ} (first : Opening) (board : Board N) (r : Report) (h : Journal) : Type 0 where
   pub shows : Shows (machine_from first.place (published_of h) (known_of h)) board.lines.state r
-  pub room : IsRoom r.buffer h
+  pub room : IsRoom first r.buffer h
   pub feed : r.f ≡ cond (nat_lt (known_of h) (ticks_given h)) (feed_of (plan_of h).speed) 0
   pub overrides : r.ov ≡ (plan_of h).overrides
   pub state : r.state ≡ shown_as (motion_of first h)

@@ -156,7 +156,7 @@ pub record MayJudge (first : Opening) (h : Journal) : Type 0 where
   pub starts : AreWaiting first h → begins_with_dollar (open_of h) ≡ false
 
 -- A line was judged, of which this becomes; it is not begun yet.
-pub record IsJudged (first : Opening) (was now : Board) (h : Journal) (o : Outcome) : Type 0 where
+pub record IsJudged {N : ℕ} (first : Opening) (was now : Board N) (h : Journal) (o : Outcome) : Type 0 where
   pub keeps : Keeps first was h
   pub may : MayJudge first h
   pub found : Found (machine_in (motion_of first h)) (before_of first h) (open_of h) o
@@ -196,7 +196,7 @@ pub record HasLooked (first : Opening) (h next : Journal) : Type 0 where
 
 -- no move that is next has room
 abbrev pub NoneFits : Opening → Journal → Type 0
-NoneFits first h = (m : PlannedMove) → IsNextTask first (ask (a_move m)) h → is_full (plan_of h) ≡ true
+NoneFits first h = (m : PlannedMove) → IsNextTask first (ask (a_move m)) h → is_full first.blocks (plan_of h) ≡ true
 
 -- Moves were added: as many as have room. Where none was next, nothing was done.
 pub record HasAdded (first : Opening) (h next : Journal) : Type 0 where
@@ -204,7 +204,7 @@ pub record HasAdded (first : Opening) (h next : Journal) : Type 0 where
   pub hand : hand_of next ≡ hand_of h
   pub motion : motion_of first next ≡ motion_of first h
   pub adds : NoneFits first next
-  pub moved : IsNextMove first h → is_full (plan_of h) ≡ false → list_any moving (this_turn next) ≡ true
+  pub moved : IsNextMove first h → is_full first.blocks (plan_of h) ≡ false → list_any moving (this_turn next) ≡ true
   pub none : (IsNextMove first h → ⊥) → next ≡ h
 
 -- Moves were added, and queued blocks started where that is called for.
@@ -213,7 +213,7 @@ pub record HasFilled (first : Opening) (h next : Journal) : Type 0 where
   pub hand : hand_of next ≡ hand_of h
   pub adds : NoneFits first next
   pub none_waits : NoneWaits first next
-  pub moved : IsNextMove first h → is_full (plan_of h) ≡ false → list_any moving (this_turn next) ≡ true
+  pub moved : IsNextMove first h → is_full first.blocks (plan_of h) ≡ false → list_any moving (this_turn next) ≡ true
   pub waiting : (IsNextMove first h → ⊥) → AreWaiting first next → AreWaiting first h
 
 -- queued blocks start, as a jog or not
@@ -311,7 +311,7 @@ pub record HasSettled (first : Opening) (h next : Journal) : Type 0 where
 
 -- What was done up to the end of a turn, before its answer: the board keeps it, the rules allow the answer, and where it is
 -- Did something moved in the turn, or the board's number fell. It answers a wait only where it did not publish.
-pub record BoardWorked (first : Opening) (t : Turn) (was : Flags) (board : Board) (h next : Journal) : Type 0 where
+pub record BoardWorked {N : ℕ} (first : Opening) (t : Turn) (was : Flags) (board : Board N) (h next : Journal) : Type 0 where
   pub keeps : Keeps first board next
   pub rounds : Rounds first board.beat next
   pub flags : TakesFlags board.flags next
@@ -323,5 +323,5 @@ pub record BoardWorked (first : Opening) (t : Turn) (was : Flags) (board : Board
   pub moves : t ≡ Did → (list_any moving (this_turn next) ≡ true) ⊎ (number_of first board.flags next < number_of first was h)
 
 -- behind a journal a board has worked up to an answer, and its port stands for that
-abbrev pub WorksOn : Opening → (BoardLog → Type 0) → Turn → Flags → Board → Journal → Type 0
+abbrev pub WorksOn : {N : ℕ} → Opening → (BoardLog → Type 0) → Turn → Flags → Board N → Journal → Type 0
 WorksOn first stands t was board h = (next : Journal) × stands (port_log next) × BoardWorked first t was board h next

@@ -1,6 +1,6 @@
 //! The board.
 
-ghost use Rattle.std.specs.Prelude.{◌+◌, ◌^◌, ◌≡◌, ◌≢◌, ◌↔◌, ◌<◌, [], ◌∷◌, length, ◌||◌, true, false, None, IfSome, IfNone};
+ghost use Rattle.std.specs.Prelude.{◌-◌, ◌≤◌, ◌+◌, ◌^◌, ◌≡◌, ◌≢◌, ◌↔◌, ◌<◌, [], ◌∷◌, length, ◌||◌, true, false, None, IfSome, IfNone};
 ghost use Rattle.std.specs.List.{list_any};
 ghost use Rattle.feed_hold.specs.declared.Motion.TheVariants.{Idle};
 ghost use Rattle.outside.specs.declared.Turn.TheVariants.{Done};
@@ -55,8 +55,8 @@ pub(crate) enum Beat {
 
 /// Carries out a job: takes its bytes, begins its lines one at a time, does what they ask for, and answers them.
 #[derive(Drop)]
-pub struct Board {
-    pub(crate) machine: Machine,
+pub struct Board<const N: usize> {
+    pub(crate) machine: Machine<N>,
     pub(crate) flight: Flight,
     pub(crate) lines: Interpreter,
     pub(crate) input: Input,
@@ -92,10 +92,11 @@ fn found(motion: Motion) -> Found
     }
 }
 
-impl Board {
-    /// A board that has done nothing. The banner is to be told.
-    pub fn new() -> Board
-        ensures { (state : AnyState) × IsOpening state × EpochFits (first_opening state) result [] }
+impl<const N: usize> Board<N> {
+    /// A board that has done nothing, with a plan of at most N - 1 blocks, for N from 2 to 64. The banner is to be told.
+    pub fn new() -> Board<N>
+        requires { (2 ≤ N) × (N ≤ 64) }
+        ensures { (state : AnyState) × IsOpening state × EpochFits (first_opening (N - 1) state) result [] }
     {
         let lines = Interpreter::new();
         let answered = Answered::behind(&lines);
@@ -140,7 +141,7 @@ impl Board {
     /// Whether what is next does not go on while the machine is held, or slows down for that.
     #[inline]
     fn is_held_up(&self) -> bool
-        ensures { result ≡ needs_motion self.now.lines.left self.now.input.whole (is_full self.now.machine.plan) }
+        ensures { result ≡ needs_motion self.now.lines.left self.now.input.whole (is_full (N - 1) self.now.machine.plan) }
     {
         match self.lines.todo() {
             Todo::Nothing => self.input.whole,

@@ -21,7 +21,7 @@ use code_table::Exec;
 use epoch_ports::EpochPort;
 use outside::{On, Turn};
 
-impl Board {
+impl<const N: usize> Board<N> {
     /// Where the machine has slowed down to a stop, looks how many ticks are done, and does what comes of that where each is.
     pub(crate) fn settle<P: EpochPort>(&mut self, port: &mut P)
         requires stands { (rest : P.Rest) × (first : Opening) × (h : Journal) × P.stands port.old rest first (port_log h) × Keeps first self.old h }

@@ -1,6 +1,6 @@
 //! How a board tells replies, adds moves, and publishes what is in hand or due.
 
-ghost use Rattle.std.specs.Prelude.{◌≡◌, ◌≢◌, ◌↔◌, ◌<◌, ◌||◌, [], ◌∷◌, cond, length, true, false, None, Some};
+ghost use Rattle.std.specs.Prelude.{◌-◌, ◌≡◌, ◌≢◌, ◌↔◌, ◌<◌, ◌||◌, [], ◌∷◌, cond, length, true, false, None, Some};
 ghost use Rattle.feed_hold.specs.declared.Motion.TheVariants.{Idle};
 ghost use Rattle.outside.specs.declared.Turn.TheVariants.{Done};
 ghost use Rattle.run_rules.specs.Work.Task.{ask, tell, finish};
@@ -29,7 +29,7 @@ use outside::{On, Turn};
 use status_report::Reply;
 use step_line::{Mark, Piece};
 
-impl Board {
+impl<const N: usize> Board<N> {
     /// Whether a piece is in hand, or a segment is due.
     #[inline]
     pub(crate) fn has_piece(&self) -> bool
@@ -56,9 +56,9 @@ impl Board {
     /// Whether queued blocks wait, where no other has room, what is next waits for the motion, or they are of a jog.
     pub(crate) fn needs_start(&self) -> bool
         ensures yes { result ≡ true → (self.now.machine.hold.motion ≡ Idle) × (has_blocks self.now.machine.plan.blocks ≡ true)
-            × ((is_full self.now.machine.plan || (awaits_motion self.now.lines.left || self.now.jogged)) ≡ true) }
+            × ((is_full (N - 1) self.now.machine.plan || (awaits_motion self.now.lines.left || self.now.jogged)) ≡ true) }
         ensures no { result ≡ false → self.now.machine.hold.motion ≡ Idle → has_blocks self.now.machine.plan.blocks ≡ true
-            → (is_full self.now.machine.plan || (awaits_motion self.now.lines.left || self.now.jogged)) ≡ false }
+            → (is_full (N - 1) self.now.machine.plan || (awaits_motion self.now.lines.left || self.now.jogged)) ≡ false }
     {
         self.machine.is_waiting()
             && (self.machine.is_full() || (self.awaits_motion() || self.jogged))

@@ -66,7 +66,7 @@ fn shown(motion: Motion) -> State
 
 /// The feed, in mm per minute, by the speed behind the last segment that was given; 0 where each tick that was given is
 /// known to be done.
-fn feed(machine: &Machine, known: u64) -> u64
+fn feed<const N: usize>(machine: &Machine<N>, known: u64) -> u64
     ensures { result ≡ cond (nat_lt known machine.now.given) (feed_of machine.now.plan.speed) 0 }
 {
     if known < machine.given {
@@ -76,7 +76,7 @@ fn feed(machine: &Machine, known: u64) -> u64
     }
 }
 
-impl Board {
+impl<const N: usize> Board<N> {
     /// Looks how many ticks are done. Where each is, what comes of a machine that has stopped comes, and where nothing is
     /// left to run the cycle is over, or the jogs are.
     fn observe<P: EpochPort>(&mut self, port: &mut P)
@@ -98,7 +98,7 @@ impl Board {
     fn room<P: EpochPort>(&self, port: &mut P) -> Option<(u8, u8)>
         requires stands { (rest : P.Rest) × (first : Opening) × (h : Journal) × P.stands port.old rest first (port_log h) × Keeps first self.now h }
         ensures goes_on { (rest : P.Rest) (first : Opening) (h : Journal) → P.stands port.old rest first (port_log h) → Keeps first self.now h
-            → (next : Journal) × P.stands port.new rest first (port_log next) × Keeps first self.now next × HasAskedRoom result h next }
+            → (next : Journal) × P.stands port.new rest first (port_log next) × Keeps first self.now next × HasAskedRoom first result h next }
         ensures shown { has_room result ≡ shows_room self.now.lines.state.settings.report }
     {
         if !self.lines.shows_room() {
@@ -112,7 +112,7 @@ impl Board {
     fn report_now(&self, buffer: Option<(u8, u8)>) -> Report
         requires stands { (first : Opening) × (h : Journal) × Keeps first self.now h × Flies first.place self.now.flight (published_of h) (known_of h) }
         requires room { has_room buffer ≡ shows_room self.now.lines.state.settings.report }
-        ensures told { (first : Opening) (h : Journal) → Keeps first self.now h → Flies first.place self.now.flight (published_of h) (known_of h) → HasAskedRoom buffer h h → IsTold first self.now result h }
+        ensures told { (first : Opening) (h : Journal) → Keeps first self.now h → Flies first.place self.now.flight (published_of h) (known_of h) → HasAskedRoom first buffer h h → IsTold first self.now result h }
     {
         self.lines.report(&Seen {
             state: shown(self.machine.hold.motion),

@@ -16,7 +16,7 @@ use board_lines::Answered;
 use flight::Flight;
 use line_interpreter::Todo;
 
-impl Board {
+impl<const N: usize> Board<N> {
     /// The number of the line that was begun last, in this epoch or before it.
     pub fn last_line(&self) -> u32
         requires { (first : Opening) × (h : Journal) × EpochFits first self.now h }

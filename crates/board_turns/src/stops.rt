@@ -19,7 +19,7 @@ use line_interpreter::Todo;
 use outside::{On, Turn};
 use step_line::Mark;
 
-impl Board {
+impl<const N: usize> Board<N> {
     /// Whether the machine is locked, and the line that was taken whole unlocks it.
     pub(crate) fn is_unlocked(&self) -> bool
         ensures yes { (first : Opening) (h : Journal) → Keeps first self.now h → result ≡ true → (motion_of first h ≡ Alarm) × (unlocks (open_of h) ≡ true) }

@@ -1,5 +1,5 @@
 -- What the fields of a controller tell of all that it did: its epochs keep to their rules, and the open one has ended where it rests.
-use Rattle.std.proofs.Common.{sym, ◌∙◌, subst}
+use Rattle.std.proofs.Common.{ℕ, ◌-◌, sym, ◌∙◌, subst}
 use Rattle.std.specs.declared.option.Option.{Option}
 use Rattle.run_rules.specs.declared.State.{State}
 use Rattle.run_rules.specs.States.{IsOpening}
@@ -11,13 +11,13 @@ use Rattle.controller.specs.declared.controller.Controller.{Controller}
 use Rattle.controller.specs.Boards.{BoardFits, BoardRests, HaveFinished, rests_at}
 
 -- what a board has done is what its rules allow, from an opening state on; the open epoch is finished where the board rests
-pub record Kept (board : Controller) (e : Epochs) : Type 0 where
+pub record Kept {N : ℕ} (board : Controller N) (e : Epochs) : Type 0 where
   pub first : State
   pub opening : IsOpening first
-  pub epochs : AreEpochs first e
-  pub ended : BoardRests board → HaveFinished first e
+  pub epochs : AreEpochs (N - 1) first e
+  pub ended : BoardRests board → HaveFinished (N - 1) first e
 
-pub kept_by : (board : Controller) (e : Epochs) → BoardFits board e → Kept board e
+pub kept_by : {N : ℕ} (board : Controller N) (e : Epochs) → BoardFits board e → Kept board e
 kept_by board (goes es h) f = let fits = f.2 in record {
   first = f.0;
   opening = f.1;

@@ -1,5 +1,5 @@
 -- What the fields of a controller say of what it has done, epoch by epoch.
-use Rattle.std.specs.Prelude.{◌≡◌, ◌⊎◌, ℕ, ◌+◌, ◌<◌, true, Some, None, [], ◌∷◌, ◌++◌, List}
+use Rattle.std.specs.Prelude.{◌≡◌, ◌⊎◌, ℕ, ◌+◌, ◌-◌, ◌<◌, true, Some, None, [], ◌∷◌, ◌++◌, List}
 use Rattle.std.specs.List.{list_any}
 use Rattle.std.specs.declared.option.Option.{Option}
 use Rattle.outside.specs.declared.Turn.{Turn}
@@ -27,47 +27,47 @@ use Rattle.controller.specs.declared.controller.Controller.{Controller}
 
 -- The open epoch goes on from a run's first state: it keeps to its rules behind the closed ones, the board fits it from where it opens, and
 -- no reset may be worked now.
-pub record GoesFits (state : State) (c : Controller) (es : NewestFirst Closed) (h : Journal) : Type 0 where
-  pub epochs : AreEpochs state (goes es h)
+pub record GoesFits {N : ℕ} (state : State) (c : Controller N) (es : NewestFirst Closed) (h : Journal) : Type 0 where
+  pub epochs : AreEpochs (N - 1) state (goes es h)
   pub none : c.reset ≡ None
-  pub board : EpochFits (opening_behind state es) c.board h
+  pub board : EpochFits (opening_behind (N - 1) state es) c.board h
   pub counts : IsCounted c.counts es
-  pub unready : MayReset (opening_behind state es) h → ⊥
+  pub unready : MayReset (opening_behind (N - 1) state es) h → ⊥
 
 -- A reset is being worked behind it, and is not worked whole. The board is as the epoch has left it.
-pub record ResetsFits (state : State) (c : Controller) (es : NewestFirst Closed) (h : Journal) (w : Work) : Type 0 where
-  pub epochs : AreEpochs state (resets es h w)
+pub record ResetsFits {N : ℕ} (state : State) (c : Controller N) (es : NewestFirst Closed) (h : Journal) (w : Work) : Type 0 where
+  pub epochs : AreEpochs (N - 1) state (resets es h w)
   pub work : ResetWork
   pub works : c.reset ≡ Some work
-  pub board : EpochFits (opening_behind state es) c.board h
+  pub board : EpochFits (opening_behind (N - 1) state es) c.board h
   pub counts : IsCounted c.counts es
-  pub working : IsWorking work (last_line (opening_behind state es) h) (log_behind (closed_log es) h) w
+  pub working : IsWorking work (last_line (opening_behind (N - 1) state es) h) (log_behind (closed_log es) h) w
   pub unworked : IsWorked (log_behind (closed_log es) h) w → ⊥
 
 -- what they say of all that it did from this state on
-abbrev pub FitsFrom : State → Controller → Epochs → Type 0
+abbrev pub FitsFrom : {N : ℕ} → State → Controller N → Epochs → Type 0
 FitsFrom state c (goes es h) = GoesFits state c es h
 FitsFrom state c (resets es h w) = ResetsFits state c es h w
 
 -- a run begins with an opening state
-abbrev pub BoardFits : Controller → Epochs → Type 0
+abbrev pub BoardFits : {N : ℕ} → Controller N → Epochs → Type 0
 BoardFits c e = (state : State) × IsOpening state × FitsFrom state c e
 
 -- ---- whether it is over
 
 -- a run is over with its board, and not while a reset is worked
-abbrev pub rests_at : Option ResetWork → Board → Type 0
+abbrev pub rests_at : {N : ℕ} → Option ResetWork → Board N → Type 0
 rests_at None board = BoardIsOver board
 rests_at (Some work) board = ⊥
 
 -- a controller whose run is over: nothing is left to do
-abbrev pub BoardRests : Controller → Type 0
+abbrev pub BoardRests : {N : ℕ} → Controller N → Type 0
 BoardRests c = rests_at c.reset c.board
 
 -- epochs of which the open one is closed by its end, and nothing is left to do
-abbrev pub HaveFinished : State → Epochs → Type 0
-HaveFinished state (goes es h) = IsFinished (opening_behind state es) h
-HaveFinished state (resets es h w) = ⊥
+abbrev pub HaveFinished : (blocks : ℕ) → State → Epochs → Type 0
+HaveFinished blocks state (goes es h) = IsFinished (opening_behind blocks state es) h
+HaveFinished blocks state (resets es h w) = ⊥
 
 -- ---- a turn
 
@@ -100,13 +100,13 @@ work_number None = 0
 work_number (Some work) = number_of work
 
 -- the number of a board, which no state changes
-abbrev pub number_in : State → Controller → Epochs → ℕ
-number_in state c (goes es h) = going_number + board_number (opening_behind state es) c.board h
+abbrev pub number_in : {N : ℕ} → State → Controller N → Epochs → ℕ
+number_in {N} state c (goes es h) = going_number + board_number (opening_behind (N - 1) state es) c.board h
 number_in state c (resets es h w) = work_number c.reset
 
 -- A turn adds what was done in it, and its answer. Behind that a reset is worked as soon as it may be, and the next epoch begins as soon as
 -- it is worked. Where the answer is Did, something moves, or the board's number falls.
-pub record BoardTurned (t : Turn) (was is : Controller) (e next : Epochs) : Type 0 where
+pub record BoardTurned {N : ℕ} (t : Turn) (was is : Controller N) (e next : Epochs) : Type 0 where
   pub steps : List Step
   pub are : (next ≡ added t steps e) ⊎ (next ≡ parted (added t steps e))
   pub moves : t ≡ Did → (list_any moving (this_turn (steps ++ latest e)) ≡ true) ⊎ ((state : State) → number_in state is next < number_in state was e)

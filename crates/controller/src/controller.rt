@@ -1,6 +1,6 @@
 //! The board over its run.
 
-ghost use Rattle.std.specs.Prelude.{◌≡◌, ◌↔◌, ◌<◌, []};
+ghost use Rattle.std.specs.Prelude.{◌≡◌, ◌↔◌, ◌<◌, ◌≤◌, []};
 ghost use Rattle.outside.specs.declared.Turn.TheVariants.{Done};
 ghost use Rattle.run_rules.specs.declared.State.{State};
 ghost use Rattle.board_epochs.specs.Epochs.{Epochs, log_of};
@@ -15,17 +15,18 @@ use reset_work::{Counts, ResetWork};
 /// Carries out a job: takes its bytes, begins its lines one at a time, does what they ask for, and answers them. A reset ends an
 /// epoch of the run, and the next one begins behind it.
 #[derive(Drop)]
-pub struct Controller {
-    pub(crate) board: Board,
+pub struct Controller<const N: usize> {
+    pub(crate) board: Board<N>,
     /// The reset that is being worked behind the open epoch.
     pub(crate) reset: Option<ResetWork>,
     /// What the closed epochs have made.
     pub(crate) counts: Counts,
 }
 
-impl Controller {
-    /// A board that has done nothing. The banner is to be told.
-    pub fn new() -> Controller
+impl<const N: usize> Controller<N> {
+    /// A board that has done nothing, with a plan of at most N - 1 blocks, for N from 2 to 64. The banner is to be told.
+    pub fn new() -> Controller<N>
+        requires { (2 ≤ N) × (N ≤ 64) }
         ensures { BoardFits result (goes [] []) }
     {
         Controller {

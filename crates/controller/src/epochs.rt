@@ -1,6 +1,6 @@
 //! How an epoch goes on, how a reset is worked behind it, and how the next one begins.
 
-ghost use Rattle.std.specs.Prelude.{◌≡◌, ◌≢◌, ◌↔◌, ◌∷◌, [], ◌<◌, Some, None};
+ghost use Rattle.std.specs.Prelude.{◌-◌, ◌≡◌, ◌≢◌, ◌↔◌, ◌∷◌, [], ◌<◌, Some, None};
 ghost use Rattle.outside.specs.declared.Turn.TheVariants.{Done};
 ghost use Rattle.run_rules.specs.declared.State.{State};
 ghost use Rattle.step_line.specs.Logs.{NewestFirst};
@@ -22,7 +22,7 @@ use epoch_ports::EpochSide;
 use outside::Turn;
 use reset_work::{Counts, ResetWork};
 
-impl Controller {
+impl<const N: usize> Controller<N> {
     /// Takes a turn of the board in the open epoch, which counts on from the closed ones.
     #[inline(always)]
     fn turn_board<P: BoardPort>(&mut self, port: &mut P) -> Turn
@@ -43,8 +43,8 @@ impl Controller {
     /// Begins the work of a reset, which may be worked now. What is planned, in hand or asked for stays until the next epoch begins.
     #[inline(never)]
     fn begin_reset(&mut self)
-        requires { (state : State) × (es : NewestFirst Closed) × (h : Journal) × AreEpochs state (goes es h) × EpochFits (opening_behind state es) self.old.board h × IsCounted self.old.counts es }
-        ensures begins { (state : State) (es : NewestFirst Closed) (h : Journal) → AreEpochs state (goes es h) → MayReset (opening_behind state es) h → EpochFits (opening_behind state es) self.old.board h
+        requires { (state : State) × (es : NewestFirst Closed) × (h : Journal) × AreEpochs (N - 1) state (goes es h) × EpochFits (opening_behind (N - 1) state es) self.old.board h × IsCounted self.old.counts es }
+        ensures begins { (state : State) (es : NewestFirst Closed) (h : Journal) → AreEpochs (N - 1) state (goes es h) → MayReset (opening_behind (N - 1) state es) h → EpochFits (opening_behind (N - 1) state es) self.old.board h
             → IsCounted self.old.counts es → ResetsFits state self.new es h [] }
         ensures few { work_number self.new.reset < going_number }
         ensures same { self.new ≡ record self.old { reset = self.new.reset } }
@@ -73,10 +73,10 @@ impl Controller {
     /// Begins the next epoch, behind a reset that is worked whole.
     #[inline(never)]
     fn begin_epoch(&mut self, work: &ResetWork)
-        requires worked { (state : State) × (es : NewestFirst Closed) × (h : Journal) × (w : Work) × AreEpochs state (resets es h w) × IsWorked (log_behind (closed_log es) h) w
-            × EpochFits (opening_behind state es) self.old.board h × IsCounted self.old.counts es × IsWorking work.now (last_line (opening_behind state es) h) (log_behind (closed_log es) h) w }
-        ensures begins { (state : State) (es : NewestFirst Closed) (h : Journal) (w : Work) → AreEpochs state (resets es h w) → IsWorked (log_behind (closed_log es) h) w
-            → EpochFits (opening_behind state es) self.old.board h → IsCounted self.old.counts es → IsWorking work.now (last_line (opening_behind state es) h) (log_behind (closed_log es) h) w
+        requires worked { (state : State) × (es : NewestFirst Closed) × (h : Journal) × (w : Work) × AreEpochs (N - 1) state (resets es h w) × IsWorked (log_behind (closed_log es) h) w
+            × EpochFits (opening_behind (N - 1) state es) self.old.board h × IsCounted self.old.counts es × IsWorking work.now (last_line (opening_behind (N - 1) state es) h) (log_behind (closed_log es) h) w }
+        ensures begins { (state : State) (es : NewestFirst Closed) (h : Journal) (w : Work) → AreEpochs (N - 1) state (resets es h w) → IsWorked (log_behind (closed_log es) h) w
+            → EpochFits (opening_behind (N - 1) state es) self.old.board h → IsCounted self.old.counts es → IsWorking work.now (last_line (opening_behind (N - 1) state es) h) (log_behind (closed_log es) h) w
             → GoesFits state self.new (record { journal = h; work = w } ∷ es) [] }
     {
         let halted = self.counts.halted(work);

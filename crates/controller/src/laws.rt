@@ -1,5 +1,6 @@
 //! A law of controllers.
 
+ghost use Rattle.std.specs.Prelude.{◌-◌, ℕ};
 ghost use Rattle.run_rules.specs.declared.State.{State};
 ghost use Rattle.run_rules.specs.States.{IsOpening};
 ghost use Rattle.board_epochs.specs.Epochs.{Epochs, AreEpochs};
@@ -9,5 +10,5 @@ ghost use Rattle.controller.specs.declared.controller.Controller.{Controller};
 /// What a controller has done keeps to the rules of epochs, from an opening state on. Where nothing is left to do its open epoch is
 /// finished: the run is closed.
 pub fn controllers_keep_to_epochs()
-    ensures { (c : Controller) (e : Epochs) → BoardFits c e → (state : State) × IsOpening state × AreEpochs state e × (BoardRests c → HaveFinished state e) }
+    ensures { (N : ℕ) (c : Controller N) (e : Epochs) → BoardFits c e → (state : State) × IsOpening state × AreEpochs (N - 1) state e × (BoardRests c → HaveFinished (N - 1) state e) }
 {}

@@ -35,32 +35,32 @@ last_there made first h = last_of (is_pending made h) (board_parts first h) (dri
 
 -- What comes behind the lines since a cut, broken or not, is driven there.
 record Lasts (over : Bool) (first : Opening) (h : Journal) (d : Driven) (rest : List Passed) (ds : List Driven) : Type 0 where
-  answered : (os : List Outcome) → os ≡ part_outcomes h → AreDriven over (part_place first h) (part_start h) (parts_of (map a_line os ++ rest)) (d ∷ ds)
-  broken : (os : List Outcome) (o : Outcome) → os ++ o ∷ [] ≡ part_outcomes h → AreDriven over (part_place first h) (part_start h) (parts_of (map a_line os ++ a_broken o ∷ rest)) (d ∷ ds)
+  answered : (os : List Outcome) → os ≡ part_outcomes h → AreDriven first.blocks over (part_place first h) (part_start h) (parts_of (map a_line os ++ rest)) (d ∷ ds)
+  broken : (os : List Outcome) (o : Outcome) → os ++ o ∷ [] ≡ part_outcomes h → AreDriven first.blocks over (part_place first h) (part_start h) (parts_of (map a_line os ++ a_broken o ∷ rest)) (d ∷ ds)
 
 -- all parts of an epoch, with more behind it
 abbrev Behind : Bool → ℕ → Opening → Journal → List Passed → List Passed → List Driven → Type 0
-Behind over made first h passed rest ds = AreDriven over first.place fresh_plan (parts_of (passed ++ rest)) (map driven_by_cut (reverse (cut_parts made first h)) ++ last_there made first h ∷ ds)
+Behind over made first h passed rest ds = AreDriven first.blocks over first.place fresh_plan (parts_of (passed ++ rest)) (map driven_by_cut (reverse (cut_parts made first h)) ++ last_there made first h ∷ ds)
 
 -- what holds of an epoch whose cuts are all made, and of one whose last is not
 with_pending : (made : ℕ) (first : Opening) (h : Journal) (over : Bool) (passed rest : List Passed) (ds : List Driven) (t : Bool) → is_pending made h ≡ t
-    → AreDriven over first.place fresh_plan (parts_of (passed ++ rest)) (map driven_by_cut (reverse (drop (cond t 1 0) (board_parts first h))) ++ last_of t (board_parts first h) (driven_since first h) ∷ ds)
+    → AreDriven first.blocks over first.place fresh_plan (parts_of (passed ++ rest)) (map driven_by_cut (reverse (drop (cond t 1 0) (board_parts first h))) ++ last_of t (board_parts first h) (driven_since first h) ∷ ds)
     → Behind over made first h passed rest ds
 with_pending made first h over passed rest ds t is all =
-    subst (λ (b : Bool). AreDriven over first.place fresh_plan (parts_of (passed ++ rest)) (map driven_by_cut (reverse (drop (cond b 1 0) (board_parts first h))) ++ last_of b (board_parts first h) (driven_since first h) ∷ ds)) (sym is) all
+    subst (λ (b : Bool). AreDriven first.blocks over first.place fresh_plan (parts_of (passed ++ rest)) (map driven_by_cut (reverse (drop (cond b 1 0) (board_parts first h))) ++ last_of b (board_parts first h) (driven_since first h) ∷ ds)) (sym is) all
 
 pending_driven : (made : ℕ) (first : Opening) (h : Journal) (over : Bool) (rest : List Passed) (ds : List Driven) (p : Pends made first h) → is_pending made h ≡ true
     → Lasts over first p.before (driven_by_cut (part_of first p.k p.before)) rest ds → Behind over made first h (passed_by false made first h) rest ds
 pending_driven made first h over rest ds p is lasts =
     let q = part_of first p.k p.before in
     with_pending made first h over (passed_by false made first h) rest ds true is
-    (subst (λ (qs : List CutPart). AreDriven over first.place fresh_plan (parts_of (passed_by false made first h ++ rest)) (map driven_by_cut (reverse (drop 1 qs)) ++ last_of true qs (driven_since first h) ∷ ds)) (sym p.parts)
-    (subst (λ (ps : List Passed). AreDriven over first.place fresh_plan (parts_of (ps ++ rest)) (map driven_by_cut (reverse (board_parts first p.before)) ++ driven_by_cut q ∷ ds)) (sym p.passed)
+    (subst (λ (qs : List CutPart). AreDriven first.blocks over first.place fresh_plan (parts_of (passed_by false made first h ++ rest)) (map driven_by_cut (reverse (drop 1 qs)) ++ last_of true qs (driven_since first h) ∷ ds)) (sym p.parts)
+    (subst (λ (ps : List Passed). AreDriven first.blocks over first.place fresh_plan (parts_of (ps ++ rest)) (map driven_by_cut (reverse (board_parts first p.before)) ++ driven_by_cut q ∷ ds)) (sym p.passed)
     (epoch_driven over made first p.before rest (driven_by_cut q ∷ ds) p.conducted.1 p.all (lasts.answered (part_outcomes p.before) refl))))
 
 -- an epoch is driven where its last part is
 answered_driven : (made : ℕ) (first : Opening) (h : Journal) (over : Bool) (rest : List Passed) (ds : List Driven) → Conducted first h → known_of h ≤ made
-    → ((before : Journal) (d : Driven) → Runs before d → Lasts over first before d rest ds) → Behind over made first h (passed_by false made first h) rest ds
+    → ((before : Journal) (d : Driven) → Runs first.blocks before d → Lasts over first before d rest ds) → Behind over made first h (passed_by false made first h) rest ds
 answered_driven made first h over rest ds c known lasts = by_pending (is_pending made h) refl
   where
     by_pending : (t : Bool) → is_pending made h ≡ t → Behind over made first h (passed_by false made first h) rest ds
@@ -69,7 +69,7 @@ answered_driven made first h over rest ds c known lasts = by_pending (is_pending
         (epoch_driven over made first h rest (driven_since first h ∷ ds) c (others_made made first h c known is) ((lasts h (driven_since first h) (runs_since first h c)).answered (part_outcomes h) refl))
 
 broken_driven : (made : ℕ) (first : Opening) (h : Journal) (over : Bool) (rest : List Passed) (ds : List Driven) → IsEpoch first h → MayReset first h → known_of h ≤ made → is_unanswered h ≡ true
-    → ((before : Journal) (d : Driven) → Runs before d → Lasts over first before d rest ds) → Behind over made first h (passed_by true made first h) rest ds
+    → ((before : Journal) (d : Driven) → Runs first.blocks before d → Lasts over first before d rest ds) → Behind over made first h (passed_by true made first h) rest ds
 broken_driven made first h over rest ds is may known one lasts =
     let uncut = uncut_there first h is may one in
     let none = uncut_made made h uncut in
@@ -78,7 +78,7 @@ broken_driven made first h over rest ds is may known one lasts =
     (b.driven over rest (driven_since first h ∷ ds) ((lasts h (driven_since first h) (runs_since first h is.conducted)).broken b.early b.o b.outcomes))
 
 epoch_at_reset : (made : ℕ) (first : Opening) (h : Journal) (over : Bool) (rest : List Passed) (ds : List Driven) → IsEpoch first h → MayReset first h → known_of h ≤ made
-    → ((before : Journal) (d : Driven) → Runs before d → Lasts over first before d rest ds) → Behind over made first h (passed_at_reset made first h) rest ds
+    → ((before : Journal) (d : Driven) → Runs first.blocks before d → Lasts over first before d rest ds) → Behind over made first h (passed_at_reset made first h) rest ds
 epoch_at_reset made first h over rest ds is may known lasts = by_one (is_unanswered h) refl
   where
     by_one : (t : Bool) → is_unanswered h ≡ t → Behind over made first h (passed_by (is_unanswered h) made first h) rest ds
@@ -88,56 +88,56 @@ epoch_at_reset made first h over rest ds is may known lasts = by_one (is_unanswe
 -- ---- how its last part ends
 
 -- by a reset
-resets_last : (over : Bool) (first : Opening) (r : Reset) (rest : List Passed) (ds : List Driven) → AreDriven over r.at fresh_plan (parts_of rest) ds → (h : Journal) (d : Driven) → Runs h d → Lasts over first h d (a_reset r ∷ rest) ds
+resets_last : (over : Bool) (first : Opening) (r : Reset) (rest : List Passed) (ds : List Driven) → AreDriven first.blocks over r.at fresh_plan (parts_of rest) ds → (h : Journal) (d : Driven) → Runs first.blocks h d → Lasts over first h d (a_reset r ∷ rest) ds
 resets_last over first r rest ds is h d run = record {
-  answered = λ os same. subst (λ (ps : List Part). AreDriven over (part_place first h) (part_start h) ps (d ∷ ds)) (sym (parts_reset os r rest))
-      (driven_there over (part_place first h) h d (part os [] (by_reset r)) run (append-nil os ∙ same) (taken_there h d r.number run), is);
-  broken = λ os o same. subst (λ (ps : List Part). AreDriven over (part_place first h) (part_start h) ps (d ∷ ds)) (sym (parts_broken os o r rest))
-      (driven_there over (part_place first h) h d (part os (o ∷ []) (by_reset r)) run same (taken_there h d r.number run), is);
+  answered = λ os same. subst (λ (ps : List Part). AreDriven first.blocks over (part_place first h) (part_start h) ps (d ∷ ds)) (sym (parts_reset os r rest))
+      (driven_there first.blocks over (part_place first h) h d (part os [] (by_reset r)) run (append-nil os ∙ same) (taken_there first.blocks h d r.number run), is);
+  broken = λ os o same. subst (λ (ps : List Part). AreDriven first.blocks over (part_place first h) (part_start h) ps (d ∷ ds)) (sym (parts_broken os o r rest))
+      (driven_there first.blocks over (part_place first h) h d (part os (o ∷ []) (by_reset r)) run same (taken_there first.blocks h d r.number run), is);
 }
 
 -- not yet
-goes_last : (first : Opening) (h : Journal) (d : Driven) → Runs h d → Lasts false first h d [] []
+goes_last : (first : Opening) (h : Journal) (d : Driven) → Runs first.blocks h d → Lasts false first h d [] []
 goes_last first h d run = record {
-  answered = λ os same. subst (λ (ps : List Part). AreDriven false (part_place first h) (part_start h) ps (d ∷ [])) (sym (parts_end os))
-      (driven_there false (part_place first h) h d (part os [] by_end) run (append-nil os ∙ same) (goes_there h d run), tt);
-  broken = λ os o same. subst (λ (ps : List Part). AreDriven false (part_place first h) (part_start h) ps (d ∷ [])) (sym (parts_broken_end os o))
-      (driven_there false (part_place first h) h d (part os (o ∷ []) by_end) run same (goes_there h d run), tt);
+  answered = λ os same. subst (λ (ps : List Part). AreDriven first.blocks false (part_place first h) (part_start h) ps (d ∷ [])) (sym (parts_end os))
+      (driven_there first.blocks false (part_place first h) h d (part os [] by_end) run (append-nil os ∙ same) (goes_there first.blocks h d run), tt);
+  broken = λ os o same. subst (λ (ps : List Part). AreDriven first.blocks false (part_place first h) (part_start h) ps (d ∷ [])) (sym (parts_broken_end os o))
+      (driven_there first.blocks false (part_place first h) h d (part os (o ∷ []) by_end) run same (goes_there first.blocks h d run), tt);
 }
 
 -- ---- closed epochs
 
-closed_driven : (over : Bool) (state : State) (es : NewestFirst Closed) (rest : List Passed) (ds : List Driven) → AreClosed state es
-    → AreDriven over (opening_behind state es).place fresh_plan (parts_of rest) ds → AreDriven over origin fresh_plan (parts_of (closed_course state es ++ rest)) (closed_drives state es ++ ds)
-closed_driven over state [] rest ds c is = is
-closed_driven over state (e ∷ es) rest ds c is =
-    let first = opening_behind state es in
+closed_driven : (over : Bool) (blocks : ℕ) (state : State) (es : NewestFirst Closed) (rest : List Passed) (ds : List Driven) → AreClosed blocks state es
+    → AreDriven (opening_behind blocks state es).blocks over (opening_behind blocks state es).place fresh_plan (parts_of rest) ds → AreDriven blocks over origin fresh_plan (parts_of (closed_course blocks state es ++ rest)) (closed_drives blocks state es ++ ds)
+closed_driven over blocks state [] rest ds c is = is
+closed_driven over blocks state (e ∷ es) rest ds c is =
+    let first = opening_behind blocks state es in
     let h = e.journal in
     let made = made_at_halt (ticks_made es) e.work in
     let r = reset_of (ticks_made es) first h e.work in
     let passed = passed_at_reset made first h in
     let cuts = map driven_by_cut (reverse (cut_parts made first h)) in
     let last = last_there made first h in
-    let here = epoch_at_reset made first h over (a_reset r ∷ rest) ds c.0.resetting.epoch c.0.resetting.may (known_made state e es c) (resets_last over first r rest ds is) in
-    let all = closed_driven over state es (passed ++ a_reset r ∷ rest) (cuts ++ last ∷ ds) c.1 here in
-    subst (λ (ps : List Passed). AreDriven over origin fresh_plan (parts_of ps) (closed_drives state (e ∷ es) ++ ds))
-    (sym (append_assoc (closed_course state es) (passed ++ a_reset r ∷ []) rest ∙ ap (λ (ps : List Passed). closed_course state es ++ ps) (append_assoc passed (a_reset r ∷ []) rest)))
-    (subst (λ (xs : List Driven). AreDriven over origin fresh_plan (parts_of (closed_course state es ++ (passed ++ a_reset r ∷ rest))) xs)
-    (sym (append_assoc (closed_drives state es) (cuts ++ last ∷ []) ds ∙ ap (λ (xs : List Driven). closed_drives state es ++ xs) (append_assoc cuts (last ∷ []) ds))) all)
+    let here = epoch_at_reset made first h over (a_reset r ∷ rest) ds c.0.resetting.epoch c.0.resetting.may (known_made blocks state e es c) (resets_last over first r rest ds is) in
+    let all = closed_driven over blocks state es (passed ++ a_reset r ∷ rest) (cuts ++ last ∷ ds) c.1 here in
+    subst (λ (ps : List Passed). AreDriven blocks over origin fresh_plan (parts_of ps) (closed_drives blocks state (e ∷ es) ++ ds))
+    (sym (append_assoc (closed_course blocks state es) (passed ++ a_reset r ∷ []) rest ∙ ap (λ (ps : List Passed). closed_course blocks state es ++ ps) (append_assoc passed (a_reset r ∷ []) rest)))
+    (subst (λ (xs : List Driven). AreDriven blocks over origin fresh_plan (parts_of (closed_course blocks state es ++ (passed ++ a_reset r ∷ rest))) xs)
+    (sym (append_assoc (closed_drives blocks state es) (cuts ++ last ∷ []) ds ∙ ap (λ (xs : List Driven). closed_drives blocks state es ++ xs) (append_assoc cuts (last ∷ []) ds))) all)
 
 -- ---- all of it
 
-pub epochs_driven : (state : State) (made : ℕ) (es : Epochs) → AreEpochs state es → known_of (open_journal es) ≤ made → AreDriven false origin fresh_plan (parts_of (course_of state made es)) (drives_of state made es)
-epochs_driven state made (goes es h) c known =
-    let first = opening_behind state es in
+pub epochs_driven : (blocks : ℕ) (state : State) (made : ℕ) (es : Epochs) → AreEpochs blocks state es → known_of (open_journal es) ≤ made → AreDriven blocks false origin fresh_plan (parts_of (course_of blocks state made es)) (drives_of blocks state made es)
+epochs_driven blocks state made (goes es h) c known =
+    let first = opening_behind blocks state es in
     let here = answered_driven made first h false [] [] c.1.conducted known (goes_last first) in
-    closed_driven false state es (passed_so_far made first h) (drives_in made first h) c.0
-    (subst (λ (ps : List Passed). AreDriven false first.place fresh_plan (parts_of ps) (drives_in made first h)) (append-nil (passed_so_far made first h)) here)
-epochs_driven state made (resets es h w) c known =
-    let first = opening_behind state es in
+    closed_driven false blocks state es (passed_so_far made first h) (drives_in made first h) c.0
+    (subst (λ (ps : List Passed). AreDriven first.blocks false first.place fresh_plan (parts_of ps) (drives_in made first h)) (append-nil (passed_so_far made first h)) here)
+epochs_driven blocks state made (resets es h w) c known =
+    let first = opening_behind blocks state es in
     let here = epoch_at_reset made first h false [] [] c.1.epoch c.1.may known (goes_last first) in
-    closed_driven false state es (passed_at_reset made first h) (drives_in made first h) c.0
-    (subst (λ (ps : List Passed). AreDriven false first.place fresh_plan (parts_of ps) (drives_in made first h)) (append-nil (passed_at_reset made first h)) here)
+    closed_driven false blocks state es (passed_at_reset made first h) (drives_in made first h) c.0
+    (subst (λ (ps : List Passed). AreDriven first.blocks false first.place fresh_plan (parts_of ps) (drives_in made first h)) (append-nil (passed_at_reset made first h)) here)
 
 all_unpending : (made : ℕ) (h : Journal) → AllMade made h → is_pending made h ≡ false
 all_unpending made [] all = refl
@@ -145,18 +145,18 @@ all_unpending made (began o ∷ h) all = refl
 all_unpending made (cut k ∷ h) all = ap not all.0
 all_unpending made (_ ∷ h) all = all_unpending made h all
 
-pub finished_driven : (state : State) (made : ℕ) (es : NewestFirst Closed) (h : Journal) → AreEpochs state (goes es h) → IsFinished (opening_behind state es) h → known_of h ≤ made
-    → AreDriven true origin fresh_plan (parts_of (course_of state made (goes es h))) (drives_of state made (goes es h))
-finished_driven state made es h c finished known =
-    let first = opening_behind state es in
+pub finished_driven : (blocks : ℕ) (state : State) (made : ℕ) (es : NewestFirst Closed) (h : Journal) → AreEpochs blocks state (goes es h) → IsFinished (opening_behind blocks state es) h → known_of h ≤ made
+    → AreDriven blocks true origin fresh_plan (parts_of (course_of blocks state made (goes es h))) (drives_of blocks state made (goes es h))
+finished_driven blocks state made es h c finished known =
+    let first = opening_behind blocks state es in
     let conducted = c.1.conducted in
     let d = driven_since first h in
     let p = part (part_outcomes h) [] by_end in
     let done = (spent first h conducted finished).done in
     let all = all_given_made made h (omega (arith, done, known)) in
-    let last : AreDriven true (part_place first h) (part_start h) (parts_of (map a_line (part_outcomes h) ++ [])) (d ∷ []) =
-    subst (λ (ps : List Part). AreDriven true (part_place first h) (part_start h) ps (d ∷ [])) (sym (parts_end (part_outcomes h)))
-    (driven_there true (part_place first h) h d p (runs_since first h conducted) (append-nil (part_outcomes h)) (over_there first h p conducted finished refl (append-nil (part_outcomes h))), tt) in
+    let last : AreDriven first.blocks true (part_place first h) (part_start h) (parts_of (map a_line (part_outcomes h) ++ [])) (d ∷ []) =
+    subst (λ (ps : List Part). AreDriven first.blocks true (part_place first h) (part_start h) ps (d ∷ [])) (sym (parts_end (part_outcomes h)))
+    (driven_there first.blocks true (part_place first h) h d p (runs_since first h conducted) (append-nil (part_outcomes h)) (over_there first h p conducted finished refl (append-nil (part_outcomes h))), tt) in
     let here = with_pending made first h true (passed_by false made first h) [] [] false (all_unpending made h all) (epoch_driven true made first h [] (d ∷ []) conducted all last) in
-    closed_driven true state es (passed_so_far made first h) (drives_in made first h) c.0
-    (subst (λ (ps : List Passed). AreDriven true first.place fresh_plan (parts_of ps) (drives_in made first h)) (append-nil (passed_so_far made first h)) here)
+    closed_driven true blocks state es (passed_so_far made first h) (drives_in made first h) c.0
+    (subst (λ (ps : List Passed). AreDriven first.blocks true first.place fresh_plan (parts_of ps) (drives_in made first h)) (append-nil (passed_so_far made first h)) here)

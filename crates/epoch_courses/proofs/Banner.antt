@@ -32,20 +32,20 @@ plain_begins : (replies : List Reply) → BeginsSo replies → BeginsSo (without
 plain_begins replies (inl none) = inl (ap without_byes none)
 plain_begins replies (inr some) = inr (without_byes some.0, ap without_byes some.1)
 
-pub banner_begins : (state : State) (es : Epochs) → AreEpochs state es → (without_byes (answered_by es) ≡ []) ⊎ ((behind : List Reply) × (without_byes (answered_by es) ≡ Banner ∷ behind))
-banner_begins state es c = plain_begins (answered_by es) (begins_so (answered_by es) (banner_first state es c))
+pub banner_begins : (blocks : ℕ) (state : State) (es : Epochs) → AreEpochs blocks state es → (without_byes (answered_by es) ≡ []) ⊎ ((behind : List Reply) × (without_byes (answered_by es) ≡ Banner ∷ behind))
+banner_begins blocks state es c = plain_begins (answered_by es) (begins_so (answered_by es) (banner_first blocks state es c))
 
 some_begins : (replies told : List Reply) → without_reports replies ≡ Banner ∷ told → BeginsSo replies → (behind : List Reply) × (without_byes replies ≡ Banner ∷ behind)
 some_begins replies told is (inl none) = absurd (let e = sym (ap without_reports none) ∙ is in cc)
 some_begins replies told is (inr some) = (without_byes some.0, ap without_byes some.1)
 
 -- of one that is done it is not nothing
-pub finished_begins : (state : State) (made : ℕ) (es : NewestFirst Closed) (h : Journal) → AreEpochs state (goes es h) → IsFinished (opening_behind state es) h → (behind : List Reply) × (without_byes (answered_by (goes es h)) ≡ Banner ∷ behind)
-finished_begins state made es h c over =
-    some_begins (answered_by (goes es h)) _ (finished_tell state made es h c over) (begins_so (answered_by (goes es h)) (banner_first state (goes es h) c))
+pub finished_begins : (blocks : ℕ) (state : State) (made : ℕ) (es : NewestFirst Closed) (h : Journal) → AreEpochs blocks state (goes es h) → IsFinished (opening_behind blocks state es) h → (behind : List Reply) × (without_byes (answered_by (goes es h)) ≡ Banner ∷ behind)
+finished_begins blocks state made es h c over =
+    some_begins (answered_by (goes es h)) _ (finished_tell blocks state made es h c over) (begins_so (answered_by (goes es h)) (banner_first blocks state (goes es h) c))
 
 -- so what was answered, but for Bye, is a console that tells the course
-pub console_told : (state : State) (made : ℕ) (es : NewestFirst Closed) (h : Journal) → AreEpochs state (goes es h) → IsFinished (opening_behind state es) h → IsTold (course_of state made (goes es h)) (without_byes (answered_by (goes es h)))
-console_told state made es h c over =
-    let b = finished_begins state made es h c over in
-    subst (λ (rs : List Reply). IsTold (course_of state made (goes es h)) rs) (sym b.1) (console_tells state made es h b.0 c over b.1)
+pub console_told : (blocks : ℕ) (state : State) (made : ℕ) (es : NewestFirst Closed) (h : Journal) → AreEpochs blocks state (goes es h) → IsFinished (opening_behind blocks state es) h → IsTold (course_of blocks state made (goes es h)) (without_byes (answered_by (goes es h)))
+console_told blocks state made es h c over =
+    let b = finished_begins blocks state made es h c over in
+    subst (λ (rs : List Reply). IsTold (course_of blocks state made (goes es h)) rs) (sym b.1) (console_tells blocks state made es h b.0 c over b.1)

@@ -22,10 +22,8 @@ use Rattle.epoch_courses.specs.Course.{is_made, with_reset, is_unanswered, passe
 
 cuts_on : (ps qs : List Passed) → cuts_in (ps ++ qs) ≡ cuts_in ps + cuts_in qs
 cuts_on [] qs = omega arith
-cuts_on (a_line o ∷ ps) qs = cuts_on ps qs
-cuts_on (a_broken o ∷ ps) qs = cuts_on ps qs
 cuts_on (a_cut k at ∷ ps) qs = let e = cuts_on ps qs in omega (arith, e)
-cuts_on (a_reset r ∷ ps) qs = cuts_on ps qs
+cuts_on (_ ∷ ps) qs = cuts_on ps qs
 
 no_cut : (broken : Bool) (o : Outcome) → cuts_in (cond broken (a_broken o) (a_line o) ∷ []) ≡ 0
 no_cut true o = refl
@@ -37,7 +35,7 @@ one_cut false k at = omega arith
 
 -- ---- of an epoch
 
-passed_cuts : (broken : Bool) (made : ℕ) (first : Opening) (h : Journal) → cuts_in (passed_by broken made first h) ≤ length (parts_of first h)
+pub passed_cuts : (broken : Bool) (made : ℕ) (first : Opening) (h : Journal) → cuts_in (passed_by broken made first h) ≤ length (parts_of first h)
 passed_cuts broken made first [] = omega arith
 passed_cuts broken made first (began o ∷ h) =
     let more = cuts_on (passed_by false made first h) (cond broken (a_broken o) (a_line o) ∷ []) in let none = no_cut broken o in let few = passed_cuts false made first h in omega (arith, more, none, few)
@@ -72,35 +70,35 @@ epoch_cuts : (broken : Bool) (made : ℕ) (first : Opening) (h : Journal) (befor
 epoch_cuts broken made first h before was c low =
     let few = passed_cuts broken made first h in let cuts = few_cuts first h c in let words = words_on (known_in before) (port_log h) before in omega (arith, low, few, cuts, words)
 
-one_more : (state : State) (e : Closed) (es : NewestFirst Closed) → Conducted (opening_behind state es) e.journal → cuts_in (closed_course state es) ≤ cancel_words_in (closed_log es) → cuts_in (closed_course state (e ∷ es)) ≤ cancel_words_in (closed_log (e ∷ es))
-one_more state e es c was =
-    let first = opening_behind state es in
+one_more : (blocks : ℕ) (state : State) (e : Closed) (es : NewestFirst Closed) → Conducted (opening_behind blocks state es) e.journal → cuts_in (closed_course blocks state es) ≤ cancel_words_in (closed_log es) → cuts_in (closed_course blocks state (e ∷ es)) ≤ cancel_words_in (closed_log (e ∷ es))
+one_more blocks state e es c was =
+    let first = opening_behind blocks state es in
     let made = made_at_halt (ticks_made es) e.work in
     let passed = passed_at_reset made first e.journal in
     let reset : List Passed = a_reset (reset_of (ticks_made es) first e.journal e.work) ∷ [] in
     let before = log_behind (closed_log es) e.journal in
-    let low = epoch_cuts (is_unanswered e.journal) made first e.journal (closed_log es) (cuts_in (closed_course state es)) c was in
+    let low = epoch_cuts (is_unanswered e.journal) made first e.journal (closed_log es) (cuts_in (closed_course blocks state es)) c was in
     let more = words_more (port_log e.work) before in
-    let all = cuts_on (closed_course state es) (passed ++ reset) in
+    let all = cuts_on (closed_course blocks state es) (passed ++ reset) in
     let both = cuts_on passed reset in
     omega (arith, low, more, all, both)
 
-closed_cuts : (state : State) (es : NewestFirst Closed) → AreClosed state es → cuts_in (closed_course state es) ≤ cancel_words_in (closed_log es)
-closed_cuts state [] c = omega arith
-closed_cuts state (e ∷ es) c = one_more state e es c.0.resetting.epoch.conducted (closed_cuts state es c.1)
+closed_cuts : (blocks : ℕ) (state : State) (es : NewestFirst Closed) → AreClosed blocks state es → cuts_in (closed_course blocks state es) ≤ cancel_words_in (closed_log es)
+closed_cuts blocks state [] c = omega arith
+closed_cuts blocks state (e ∷ es) c = one_more blocks state e es c.0.resetting.epoch.conducted (closed_cuts blocks state es c.1)
 
-pub marked_cuts : (state : State) (es : NewestFirst Closed) (h : Journal) (w : Work) → AreEpochs state (resets es h w) → cuts_in (closed_course state (with_reset es h w)) ≤ cancel_words_in (log_of (resets es h w))
-marked_cuts state es h w c = one_more state (record { journal = h; work = w }) es c.1.epoch.conducted (closed_cuts state es c.0)
+pub marked_cuts : (blocks : ℕ) (state : State) (es : NewestFirst Closed) (h : Journal) (w : Work) → AreEpochs blocks state (resets es h w) → cuts_in (closed_course blocks state (with_reset es h w)) ≤ cancel_words_in (log_of (resets es h w))
+marked_cuts blocks state es h w c = one_more blocks state (record { journal = h; work = w }) es c.1.epoch.conducted (closed_cuts blocks state es c.0)
 
-pub course_cuts : (state : State) (made : ℕ) (es : Epochs) → AreEpochs state es → cuts_in (course_of state made es) ≤ cancel_words_in (log_of es)
-course_cuts state made (goes es h) c =
-    let first = opening_behind state es in
-    let low = epoch_cuts false made first h (closed_log es) (cuts_in (closed_course state es)) c.1.conducted (closed_cuts state es c.0) in
-    let all = cuts_on (closed_course state es) (passed_so_far made first h) in
+pub course_cuts : (blocks : ℕ) (state : State) (made : ℕ) (es : Epochs) → AreEpochs blocks state es → cuts_in (course_of blocks state made es) ≤ cancel_words_in (log_of es)
+course_cuts blocks state made (goes es h) c =
+    let first = opening_behind blocks state es in
+    let low = epoch_cuts false made first h (closed_log es) (cuts_in (closed_course blocks state es)) c.1.conducted (closed_cuts blocks state es c.0) in
+    let all = cuts_on (closed_course blocks state es) (passed_so_far made first h) in
     omega (arith, low, all)
-course_cuts state made (resets es h w) c =
-    let first = opening_behind state es in
-    let low = epoch_cuts (is_unanswered h) made first h (closed_log es) (cuts_in (closed_course state es)) c.1.epoch.conducted (closed_cuts state es c.0) in
+course_cuts blocks state made (resets es h w) c =
+    let first = opening_behind blocks state es in
+    let low = epoch_cuts (is_unanswered h) made first h (closed_log es) (cuts_in (closed_course blocks state es)) c.1.epoch.conducted (closed_cuts blocks state es c.0) in
     let more = words_more (port_log w) (log_behind (closed_log es) h) in
-    let all = cuts_on (closed_course state es) (passed_at_reset made first h) in
+    let all = cuts_on (closed_course blocks state es) (passed_at_reset made first h) in
     omega (arith, low, more, all)

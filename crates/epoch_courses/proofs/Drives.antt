@@ -5,7 +5,7 @@ use Rattle.std.proofs.lemmas.List.Folds.{list_any-append}
 use Rattle.std.specs.List.{flat_map, list_any}
 use Rattle.flight.specs.Places.{end_from, moved_by}
 use Rattle.flight.proofs.Places.{moved_both}
-use Rattle.planner_runs.specs.Runs.{Plans, IsStart, IsAtRest, NeverClears, most_blocks, fresh_plan, all_asked, ticks_left}
+use Rattle.planner_runs.specs.Runs.{Plans, IsStart, IsAtRest, NeverClears, fresh_plan, all_asked, ticks_left}
 use Rattle.planner_runs.proofs.Legal.{heads_are_legal, closed_heads_are_legal}
 use Rattle.planner_runs.proofs.Runs.{keeps_on, grows_by_reset}
 use Rattle.run_rules.specs.Cuts.{LosesJogsAlone}
@@ -92,28 +92,28 @@ part_leads first (_ ∷ h) = part_leads first h
 -- ---- parts that are driven
 
 -- What was done of the lines begun since the last cut: a planner run that may go on, or end.
-pub record Runs (h : Journal) (d : Driven) : Type 0 where
+pub record Runs (blocks : ℕ) (h : Journal) (d : Driven) : Type 0 where
   pub joined : d.start ≡ part_start h
   pub starts : IsStart d.start
-  pub run : Plans most_blocks d.start d.actions d.given d.plan
+  pub run : Plans blocks d.start d.actions d.given d.plan
   pub never : NeverClears d.actions
   pub asks : asked_in (part_outcomes h) ≡ all_asked d.actions ++ d.left
   pub ticks : ticks_for_all (part_outcomes h) ≡ flat_map ticks_of d.given ++ (ticks_left d.plan ++ ticks_of_all d.left)
 
-pub runs_since : (first : Opening) (h : Journal) → Conducted first h → Runs h (driven_since first h)
+pub runs_since : (first : Opening) (h : Journal) → Conducted first h → Runs first.blocks h (driven_since first h)
 runs_since first h c =
     let run = open_part first h c in
     record { joined = refl; starts = run.starts; run = run.run; never = never_clears first h c; asks = asked_is first h c; ticks = part_ticks first h c }
 
 -- and so was what was done before a cut
-pub runs_cut : (first : Opening) (h : Journal) (k : ℕ) → Conducted first (cut k ∷ h) → Runs h (driven_by_cut (part_of first k h))
+pub runs_cut : (first : Opening) (h : Journal) (k : ℕ) → Conducted first (cut k ∷ h) → Runs first.blocks h (driven_by_cut (part_of first k h))
 runs_cut first h k c =
     let q = (parts_are first (cut k ∷ h) c).0 in
     record { joined = refl; starts = q.starts; run = q.run; never = never_clears first h c.1; asks = q.asks; ticks = q.ticks }
 
 -- it drives a part that counts these lines
-pub driven_there : (over : Bool) (place : Steps3) (h : Journal) (d : Driven) (p : Part) → Runs h d → lines_counted p ≡ part_outcomes h → EndsBy over place p d p.ending → IsDrivenBy over place (part_start h) p d
-driven_there over place h d p r counted ends = record {
+pub driven_there : (blocks : ℕ) (over : Bool) (place : Steps3) (h : Journal) (d : Driven) (p : Part) → Runs blocks h d → lines_counted p ≡ part_outcomes h → EndsBy blocks over place p d p.ending → IsDrivenBy blocks over place (part_start h) p d
+driven_there blocks over place h d p r counted ends = record {
   joined = r.joined;
   starts = r.starts;
   run = r.run;
@@ -123,21 +123,21 @@ driven_there over place h d p r counted ends = record {
   ends = ends;
 }
 
-pub goes_there : (h : Journal) (d : Driven) → Runs h d → GoesOn d
-goes_there h d r = heads_are_legal most_blocks d.start d.plan d.actions d.given r.starts r.never r.run
+pub goes_there : (blocks : ℕ) (h : Journal) (d : Driven) → Runs blocks h d → GoesOn d
+goes_there blocks h d r = heads_are_legal blocks d.start d.plan d.actions d.given r.starts r.never r.run
 
-pub taken_there : (h : Journal) (d : Driven) (k : ℕ) → Runs h d → IsTakenAway k d
-taken_there h d k r = record {
-  run = grows_by_reset most_blocks d.start d.plan d.actions d.given (keeps_on d.actions r.never) r.run;
-  heads = λ out begins. front_marked most_blocks d.start d.plan d.actions d.given out k r.starts r.never r.run begins;
+pub taken_there : (blocks : ℕ) (h : Journal) (d : Driven) (k : ℕ) → Runs blocks h d → IsTakenAway blocks k d
+taken_there blocks h d k r = record {
+  run = grows_by_reset blocks d.start d.plan d.actions d.given (keeps_on d.actions r.never) r.run;
+  heads = λ out begins. front_marked blocks d.start d.plan d.actions d.given out k r.starts r.never r.run begins;
 }
 
 -- a part that a cut has ended
 cut_there : (over : Bool) (first : Opening) (h : Journal) (k : ℕ) → Conducted first (cut k ∷ h)
-    → IsDrivenBy over (part_place first h) (part_start h) (part (part_outcomes h) [] (by_cut k (end_from first.place (given_of h)))) (driven_by_cut (part_of first k h))
+    → IsDrivenBy first.blocks over (part_place first h) (part_start h) (part (part_outcomes h) [] (by_cut k (end_from first.place (given_of h)))) (driven_by_cut (part_of first k h))
 cut_there over first h k c =
     let q = (parts_are first (cut k ∷ h) c).0 in
-    driven_there over (part_place first h) h (driven_by_cut (part_of first k h)) (part (part_outcomes h) [] (by_cut k (end_from first.place (given_of h)))) (runs_cut first h k c) (append-nil (part_outcomes h))
+    driven_there first.blocks over (part_place first h) h (driven_by_cut (part_of first k h)) (part (part_outcomes h) [] (by_cut k (end_from first.place (given_of h)))) (runs_cut first h k c) (append-nil (part_outcomes h))
     (record {
       stops = q.stops;
       heads = q.heads;
@@ -160,23 +160,23 @@ all_cut first h ds = map driven_by_cut (reverse (board_parts first h)) ++ ds
 
 -- What comes behind the lines begun since the last cut is driven from there on: so all of it is, from the beginning of the epoch on.
 pub epoch_driven : (over : Bool) (made : ℕ) (first : Opening) (h : Journal) (rest : List Passed) (ds : List Driven) → Conducted first h → AllMade made h
-    → AreDriven over (part_place first h) (part_start h) (parts_of (map a_line (part_outcomes h) ++ rest)) ds
-    → AreDriven over first.place fresh_plan (parts_of (passed_by false made first h ++ rest)) (all_cut first h ds)
+    → AreDriven first.blocks over (part_place first h) (part_start h) (parts_of (map a_line (part_outcomes h) ++ rest)) ds
+    → AreDriven first.blocks over first.place fresh_plan (parts_of (passed_by false made first h ++ rest)) (all_cut first h ds)
 epoch_driven over made first [] rest ds c all is = is
 epoch_driven over made first (began o ∷ h) rest ds c all is =
-    subst (λ (ps : List Passed). AreDriven over first.place fresh_plan (parts_of ps) (all_cut first h ds)) (sym (append_assoc (passed_by false made first h) (a_line o ∷ []) rest))
+    subst (λ (ps : List Passed). AreDriven first.blocks over first.place fresh_plan (parts_of ps) (all_cut first h ds)) (sym (append_assoc (passed_by false made first h) (a_line o ∷ []) rest))
     (epoch_driven over made first h (a_line o ∷ rest) ds c.1 all
-    (subst (λ (ps : List Passed). AreDriven over (part_place first h) (part_start h) (parts_of ps) ds)
+    (subst (λ (ps : List Passed). AreDriven first.blocks over (part_place first h) (part_start h) (parts_of ps) ds)
     (ap (λ (ps : List Passed). ps ++ rest) (map-append a_line (part_outcomes h) (o ∷ [])) ∙ append_assoc (map a_line (part_outcomes h)) (a_line o ∷ []) rest) is))
 epoch_driven over made first (cut k ∷ h) rest ds c all is =
     let at = end_from first.place (given_of h) in
     let q = part_of first k h in
     let same : (passed_by false made first h ++ cond (is_made made h) (a_cut k at ∷ []) []) ++ rest ≡ passed_by false made first h ++ a_cut k at ∷ rest =
     ap (λ (t : Bool). (passed_by false made first h ++ cond t (a_cut k at ∷ []) []) ++ rest) all.0 ∙ append_assoc (passed_by false made first h) (a_cut k at ∷ []) rest in
-    subst (λ (xs : List Driven). AreDriven over first.place fresh_plan (parts_of (passed_by false made first (cut k ∷ h) ++ rest)) xs) (sym (with_cut q (board_parts first h) ds))
-    (subst (λ (ps : List Passed). AreDriven over first.place fresh_plan (parts_of ps) (all_cut first h (driven_by_cut q ∷ ds))) (sym same)
+    subst (λ (xs : List Driven). AreDriven first.blocks over first.place fresh_plan (parts_of (passed_by false made first (cut k ∷ h) ++ rest)) xs) (sym (with_cut q (board_parts first h) ds))
+    (subst (λ (ps : List Passed). AreDriven first.blocks over first.place fresh_plan (parts_of ps) (all_cut first h (driven_by_cut q ∷ ds))) (sym same)
     (epoch_driven over made first h (a_cut k at ∷ rest) (driven_by_cut q ∷ ds) c.1 all.1
-    (subst (λ (ps : List Part). AreDriven over (part_place first h) (part_start h) ps (driven_by_cut q ∷ ds)) (sym (parts_cut (part_outcomes h) k at rest)) (cut_there over first h k c, is))))
+    (subst (λ (ps : List Part). AreDriven first.blocks over (part_place first h) (part_start h) ps (driven_by_cut q ∷ ds)) (sym (parts_cut (part_outcomes h) k at rest)) (cut_there over first h k c, is))))
 epoch_driven over made first (_ ∷ h) rest ds c all is = epoch_driven over made first h rest ds c.1 all is
 
 -- The same with a last line that a reset keeps from its answer.
@@ -184,14 +184,14 @@ pub record BrokenLast (made : ℕ) (first : Opening) (h : Journal) : Type 0 wher
   pub early : List Outcome
   pub o : Outcome
   pub outcomes : early ++ o ∷ [] ≡ part_outcomes h
-  pub driven : (over : Bool) (rest : List Passed) (ds : List Driven) → AreDriven over (part_place first h) (part_start h) (parts_of (map a_line early ++ a_broken o ∷ rest)) ds
-      → AreDriven over first.place fresh_plan (parts_of (passed_by true made first h ++ rest)) (all_cut first h ds)
+  pub driven : (over : Bool) (rest : List Passed) (ds : List Driven) → AreDriven first.blocks over (part_place first h) (part_start h) (parts_of (map a_line early ++ a_broken o ∷ rest)) ds
+      → AreDriven first.blocks over first.place fresh_plan (parts_of (passed_by true made first h ++ rest)) (all_cut first h ds)
 
 broken_driven : (made : ℕ) (first : Opening) (h : Journal) (o : Outcome) → Conducted first (began o ∷ h) → AllMade made h → (over : Bool) (rest : List Passed) (ds : List Driven)
-    → AreDriven over (part_place first h) (part_start h) (parts_of (map a_line (part_outcomes h) ++ a_broken o ∷ rest)) ds
-    → AreDriven over first.place fresh_plan (parts_of ((passed_by false made first h ++ a_broken o ∷ []) ++ rest)) (all_cut first h ds)
+    → AreDriven first.blocks over (part_place first h) (part_start h) (parts_of (map a_line (part_outcomes h) ++ a_broken o ∷ rest)) ds
+    → AreDriven first.blocks over first.place fresh_plan (parts_of ((passed_by false made first h ++ a_broken o ∷ []) ++ rest)) (all_cut first h ds)
 broken_driven made first h o c all over rest ds is =
-    subst (λ (ps : List Passed). AreDriven over first.place fresh_plan (parts_of ps) (all_cut first h ds)) (sym (append_assoc (passed_by false made first h) (a_broken o ∷ []) rest))
+    subst (λ (ps : List Passed). AreDriven first.blocks over first.place fresh_plan (parts_of ps) (all_cut first h ds)) (sym (append_assoc (passed_by false made first h) (a_broken o ∷ []) rest))
     (epoch_driven over made first h (a_broken o ∷ rest) ds c.1 all is)
 
 pub broken_last : (made : ℕ) (first : Opening) (h : Journal) → Conducted first h → is_unanswered h ≡ true → IsUncut h → AllMade made h → BrokenLast made first h
@@ -279,18 +279,18 @@ run_out first h p c over counted calm =
       asked = free;
       rests = rests;
       ticks = ap ticks_for_all counted ∙ last_part first h c free rests.blocks;
-      heads = closed_heads_are_legal most_blocks (part_start h) (part_plan h) (part_actions h) (part_given h) run.starts (never_clears first h c) run.run rests.blocks;
+      heads = closed_heads_are_legal first.blocks (part_start h) (part_plan h) (part_actions h) (part_given h) run.starts (never_clears first h c) run.run rests.blocks;
     }
 
-pub over_there : (first : Opening) (h : Journal) (p : Part) → Conducted first h → IsFinished first h → p.lines ≡ part_outcomes h → lines_counted p ≡ part_outcomes h → IsOver p (driven_since first h)
+pub over_there : (first : Opening) (h : Journal) (p : Part) → Conducted first h → IsFinished first h → p.lines ≡ part_outcomes h → lines_counted p ≡ part_outcomes h → IsOver first.blocks p (driven_since first h)
 over_there first h p c over lines counted = by_alarm (has_limited h) refl
   where
     alarm_so : (t : Bool) → has_limited h ≡ t → list_any raises_alarm p.lines ≡ t
     alarm_so t is = ap (list_any raises_alarm) lines ∙ alarm_among first h c ∙ is
 
-    by_alarm : (t : Bool) → has_limited h ≡ t → IsOver p (driven_since first h)
+    by_alarm : (t : Bool) → has_limited h ≡ t → IsOver first.blocks p (driven_since first h)
     by_alarm true is =
-        let alarmed = subst (λ (os : List Outcome). IsAlarmedPart os (part_start h) (part_actions h) (part_given h) (part_plan h)) (sym lines) (halted_part first h c (free_halted first h c is over.left)) in
-        subst (λ (t : Bool). either t (IsAlarmedPart p.lines (part_start h) (part_actions h) (part_given h) (part_plan h)) (IsRunOut p (driven_since first h))) (sym (alarm_so true is)) alarmed
+        let alarmed = subst (λ (os : List Outcome). IsAlarmedPart first.blocks os (part_start h) (part_actions h) (part_given h) (part_plan h)) (sym lines) (halted_part first h c (free_halted first h c is over.left)) in
+        subst (λ (t : Bool). either t (IsAlarmedPart first.blocks p.lines (part_start h) (part_actions h) (part_given h) (part_plan h)) (IsRunOut p (driven_since first h))) (sym (alarm_so true is)) alarmed
     by_alarm false is =
-        subst (λ (t : Bool). either t (IsAlarmedPart p.lines (part_start h) (part_actions h) (part_given h) (part_plan h)) (IsRunOut p (driven_since first h))) (sym (alarm_so false is)) (run_out first h p c over counted is)
+        subst (λ (t : Bool). either t (IsAlarmedPart first.blocks p.lines (part_start h) (part_actions h) (part_given h) (part_plan h)) (IsRunOut p (driven_since first h))) (sym (alarm_so false is)) (run_out first h p c over counted is)

@@ -113,26 +113,26 @@ pub record HaltedThere (h : Journal) (base : ℕ) (w : Work) : Type 0 where
   pub made : IsMadeAtHalt h (made_at_halt base w)
   pub base_is : base ≤ halted_in w
 
-pub marked_there : (state : State) (es : NewestFirst Closed) (h : Journal) (w : Work) → AreClosed state es → IsResetting (opening_behind state es) (closed_log es) h w → is_marked (stage_of (log_behind (closed_log es) h) w) ≡ true
+pub marked_there : (blocks : ℕ) (state : State) (es : NewestFirst Closed) (h : Journal) (w : Work) → AreClosed blocks state es → IsResetting (opening_behind blocks state es) (closed_log es) h w → is_marked (stage_of (log_behind (closed_log es) h) w) ≡ true
     → HaltedThere h (ticks_made es) w
-marked_there state es h w c is marked =
-    let first = opening_behind state es in
+marked_there blocks state es h w c is marked =
+    let first = opening_behind blocks state es in
     let before = log_behind (closed_log es) h in
     let may = halt_done (last_line first h) before w is.works (was_halted before w (behind_halt (stage_of before w) marked)) in
-    let there = done_there state es h (halted_in w) c is.epoch may in
+    let there = done_there blocks state es h (halted_in w) c is.epoch may in
     let later = there.2.later in
     let below = done_within first h there.0 is.epoch.conducted there.2 in
     let n = there.1 in
     record { made = record { known = omega (arith, later, n); published = omega (arith, below, n) }; base_is = omega (arith, n) }
 
-closed_there : (state : State) (e : Closed) (es : NewestFirst Closed) → AreClosed state (e ∷ es) → HaltedThere e.journal (ticks_made es) e.work
-closed_there state e es c = marked_there state es e.journal e.work c.1 c.0.resetting (ap is_marked c.0.worked.done)
+closed_there : (blocks : ℕ) (state : State) (e : Closed) (es : NewestFirst Closed) → AreClosed blocks state (e ∷ es) → HaltedThere e.journal (ticks_made es) e.work
+closed_there blocks state e es c = marked_there blocks state es e.journal e.work c.1 c.0.resetting (ap is_marked c.0.worked.done)
 
-pub made_there : (state : State) (e : Closed) (es : NewestFirst Closed) → AreClosed state (e ∷ es) → IsMadeAtHalt e.journal (made_at_halt (ticks_made es) e.work)
-made_there state e es c = (closed_there state e es c).made
+pub made_there : (blocks : ℕ) (state : State) (e : Closed) (es : NewestFirst Closed) → AreClosed blocks state (e ∷ es) → IsMadeAtHalt e.journal (made_at_halt (ticks_made es) e.work)
+made_there blocks state e es c = (closed_there blocks state e es c).made
 
-pub known_made : (state : State) (e : Closed) (es : NewestFirst Closed) → AreClosed state (e ∷ es) → known_of e.journal ≤ made_at_halt (ticks_made es) e.work
-known_made state e es c = (made_there state e es c).known
+pub known_made : (blocks : ℕ) (state : State) (e : Closed) (es : NewestFirst Closed) → AreClosed blocks state (e ∷ es) → known_of e.journal ≤ made_at_halt (ticks_made es) e.work
+known_made blocks state e es c = (made_there blocks state e es c).known
 
-pub halted_behind : (state : State) (e : Closed) (es : NewestFirst Closed) → AreClosed state (e ∷ es) → ticks_made es ≤ halted_in e.work
-halted_behind state e es c = (closed_there state e es c).base_is
+pub halted_behind : (blocks : ℕ) (state : State) (e : Closed) (es : NewestFirst Closed) → AreClosed blocks state (e ∷ es) → ticks_made es ≤ halted_in e.work
+halted_behind blocks state e es c = (closed_there blocks state e es c).base_is

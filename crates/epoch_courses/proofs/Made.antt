@@ -72,10 +72,6 @@ leaves_cancel call was motions.Alarm (inr (inr how)) is other = absurd (let e = 
 abbrev CutPends : Opening → Journal → Bool
 CutPends first h = is_cancelling (motion_of first h) && has_cut h
 
-both_so : (a b : Bool) → a ≡ true → b ≡ true → (a && b) ≡ true
-both_so true b is also = also
-both_so false b is also = absurd cc
-
 is_cancel : (m : Motion) → is_cancelling m ≡ true → m ≡ motions.Cancelling
 is_cancel motions.Cancelling is = refl
 is_cancel m is = absurd cc

@@ -1,8 +1,8 @@
 -- The lines that bytes have to their LF are those begun, and behind them the lines that are not.
 use Rattle.std.proofs.Common.{◌≡◌, ℕ, ◌+◌, Bool, true, false, cond, List, [], ◌∷◌, ◌++◌, map, length, nat_eq, refl, sym, ap, ◌∙◌, append_assoc, append-nil, arith}
 use Rattle.std.proofs.lemmas.List.{map-append}
-use Rattle.std.specs.List.{AllByRecursion}
 use Rattle.run_rules.specs.Lines.{HasNoLf, ended, whole_lines, onto_line}
+use Rattle.run_rules.proofs.Cutting.{wholes_on}
 use Rattle.run_texts.specs.Sent.{Sent, waiting_in, has_reset, behind_reset}
 use Rattle.run_texts.specs.Sent.Sent.{a_text, a_stop}
 use Rattle.status_report.specs.Answering.{lfs_in}
@@ -17,22 +17,12 @@ use Rattle.board_epochs.specs.Epochs.{lines_dropped}
 use Rattle.board_epochs.specs.Work.{Work}
 use Rattle.epoch_courses.specs.Taken.{texts_in, bytes_behind}
 
-one_line : (line more : List ℕ) → HasNoLf line → whole_lines (line ++ 10 ∷ more) ≡ line ∷ whole_lines more
-one_line [] more none = refl
-one_line (c ∷ cs) more none = rw none.0 (ap (onto_line c) (one_line cs more none.1))
-
-lines_on : (lines : List (List ℕ)) (more : List ℕ) → AllByRecursion HasNoLf lines → whole_lines (ended lines ++ more) ≡ lines ++ whole_lines more
-lines_on [] more each = refl
-lines_on (l ∷ ls) more each =
-    ap whole_lines (append_assoc (l ++ 10 ∷ []) (ended ls) more ∙ append_assoc l (10 ∷ []) (ended ls ++ more))
-    ∙ one_line l (ended ls ++ more) each.0 ∙ ap (λ (rest : List (List ℕ)). l ∷ rest) (lines_on ls more each.1)
-
 bytes_on : (taken : List ℕ) (lines : List (List ℕ)) (raw more : List ℕ) (whole : Bool) → AreLines taken lines raw whole
     → texts_in (taken ++ more) ≡ map a_text lines ++ texts_in ((raw ++ cond whole (10 ∷ []) []) ++ more)
 bytes_on taken lines raw more whole is =
     ap (λ (bytes : List ℕ). texts_in (bytes ++ more)) is.bytes
     ∙ ap texts_in (append_assoc (ended lines) (raw ++ cond whole (10 ∷ []) []) more)
-    ∙ ap (λ (ls : List (List ℕ)). map a_text ls) (lines_on lines ((raw ++ cond whole (10 ∷ []) []) ++ more) is.each)
+    ∙ ap (λ (ls : List (List ℕ)). map a_text ls) (wholes_on lines ((raw ++ cond whole (10 ∷ []) []) ++ more) is.each)
     ∙ map-append a_text lines (whole_lines ((raw ++ cond whole (10 ∷ []) []) ++ more))
 
 -- behind the lines begun, those that are not

@@ -64,16 +64,16 @@ pub record IsMadeAtHalt (h : Journal) (made : ℕ) : Type 0 where
   pub known : known_of h ≤ made
   pub published : made ≤ ticks_published h
 
-abbrev pub closed_course : State → NewestFirst Closed → List Passed
-closed_course state [] = []
-closed_course state (e ∷ es) =
-    let first = opening_behind state es in
-    closed_course state es ++ (passed_at_reset (made_at_halt (ticks_made es) e.work) first e.journal ++ a_reset (reset_of (ticks_made es) first e.journal e.work) ∷ [])
+abbrev pub closed_course : (blocks : ℕ) → State → NewestFirst Closed → List Passed
+closed_course blocks state [] = []
+closed_course blocks state (e ∷ es) =
+    let first = opening_behind blocks state es in
+    closed_course blocks state es ++ (passed_at_reset (made_at_halt (ticks_made es) e.work) first e.journal ++ a_reset (reset_of (ticks_made es) first e.journal e.work) ∷ [])
 
 -- So many ticks of the open epoch are made. A reset that is being worked comes once it is worked: no line is answered before.
-abbrev pub course_of : State → (made : ℕ) → Epochs → List Passed
-course_of state made (goes es h) = closed_course state es ++ passed_so_far made (opening_behind state es) h
-course_of state made (resets es h w) = closed_course state es ++ passed_at_reset made (opening_behind state es) h
+abbrev pub course_of : (blocks : ℕ) → State → (made : ℕ) → Epochs → List Passed
+course_of blocks state made (goes es h) = closed_course blocks state es ++ passed_so_far made (opening_behind blocks state es) h
+course_of blocks state made (resets es h w) = closed_course blocks state es ++ passed_at_reset made (opening_behind blocks state es) h
 
 -- The mark of a reset is published: it may be made, and recorded, before the work of the reset is done.
 abbrev pub is_marked : Stage → Bool
@@ -120,6 +120,6 @@ point_broken made first (_ ∷ h) = point_broken made first h
 abbrev pub point_at_reset : (made : ℕ) → Opening → Journal → Point
 point_at_reset made first h = cond (is_unanswered h) (point_broken made first h) (point_behind made first h)
 
-abbrev pub stands_at : State → (made : ℕ) → Epochs → Point
-stands_at state made (goes es h) = point_behind made (opening_behind state es) h
-stands_at state made (resets es h w) = point_at_reset made (opening_behind state es) h
+abbrev pub stands_at : (blocks : ℕ) → State → (made : ℕ) → Epochs → Point
+stands_at blocks state made (goes es h) = point_behind made (opening_behind blocks state es) h
+stands_at blocks state made (resets es h w) = point_at_reset made (opening_behind blocks state es) h

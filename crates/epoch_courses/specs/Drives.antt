@@ -6,7 +6,7 @@ use Rattle.legal_heads.specs.Speeds.{HasLegalHeads}
 use Rattle.plan_rules.specs.Plans.{Planned}
 use Rattle.planner_runs.specs.declared.Action.{Action}
 use Rattle.planner_runs.specs.declared.Action.TheVariants.{Reset as Resets}
-use Rattle.planner_runs.specs.Runs.{Plans, IsStart, IsAtRest, NeverClears, most_blocks, fresh_plan, cleared, all_asked, moves_added, ticks_left, all_records}
+use Rattle.planner_runs.specs.Runs.{Plans, IsStart, IsAtRest, NeverClears, fresh_plan, cleared, all_asked, moves_added, ticks_left, all_records}
 use Rattle.run_rules.specs.declared.State.{State}
 use Rattle.run_rules.specs.Cuts.{LosesJogsAlone}
 use Rattle.run_rules.specs.Outcomes.{either}
@@ -56,8 +56,8 @@ pub record IsCutOff (k : ℕ) (place at : Steps3) (p : Part) (d : Driven) : Type
   pub jogs : LosesJogsAlone (ticks_together d.given) (lines_counted p)
 
 -- A reset takes away what is left, at any speed. Whichever first pieces are out by then, their heads are legal up to its mark.
-pub record IsTakenAway (k : ℕ) (d : Driven) : Type 0 where
-  pub run : Plans most_blocks d.start (d.actions ++ Resets ∷ []) d.given (cleared d.plan)
+pub record IsTakenAway (blocks k : ℕ) (d : Driven) : Type 0 where
+  pub run : Plans blocks d.start (d.actions ++ Resets ∷ []) d.given (cleared d.plan)
   pub heads : (out : List Piece) → BeginsWith d.given out → HasLegalHeads (moves_added d.actions) (all_records out ++ kinds.Mark (marks.Reset k) ∷ [])
 
 -- all that the lines ask for was asked and run, and the heads are legal up to the end
@@ -68,17 +68,17 @@ pub record IsRunOut (p : Part) (d : Driven) : Type 0 where
   pub heads : HasLegalHeads (moves_added d.actions) (all_records d.given ++ kinds.End ∷ [])
 
 -- The last part of a run that is closed and done: all of it was run, or a line has raised an alarm, which has stopped the machine.
-abbrev pub IsOver : Part → Driven → Type 0
-IsOver p d = either (list_any raises_alarm p.lines) (IsAlarmedPart p.lines d.start d.actions d.given d.plan) (IsRunOut p d)
+abbrev pub IsOver : (blocks : ℕ) → Part → Driven → Type 0
+IsOver blocks p d = either (list_any raises_alarm p.lines) (IsAlarmedPart blocks p.lines d.start d.actions d.given d.plan) (IsRunOut p d)
 
 -- one that goes on
 abbrev pub GoesOn : Driven → Type 0
 GoesOn d = HasLegalHeads (moves_added d.actions) (all_records d.given)
 
-abbrev pub EndsBy : (over : Bool) → Steps3 → Part → Driven → Ending → Type 0
-EndsBy over place p d (by_cut k at) = IsCutOff k place at p d
-EndsBy over place p d (by_reset r) = IsTakenAway r.number d
-EndsBy over place p d by_end = either over (IsOver p d) (GoesOn d)
+abbrev pub EndsBy : (blocks : ℕ) → (over : Bool) → Steps3 → Part → Driven → Ending → Type 0
+EndsBy blocks over place p d (by_cut k at) = IsCutOff k place at p d
+EndsBy blocks over place p d (by_reset r) = IsTakenAway blocks r.number d
+EndsBy blocks over place p d by_end = either over (IsOver blocks p d) (GoesOn d)
 
 -- the plan with which the next part begins
 abbrev pub plan_behind : Ending → Driven → Planned
@@ -88,23 +88,23 @@ plan_behind by_end d = d.plan
 
 -- ---- all parts
 
--- A part that begins at a place with a plan is a planner run from where nothing was left to run, and of which nothing was taken away
+-- A part that begins at a place with a plan, of at most so many blocks, is a planner run from where nothing was left to run, and of which nothing was taken away
 -- before its end. What its lines ask for was done, or is left to ask; so the ticks of its pieces are the first of those that the lines ask for, and the others are left in the plan, or to ask.
-pub record IsDrivenBy (over : Bool) (place : Steps3) (plan : Planned) (p : Part) (d : Driven) : Type 0 where
+pub record IsDrivenBy (blocks : ℕ) (over : Bool) (place : Steps3) (plan : Planned) (p : Part) (d : Driven) : Type 0 where
   pub joined : d.start ≡ plan
   pub starts : IsStart d.start
-  pub run : Plans most_blocks d.start d.actions d.given d.plan
+  pub run : Plans blocks d.start d.actions d.given d.plan
   pub never : NeverClears d.actions
   pub asks : asked_in (lines_counted p) ≡ all_asked d.actions ++ d.left
   pub ticks : ticks_for_all (lines_counted p) ≡ flat_map ticks_of d.given ++ (ticks_left d.plan ++ ticks_of_all d.left)
-  pub ends : EndsBy over place p d p.ending
+  pub ends : EndsBy blocks over place p d p.ending
 
 -- each begins where the one before has ended, with the plan that it has left; `over` says whether the last one is done
-abbrev pub AreDriven : (over : Bool) → Steps3 → Planned → List Part → List Driven → Type 0
-AreDriven over place plan [] [] = Unit {0}
-AreDriven over place plan (p ∷ ps) (d ∷ ds) = IsDrivenBy over place plan p d × AreDriven over (begins_behind p.ending place) (plan_behind p.ending d) ps ds
-AreDriven over place plan [] (d ∷ ds) = ⊥
-AreDriven over place plan (p ∷ ps) [] = ⊥
+abbrev pub AreDriven : (blocks : ℕ) → (over : Bool) → Steps3 → Planned → List Part → List Driven → Type 0
+AreDriven blocks over place plan [] [] = Unit {0}
+AreDriven blocks over place plan (p ∷ ps) (d ∷ ds) = IsDrivenBy blocks over place plan p d × AreDriven blocks over (begins_behind p.ending place) (plan_behind p.ending d) ps ds
+AreDriven blocks over place plan [] (d ∷ ds) = ⊥
+AreDriven blocks over place plan (p ∷ ps) [] = ⊥
 
 -- ---- of a board
 
@@ -136,10 +136,10 @@ last_of false qs d = d
 abbrev pub drives_in : (made : ℕ) → Opening → Journal → List Driven
 drives_in made first h = map driven_by_cut (reverse (cut_parts made first h)) ++ last_of (is_pending made h) (parts_of first h) (driven_since first h) ∷ []
 
-abbrev pub closed_drives : State → NewestFirst Closed → List Driven
-closed_drives state [] = []
-closed_drives state (e ∷ es) = closed_drives state es ++ drives_in (made_at_halt (ticks_made es) e.work) (opening_behind state es) e.journal
+abbrev pub closed_drives : (blocks : ℕ) → State → NewestFirst Closed → List Driven
+closed_drives blocks state [] = []
+closed_drives blocks state (e ∷ es) = closed_drives blocks state es ++ drives_in (made_at_halt (ticks_made es) e.work) (opening_behind blocks state es) e.journal
 
-abbrev pub drives_of : State → (made : ℕ) → Epochs → List Driven
-drives_of state made (goes es h) = closed_drives state es ++ drives_in made (opening_behind state es) h
-drives_of state made (resets es h w) = closed_drives state es ++ drives_in made (opening_behind state es) h
+abbrev pub drives_of : (blocks : ℕ) → State → (made : ℕ) → Epochs → List Driven
+drives_of blocks state made (goes es h) = closed_drives blocks state es ++ drives_in made (opening_behind blocks state es) h
+drives_of blocks state made (resets es h w) = closed_drives blocks state es ++ drives_in made (opening_behind blocks state es) h

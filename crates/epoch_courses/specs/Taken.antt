@@ -1,18 +1,14 @@
 -- What a board has taken over its epochs, as it comes to it of a job.
-use Rattle.std.specs.Prelude.{ℕ, cond, List, [], ◌∷◌, ◌++◌, map}
-use Rattle.run_rules.specs.Lines.{whole_lines}
+use Rattle.std.specs.Prelude.{ℕ, cond, List, [], ◌∷◌, ◌++◌}
 use Rattle.run_texts.specs.Sent.{Sent}
-use Rattle.run_texts.specs.Sent.Sent.{a_text, a_stop}
+pub use Rattle.run_texts.specs.Sent.{texts_in}
+use Rattle.run_texts.specs.Sent.Sent.{a_stop}
 use Rattle.step_line.specs.Logs.{NewestFirst}
 use Rattle.board_rules.specs.Ports.{taken_in}
 use Rattle.board_rules.specs.Steps.{Journal, port_log, taken_of, open_of, whole_of}
 use Rattle.board_epochs.specs.Work.{Work}
 use Rattle.board_epochs.specs.Epochs.{Closed, Epochs}
 use Rattle.board_epochs.specs.Epochs.Epochs.{goes, resets}
-
--- The lines that these bytes have to their LF. The bytes of a line are what is kept of it.
-abbrev pub texts_in : List ℕ → List Sent
-texts_in bytes = map a_text (whole_lines bytes)
 
 -- What an epoch takes, and what the work of its reset takes and drops. A line that has no LF by then is none that was sent.
 abbrev pub bytes_with : Journal → Work → List ℕ

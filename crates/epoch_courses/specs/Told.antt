@@ -1,5 +1,5 @@
 -- What a board has answered over its epochs, and what it is to tell yet.
-use Rattle.std.specs.Prelude.{not, List, []}
+use Rattle.std.specs.Prelude.{ℕ, not, List, []}
 use Rattle.std.specs.List.{filter}
 use Rattle.run_rules.specs.declared.State.{State}
 use Rattle.run_rules.specs.Work.{tells}
@@ -19,9 +19,9 @@ abbrev pub without_byes : List Reply → List Reply
 without_byes replies = filter (λ r. not (is_bye r)) replies
 
 -- what is to be told yet; by a board that works a reset nothing is
-abbrev pub untold_by : State → Epochs → List Reply
-untold_by state (goes es h) = tells (left_of (opening_behind state es) h)
-untold_by state (resets es h w) = []
+abbrev pub untold_by : (blocks : ℕ) → State → Epochs → List Reply
+untold_by blocks state (goes es h) = tells (left_of (opening_behind blocks state es) h)
+untold_by blocks state (resets es h w) = []
 
 -- what closing the run tells
 abbrev pub closing_by : Epochs → List Reply

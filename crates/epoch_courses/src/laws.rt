@@ -34,28 +34,28 @@ ghost use Rattle.epoch_courses.specs.Told.{answered_by, without_byes, untold_by,
 /// once its mark is made, since nothing is begun behind it before. Once the mark of a reset is published, the course may go
 /// on behind it (`marked`), since it may be recorded then.
 pub fn epochs_are_a_course()
-    ensures leads { (state : State) (made : ℕ) (es : Epochs) → AreEpochs state es → known_of (open_journal es) ≤ made →
-        LeadsTo (opening state) (sent_by es) (course_of state made es) (stands_at state made es) (left_by es) }
-    ensures follows { (state : State) (made : ℕ) (es : NewestFirst Closed) (h : Journal) → AreEpochs state (goes es h) → IsFinished (opening_behind state es) h → known_of h ≤ made →
-        Follows (opening state) (sent_by (goes es h)) (course_of state made (goes es h)) (point_behind made (opening_behind state es) h) }
-    ensures marked { (state : State) (es : NewestFirst Closed) (h : Journal) (w : Work) → AreEpochs state (resets es h w) → is_marked (stage_of (log_behind (closed_log es) h) w) ≡ true →
-        LeadsTo (opening state) (closed_texts (with_reset es h w)) (closed_course state (with_reset es h w)) (point_of (opening_behind state (with_reset es h w))) [] }
-    ensures halted { (state : State) (e : Closed) (es : NewestFirst Closed) → AreClosed state (e ∷ es) → IsMadeAtHalt e.journal (made_at_halt (ticks_made es) e.work) }
+    ensures leads { (blocks : ℕ) (state : State) (made : ℕ) (es : Epochs) → AreEpochs blocks state es → known_of (open_journal es) ≤ made →
+        LeadsTo (opening state) (sent_by es) (course_of blocks state made es) (stands_at blocks state made es) (left_by es) }
+    ensures follows { (blocks : ℕ) (state : State) (made : ℕ) (es : NewestFirst Closed) (h : Journal) → AreEpochs blocks state (goes es h) → IsFinished (opening_behind blocks state es) h → known_of h ≤ made →
+        Follows (opening state) (sent_by (goes es h)) (course_of blocks state made (goes es h)) (point_behind made (opening_behind blocks state es) h) }
+    ensures marked { (blocks : ℕ) (state : State) (es : NewestFirst Closed) (h : Journal) (w : Work) → AreEpochs blocks state (resets es h w) → is_marked (stage_of (log_behind (closed_log es) h) w) ≡ true →
+        LeadsTo (opening state) (closed_texts (with_reset es h w)) (closed_course blocks state (with_reset es h w)) (point_of (opening_behind blocks state (with_reset es h w))) [] }
+    ensures halted { (blocks : ℕ) (state : State) (e : Closed) (es : NewestFirst Closed) → AreClosed blocks state (e ∷ es) → IsMadeAtHalt e.journal (made_at_halt (ticks_made es) e.work) }
 {}
 
 /// What a board has answered over its epochs, reports left out, and what it is to tell yet, is the banner, what its course
 /// tells, and Bye once the run is being closed. So what is answered is at any time a front of what the course tells; and once
 /// all is done it is all of it. It begins with the banner, and no report comes before that: it is a console that tells the course.
 pub fn epochs_tell_their_course()
-    ensures told { (state : State) (made : ℕ) (es : Epochs) → AreEpochs state es → AnyReply.Banner ∷ (told_in (course_of state made es) ++ closing_by es) ≡ without_reports (answered_by es) ++ untold_by state es }
-    ensures finished { (state : State) (made : ℕ) (es : NewestFirst Closed) (h : Journal) → AreEpochs state (goes es h) → IsFinished (opening_behind state es) h →
-        without_reports (answered_by (goes es h)) ≡ AnyReply.Banner ∷ (told_in (course_of state made (goes es h)) ++ AnyReply.Bye ∷ []) }
-    ensures so_far { (state : State) (made : ℕ) (es : Epochs) → AreEpochs state es → BeginsWith (AnyReply.Banner ∷ told_in (course_of state made es)) (without_reports (without_byes (answered_by es))) }
-    ensures marked { (state : State) (es : NewestFirst Closed) (h : Journal) (w : Work) → AreEpochs state (resets es h w) →
-        BeginsWith (AnyReply.Banner ∷ told_in (closed_course state (with_reset es h w))) (without_reports (without_byes (answered_by (resets es h w)))) }
-    ensures begins { (state : State) (es : Epochs) → AreEpochs state es → (without_byes (answered_by es) ≡ []) ⊎ ((behind : List AnyReply) × (without_byes (answered_by es) ≡ AnyReply.Banner ∷ behind)) }
-    ensures console { (state : State) (made : ℕ) (es : NewestFirst Closed) (h : Journal) → AreEpochs state (goes es h) → IsFinished (opening_behind state es) h →
-        IsTold (course_of state made (goes es h)) (without_byes (answered_by (goes es h))) }
+    ensures told { (blocks : ℕ) (state : State) (made : ℕ) (es : Epochs) → AreEpochs blocks state es → AnyReply.Banner ∷ (told_in (course_of blocks state made es) ++ closing_by es) ≡ without_reports (answered_by es) ++ untold_by blocks state es }
+    ensures finished { (blocks : ℕ) (state : State) (made : ℕ) (es : NewestFirst Closed) (h : Journal) → AreEpochs blocks state (goes es h) → IsFinished (opening_behind blocks state es) h →
+        without_reports (answered_by (goes es h)) ≡ AnyReply.Banner ∷ (told_in (course_of blocks state made (goes es h)) ++ AnyReply.Bye ∷ []) }
+    ensures so_far { (blocks : ℕ) (state : State) (made : ℕ) (es : Epochs) → AreEpochs blocks state es → BeginsWith (AnyReply.Banner ∷ told_in (course_of blocks state made es)) (without_reports (without_byes (answered_by es))) }
+    ensures marked { (blocks : ℕ) (state : State) (es : NewestFirst Closed) (h : Journal) (w : Work) → AreEpochs blocks state (resets es h w) →
+        BeginsWith (AnyReply.Banner ∷ told_in (closed_course blocks state (with_reset es h w))) (without_reports (without_byes (answered_by (resets es h w)))) }
+    ensures begins { (blocks : ℕ) (state : State) (es : Epochs) → AreEpochs blocks state es → (without_byes (answered_by es) ≡ []) ⊎ ((behind : List AnyReply) × (without_byes (answered_by es) ≡ AnyReply.Banner ∷ behind)) }
+    ensures console { (blocks : ℕ) (state : State) (made : ℕ) (es : NewestFirst Closed) (h : Journal) → AreEpochs blocks state (goes es h) → IsFinished (opening_behind blocks state es) h →
+        IsTold (course_of blocks state made (goes es h)) (without_byes (answered_by (goes es h))) }
 {}
 
 /// Part by part, what the lines of the course ask for is what the planner was given, and what was left to ask. Each part is a
@@ -64,22 +64,22 @@ pub fn epochs_tell_their_course()
 /// and once all is done, all of the last part was run, or an alarm has stopped the machine. Each part begins with the plan,
 /// and a part behind a cut at the place, that the one before has left.
 pub fn epochs_ask_for_parts()
-    ensures parts { (state : State) (made : ℕ) (es : Epochs) → AreEpochs state es → known_of (open_journal es) ≤ made →
-        AreDriven false origin fresh_plan (parts_of (course_of state made es)) (drives_of state made es) }
-    ensures finished { (state : State) (made : ℕ) (es : NewestFirst Closed) (h : Journal) → AreEpochs state (goes es h) → IsFinished (opening_behind state es) h → known_of h ≤ made →
-        AreDriven true origin fresh_plan (parts_of (course_of state made (goes es h))) (drives_of state made (goes es h)) }
+    ensures parts { (blocks : ℕ) (state : State) (made : ℕ) (es : Epochs) → AreEpochs blocks state es → known_of (open_journal es) ≤ made →
+        AreDriven blocks false origin fresh_plan (parts_of (course_of blocks state made es)) (drives_of blocks state made es) }
+    ensures finished { (blocks : ℕ) (state : State) (made : ℕ) (es : NewestFirst Closed) (h : Journal) → AreEpochs blocks state (goes es h) → IsFinished (opening_behind blocks state es) h → known_of h ≤ made →
+        AreDriven blocks true origin fresh_plan (parts_of (course_of blocks state made (goes es h))) (drives_of blocks state made (goes es h)) }
 {}
 
 /// What a board has done over its epochs fits the texts: what it has taken, with the words that may cut jogs, what it has
 /// answered, and what is recorded of the parts of its course. So it does so far.
 pub fn epochs_fit_the_texts()
-    ensures fits { (state : State) (made : ℕ) (es : NewestFirst Closed) (h : Journal) (records : List AnyRecord) → IsOpening state → AreEpochs state (goes es h) → IsFinished (opening_behind state es) h → known_of h ≤ made →
-        AreRecorded origin (parts_of (course_of state made (goes es h))) records →
+    ensures fits { (blocks : ℕ) (state : State) (made : ℕ) (es : NewestFirst Closed) (h : Journal) (records : List AnyRecord) → IsOpening state → AreEpochs blocks state (goes es h) → IsFinished (opening_behind blocks state es) h → known_of h ≤ made →
+        AreRecorded origin (parts_of (course_of blocks state made (goes es h))) records →
         FitsTexts (sent_by (goes es h)) (cancel_words_in (log_of (goes es h))) (without_byes (answered_by (goes es h))) records }
-    ensures so_far { (state : State) (made : ℕ) (es : Epochs) (records : List AnyRecord) → IsOpening state → AreEpochs state es → known_of (open_journal es) ≤ made →
-        AreMadeSoFar origin (parts_of (course_of state made es)) records →
+    ensures so_far { (blocks : ℕ) (state : State) (made : ℕ) (es : Epochs) (records : List AnyRecord) → IsOpening state → AreEpochs blocks state es → known_of (open_journal es) ≤ made →
+        AreMadeSoFar origin (parts_of (course_of blocks state made es)) records →
         FitsSoFar (sent_by es) (cancel_words_in (log_of es)) (without_byes (answered_by es)) records }
-    ensures marked { (state : State) (es : NewestFirst Closed) (h : Journal) (w : Work) (records : List AnyRecord) → IsOpening state → AreEpochs state (resets es h w) → is_marked (stage_of (log_behind (closed_log es) h) w) ≡ true →
-        AreMadeSoFar origin (parts_of (closed_course state (with_reset es h w))) records →
+    ensures marked { (blocks : ℕ) (state : State) (es : NewestFirst Closed) (h : Journal) (w : Work) (records : List AnyRecord) → IsOpening state → AreEpochs blocks state (resets es h w) → is_marked (stage_of (log_behind (closed_log es) h) w) ≡ true →
+        AreMadeSoFar origin (parts_of (closed_course blocks state (with_reset es h w))) records →
         FitsSoFar (closed_texts (with_reset es h w)) (cancel_words_in (log_of (resets es h w))) (without_byes (answered_by (resets es h w))) records }
 {}

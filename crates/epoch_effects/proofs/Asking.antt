@@ -116,18 +116,18 @@ both_ask : (xs ys : List EpochEffects) → AllByRecursion AsksInTurn xs → AllB
 both_ask [] ys f g = g
 both_ask (x ∷ xs) ys f g = (f.0, both_ask xs ys f.1 g)
 
-closed_ask : (state : State) (es : NewestFirst Closed) → AreClosed state es → AllByRecursion AsksInTurn (closed_effects state es)
-closed_ask state [] c = tt
-closed_ask state (e ∷ es) c =
-    let first = opening_behind state es in
+closed_ask : (blocks : ℕ) (state : State) (es : NewestFirst Closed) → AreClosed blocks state es → AllByRecursion AsksInTurn (closed_effects blocks state es)
+closed_ask blocks state [] c = tt
+closed_ask blocks state (e ∷ es) c =
+    let first = opening_behind blocks state es in
     let made = made_at_halt (ticks_made es) e.work in
-    both_ask (closed_effects state es) (effects_at_reset made first e.journal ∷ []) (closed_ask state es c.1)
-    (asks_at_reset made first e.journal c.0.resetting.epoch c.0.resetting.may (known_made state e es c), tt)
+    both_ask (closed_effects blocks state es) (effects_at_reset made first e.journal ∷ []) (closed_ask blocks state es c.1)
+    (asks_at_reset made first e.journal c.0.resetting.epoch c.0.resetting.may (known_made blocks state e es c), tt)
 
-pub epochs_ask : (state : State) (made : ℕ) (es : Epochs) → AreEpochs state es → known_of (open_journal es) ≤ made → AllByRecursion AsksInTurn (effects_of state made es)
-epochs_ask state made (goes es h) c known =
-    let first = opening_behind state es in
-    both_ask (closed_effects state es) (effects_so_far made first h ∷ []) (closed_ask state es c.0) (asks_so_far made first h c.1.conducted known, tt)
-epochs_ask state made (resets es h w) c known =
-    let first = opening_behind state es in
-    both_ask (closed_effects state es) (effects_at_reset made first h ∷ []) (closed_ask state es c.0) (asks_at_reset made first h c.1.epoch c.1.may known, tt)
+pub epochs_ask : (blocks : ℕ) (state : State) (made : ℕ) (es : Epochs) → AreEpochs blocks state es → known_of (open_journal es) ≤ made → AllByRecursion AsksInTurn (effects_of blocks state made es)
+epochs_ask blocks state made (goes es h) c known =
+    let first = opening_behind blocks state es in
+    both_ask (closed_effects blocks state es) (effects_so_far made first h ∷ []) (closed_ask blocks state es c.0) (asks_so_far made first h c.1.conducted known, tt)
+epochs_ask blocks state made (resets es h w) c known =
+    let first = opening_behind blocks state es in
+    both_ask (closed_effects blocks state es) (effects_at_reset made first h ∷ []) (closed_ask blocks state es c.0) (asks_at_reset made first h c.1.epoch c.1.may known, tt)

@@ -112,29 +112,29 @@ jogs_at_reset made first h is may = by_one (is_unanswered h) refl
 
 -- ---- of all epochs
 
-behind_closed : (state : State) (es : NewestFirst Closed) → jog_behind false (closed_course state es) ≡ false
-behind_closed state [] = refl
-behind_closed state (e ∷ es) =
-    let first = opening_behind state es in
+behind_closed : (blocks : ℕ) (state : State) (es : NewestFirst Closed) → jog_behind false (closed_course blocks state es) ≡ false
+behind_closed blocks state [] = refl
+behind_closed blocks state (e ∷ es) =
+    let first = opening_behind blocks state es in
     let passed = passed_at_reset (made_at_halt (ticks_made es) e.work) first e.journal in
     let r = reset_of (ticks_made es) first e.journal e.work in
-    behind_on false (closed_course state es) (passed ++ a_reset r ∷ []) ∙ behind_on (jog_behind false (closed_course state es)) passed (a_reset r ∷ [])
+    behind_on false (closed_course blocks state es) (passed ++ a_reset r ∷ []) ∙ behind_on (jog_behind false (closed_course blocks state es)) passed (a_reset r ∷ [])
 
-jogs_then : (state : State) (es : NewestFirst Closed) (ps : List Passed) → HaveJogs false (closed_course state es) → HaveJogs false ps → HaveJogs false (closed_course state es ++ ps)
-jogs_then state es ps f g = jogs_on false (closed_course state es) ps f (subst (λ (t : Bool). HaveJogs t ps) (sym (behind_closed state es)) g)
+jogs_then : (blocks : ℕ) (state : State) (es : NewestFirst Closed) (ps : List Passed) → HaveJogs false (closed_course blocks state es) → HaveJogs false ps → HaveJogs false (closed_course blocks state es ++ ps)
+jogs_then blocks state es ps f g = jogs_on false (closed_course blocks state es) ps f (subst (λ (t : Bool). HaveJogs t ps) (sym (behind_closed blocks state es)) g)
 
-jogs_closed : (state : State) (es : NewestFirst Closed) → AreClosed state es → HaveJogs false (closed_course state es)
-jogs_closed state [] c = tt
-jogs_closed state (e ∷ es) c =
-    let first = opening_behind state es in
+jogs_closed : (blocks : ℕ) (state : State) (es : NewestFirst Closed) → AreClosed blocks state es → HaveJogs false (closed_course blocks state es)
+jogs_closed blocks state [] c = tt
+jogs_closed blocks state (e ∷ es) c =
+    let first = opening_behind blocks state es in
     let passed = passed_at_reset (made_at_halt (ticks_made es) e.work) first e.journal in
     let r = reset_of (ticks_made es) first e.journal e.work in
-    jogs_then state es (passed ++ a_reset r ∷ []) (jogs_closed state es c.1)
+    jogs_then blocks state es (passed ++ a_reset r ∷ []) (jogs_closed blocks state es c.1)
     (jogs_on false passed (a_reset r ∷ []) (jogs_at_reset (made_at_halt (ticks_made es) e.work) first e.journal c.0.resetting.epoch c.0.resetting.may) tt)
 
-jogs_all : (state : State) (made : ℕ) (es : Epochs) → AreEpochs state es → HaveJogs false (course_of state made es)
-jogs_all state made (goes es h) c = jogs_then state es (passed_so_far made (opening_behind state es) h) (jogs_closed state es c.0) (jogs_passed made (opening_behind state es) h c.1.conducted)
-jogs_all state made (resets es h w) c = jogs_then state es (passed_at_reset made (opening_behind state es) h) (jogs_closed state es c.0) (jogs_at_reset made (opening_behind state es) h c.1.epoch c.1.may)
+jogs_all : (blocks : ℕ) (state : State) (made : ℕ) (es : Epochs) → AreEpochs blocks state es → HaveJogs false (course_of blocks state made es)
+jogs_all blocks state made (goes es h) c = jogs_then blocks state es (passed_so_far made (opening_behind blocks state es) h) (jogs_closed blocks state es c.0) (jogs_passed made (opening_behind blocks state es) h c.1.conducted)
+jogs_all blocks state made (resets es h w) c = jogs_then blocks state es (passed_at_reset made (opening_behind blocks state es) h) (jogs_closed blocks state es c.0) (jogs_at_reset made (opening_behind blocks state es) h c.1.epoch c.1.may)
 
-pub cuts_caused : (state : State) (made : ℕ) (es : Epochs) → AreEpochs state es → known_of (open_journal es) ≤ made → CutsHaveCauses (opening state) (sent_by es) (course_of state made es)
-cuts_caused state made es c known = causes_of (opening state) (stands_at state made es) (sent_by es) (left_by es) (course_of state made es) (epochs_lead state made es c known) (jogs_all state made es c)
+pub cuts_caused : (blocks : ℕ) (state : State) (made : ℕ) (es : Epochs) → AreEpochs blocks state es → known_of (open_journal es) ≤ made → CutsHaveCauses (opening state) (sent_by es) (course_of blocks state made es)
+cuts_caused blocks state made es c known = causes_of (opening state) (stands_at blocks state made es) (sent_by es) (left_by es) (course_of blocks state made es) (epochs_lead blocks state made es c known) (jogs_all blocks state made es c)

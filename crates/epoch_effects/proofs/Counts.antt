@@ -1,6 +1,5 @@
 -- How many ticks count of each line of an epoch, and how many were given.
 use Rattle.std.proofs.Common.{◌≡◌, ℕ, ◌+◌, ◌≤◌, Bool, true, false, cond, List, [], ◌∷◌, ◌++◌, map, reverse, length, refl, sym, ap, ◌∙◌, append_assoc, append-nil, arith}
-use Rattle.std.proofs.lemmas.Grind.{flat_map-append}
 use Rattle.std.proofs.lemmas.List.{map-append}
 use Rattle.std.specs.List.{flat_map, sum}
 use Rattle.flight.specs.Places.{end_from}
@@ -192,9 +191,6 @@ counts_unmade made first h one u =
     ∙ ap cut_counts (sym u.parts) ∙ sym (counts_since made first h one)
 
 -- ---- how many were given
-
-given_both : (xs ys : List Driven) → flat_map (λ (d : Driven). d.given) (xs ++ ys) ≡ flat_map (λ (d : Driven). d.given) xs ++ flat_map (λ (d : Driven). d.given) ys
-given_both xs ys = flat_map-append (λ (d : Driven). d.given) xs ys
 
 abbrev given_by : List Driven → ℕ
 given_by ds = ticks_together (flat_map (λ (d : Driven). d.given) ds)

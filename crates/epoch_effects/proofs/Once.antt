@@ -115,33 +115,33 @@ closing_none p only (goes es h) = closing_counted p only h
 closing_none p only (resets es h w) = refl
 
 -- what is told of the lines is what was answered, and what is to be told yet
-all_told : (p : Reply → Bool) → CountsAnswers p → (state : State) (made : ℕ) (es : Epochs) → AreEpochs state es
-    → count_by p (told_in (course_of state made es)) ≡ count_by p (without_reports (answered_by es)) + count_by p (untold_by state es)
-all_told p only state made es c =
-    let course = told_in (course_of state made es) in
+all_told : (p : Reply → Bool) → CountsAnswers p → (blocks : ℕ) (state : State) (made : ℕ) (es : Epochs) → AreEpochs blocks state es
+    → count_by p (told_in (course_of blocks state made es)) ≡ count_by p (without_reports (answered_by es)) + count_by p (untold_by blocks state es)
+all_told p only blocks state made es c =
+    let course = told_in (course_of blocks state made es) in
     let first = sum_by-cons (λ x. cond (p x) 1 0) replies.Banner (course ++ closing_by es) in
     let banner = one_none (p replies.Banner) (only replies.Banner refl) in
     let both = both_counted p course (closing_by es) in
     let none = closing_none p only es in
-    let same = ap (count_by p) (epochs_tell state made es c) in
-    let other = both_counted p (without_reports (answered_by es)) (untold_by state es) in
+    let same = ap (count_by p) (epochs_tell blocks state made es c) in
+    let other = both_counted p (without_reports (answered_by es)) (untold_by blocks state es) in
     omega (arith, first, banner, both, none, same, other)
 
-pub answers_so_far : (state : State) (made : ℕ) (es : Epochs) → AreEpochs state es → known_of (open_journal es) ≤ made
-    → let lines = lines_in (course_of state made es) in
-    (answers_in (answered_by es) + answers_in (untold_by state es) + limits_in lines ≡ length lines) × (errors_among (answered_by es) + errors_among (untold_by state es) ≡ errors_in lines)
-answers_so_far state made es c known =
-    let a = course_answers (opening state) (stands_at state made es) (sent_by es) (left_by es) (course_of state made es) (epochs_lead state made es c known) in (
-      (let here = a.0 in let told = all_told is_answer (λ r e. e) state made es c in let plain = answers_without (answered_by es) in omega (arith, here, told, plain)),
-      (let here = a.1 in let told = all_told is_error errors_are_answers state made es c in let plain = errors_without (answered_by es) in omega (arith, here, told, plain)),
+pub answers_so_far : (blocks : ℕ) (state : State) (made : ℕ) (es : Epochs) → AreEpochs blocks state es → known_of (open_journal es) ≤ made
+    → let lines = lines_in (course_of blocks state made es) in
+    (answers_in (answered_by es) + answers_in (untold_by blocks state es) + limits_in lines ≡ length lines) × (errors_among (answered_by es) + errors_among (untold_by blocks state es) ≡ errors_in lines)
+answers_so_far blocks state made es c known =
+    let a = course_answers (opening state) (stands_at blocks state made es) (sent_by es) (left_by es) (course_of blocks state made es) (epochs_lead blocks state made es c known) in (
+      (let here = a.0 in let told = all_told is_answer (λ r e. e) blocks state made es c in let plain = answers_without (answered_by es) in omega (arith, here, told, plain)),
+      (let here = a.1 in let told = all_told is_error errors_are_answers blocks state made es c in let plain = errors_without (answered_by es) in omega (arith, here, told, plain)),
     )
 
-pub answers_finished : (state : State) (made : ℕ) (es : NewestFirst Closed) (h : Journal) → AreEpochs state (goes es h) → IsFinished (opening_behind state es) h → known_of h ≤ made
-    → let lines = lines_in (course_of state made (goes es h)) in
+pub answers_finished : (blocks : ℕ) (state : State) (made : ℕ) (es : NewestFirst Closed) (h : Journal) → AreEpochs blocks state (goes es h) → IsFinished (opening_behind blocks state es) h → known_of h ≤ made
+    → let lines = lines_in (course_of blocks state made (goes es h)) in
     (answers_in (answered_by (goes es h)) + limits_in lines ≡ length lines) × (errors_among (answered_by (goes es h)) ≡ errors_in lines)
-answers_finished state made es h c over known =
-    let a = answers_so_far state made (goes es h) c known in
-    let none : tells (left_of (opening_behind state es) h) ≡ [] = ap tells over.left in (
+answers_finished blocks state made es h c over known =
+    let a = answers_so_far blocks state made (goes es h) c known in
+    let none : tells (left_of (opening_behind blocks state es) h) ≡ [] = ap tells over.left in (
       (let here = a.0 in let free = ap answers_in none in let zero : answers_in [] ≡ 0 = refl in omega (arith, here, free, zero)),
       (let here = a.1 in let free = ap errors_among none in let zero : errors_among [] ≡ 0 = refl in omega (arith, here, free, zero)),
     )

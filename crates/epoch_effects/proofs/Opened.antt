@@ -109,59 +109,55 @@ same_reset at s t same = ap (λ (x : Settings). reset_with at x s.parser.offsets
 pub first_reset : (ps : List Passed) (r : Reset) (rest : List Passed) → HasNoReset ps → resets_of (ps ++ a_reset r ∷ rest) ≡ r ∷ resets_of rest
 first_reset [] r rest none = refl
 first_reset (a_reset s ∷ ps) r rest none = absurd none
-first_reset (a_line o ∷ ps) r rest none = first_reset ps r rest none
-first_reset (a_broken o ∷ ps) r rest none = first_reset ps r rest none
-first_reset (a_cut k at ∷ ps) r rest none = first_reset ps r rest none
+first_reset (_ ∷ ps) r rest none = first_reset ps r rest none
 
 pub no_reset : (ps : List Passed) → HasNoReset ps → resets_of ps ≡ []
 no_reset [] none = refl
 no_reset (a_reset s ∷ ps) none = absurd none
-no_reset (a_line o ∷ ps) none = no_reset ps none
-no_reset (a_broken o ∷ ps) none = no_reset ps none
-no_reset (a_cut k at ∷ ps) none = no_reset ps none
+no_reset (_ ∷ ps) none = no_reset ps none
 
 locked_so : (t : Bool) → is_limited (cond t motions.Alarm motions.Idle) ≡ t
 locked_so true = refl
 locked_so false = refl
 
 -- how the epoch behind closed ones opens
-abbrev OpenedBehind : State → NewestFirst Closed → List Reset → List EpochEffects → Type 0
-OpenedBehind state es rs xs = AreOpened (opening_behind state es).state (opening_behind state es).place (is_limited (opening_behind state es).motion) rs xs
+abbrev OpenedBehind : (blocks : ℕ) → State → NewestFirst Closed → List Reset → List EpochEffects → Type 0
+OpenedBehind blocks state es rs xs = AreOpened (opening_behind blocks state es).state (opening_behind blocks state es).place (is_limited (opening_behind blocks state es).motion) rs xs
 
-opened_closed : (state : State) (es : NewestFirst Closed) (rest : List Passed) (xs : List EpochEffects) → AreClosed state es → OpenedBehind state es (resets_of rest) xs
-    → AreOpened state origin false (resets_of (closed_course state es ++ rest)) (closed_effects state es ++ xs)
-opened_closed state [] rest xs c is = is
-opened_closed state (e ∷ es) rest xs c is =
-    let first = opening_behind state es in
+opened_closed : (blocks : ℕ) (state : State) (es : NewestFirst Closed) (rest : List Passed) (xs : List EpochEffects) → AreClosed blocks state es → OpenedBehind blocks state es (resets_of rest) xs
+    → AreOpened state origin false (resets_of (closed_course blocks state es ++ rest)) (closed_effects blocks state es ++ xs)
+opened_closed blocks state [] rest xs c is = is
+opened_closed blocks state (e ∷ es) rest xs c is =
+    let first = opening_behind blocks state es in
     let h = e.journal in
     let made = made_at_halt (ticks_made es) e.work in
     let passed = passed_at_reset made first h in
     let r = reset_of (ticks_made es) first h e.work in
     let x = effects_at_reset made first h in
-    let here : OpenedBehind state es (r ∷ resets_of rest) (x ∷ xs) = (
+    let here : OpenedBehind blocks state es (r ∷ resets_of rest) (x ∷ xs) = (
       record { state = refl; stands = refl; locks = refl },
       refl,
       subst (λ (s : State). AreOpened s r.at r.locked (resets_of rest) xs) (sym (same_reset r.at (state_told first passed) (answered_state first h) (answered_told made first h c.0.resetting.epoch.conducted)))
           (subst (λ (t : Bool). AreOpened (reset_state r.at (answered_state first h)) r.at t (resets_of rest) xs) (locked_so r.locked) is),
     ) in
-    let all = opened_closed state es (passed ++ a_reset r ∷ rest) (x ∷ xs) c.1
-    (subst (λ (rs : List Reset). OpenedBehind state es rs (x ∷ xs)) (sym (first_reset passed r rest (none_passed (is_unanswered h) made first h))) here) in
-    subst (λ (ps : List Passed). AreOpened state origin false (resets_of ps) (closed_effects state (e ∷ es) ++ xs))
-    (sym (append_assoc (closed_course state es) (passed ++ a_reset r ∷ []) rest ∙ ap (λ (ps : List Passed). closed_course state es ++ ps) (append_assoc passed (a_reset r ∷ []) rest)))
-    (subst (λ (ys : List EpochEffects). AreOpened state origin false (resets_of (closed_course state es ++ (passed ++ a_reset r ∷ rest))) ys) (sym (append_assoc (closed_effects state es) (x ∷ []) xs)) all)
+    let all = opened_closed blocks state es (passed ++ a_reset r ∷ rest) (x ∷ xs) c.1
+    (subst (λ (rs : List Reset). OpenedBehind blocks state es rs (x ∷ xs)) (sym (first_reset passed r rest (none_passed (is_unanswered h) made first h))) here) in
+    subst (λ (ps : List Passed). AreOpened state origin false (resets_of ps) (closed_effects blocks state (e ∷ es) ++ xs))
+    (sym (append_assoc (closed_course blocks state es) (passed ++ a_reset r ∷ []) rest ∙ ap (λ (ps : List Passed). closed_course blocks state es ++ ps) (append_assoc passed (a_reset r ∷ []) rest)))
+    (subst (λ (ys : List EpochEffects). AreOpened state origin false (resets_of (closed_course blocks state es ++ (passed ++ a_reset r ∷ rest))) ys) (sym (append_assoc (closed_effects blocks state es) (x ∷ []) xs)) all)
 
 -- the last one
-opened_last : (state : State) (es : NewestFirst Closed) (ps : List Passed) (x : EpochEffects) → HasNoReset ps → OpenedBehind state es [] (x ∷ []) → OpenedBehind state es (resets_of ps) (x ∷ [])
-opened_last state es ps x none is = subst (λ (rs : List Reset). OpenedBehind state es rs (x ∷ [])) (sym (no_reset ps none)) is
+opened_last : (blocks : ℕ) (state : State) (es : NewestFirst Closed) (ps : List Passed) (x : EpochEffects) → HasNoReset ps → OpenedBehind blocks state es [] (x ∷ []) → OpenedBehind blocks state es (resets_of ps) (x ∷ [])
+opened_last blocks state es ps x none is = subst (λ (rs : List Reset). OpenedBehind blocks state es rs (x ∷ [])) (sym (no_reset ps none)) is
 
-pub opened : (state : State) (made : ℕ) (es : Epochs) → AreEpochs state es → AreOpened state origin false (resets_of (course_of state made es)) (effects_of state made es)
-opened state made (goes es h) c =
-    let first = opening_behind state es in
+pub opened : (blocks : ℕ) (state : State) (made : ℕ) (es : Epochs) → AreEpochs blocks state es → AreOpened state origin false (resets_of (course_of blocks state made es)) (effects_of blocks state made es)
+opened blocks state made (goes es h) c =
+    let first = opening_behind blocks state es in
     let x = effects_so_far made first h in
-    opened_closed state es (passed_so_far made first h) (x ∷ []) c.0
-    (opened_last state es (passed_so_far made first h) x (none_passed false made first h) (record { state = refl; stands = refl; locks = refl }, refl))
-opened state made (resets es h w) c =
-    let first = opening_behind state es in
+    opened_closed blocks state es (passed_so_far made first h) (x ∷ []) c.0
+    (opened_last blocks state es (passed_so_far made first h) x (none_passed false made first h) (record { state = refl; stands = refl; locks = refl }, refl))
+opened blocks state made (resets es h w) c =
+    let first = opening_behind blocks state es in
     let x = effects_at_reset made first h in
-    opened_closed state es (passed_at_reset made first h) (x ∷ []) c.0
-    (opened_last state es (passed_at_reset made first h) x (none_passed (is_unanswered h) made first h) (record { state = refl; stands = refl; locks = refl }, refl))
+    opened_closed blocks state es (passed_at_reset made first h) (x ∷ []) c.0
+    (opened_last blocks state es (passed_at_reset made first h) x (none_passed (is_unanswered h) made first h) (record { state = refl; stands = refl; locks = refl }, refl))

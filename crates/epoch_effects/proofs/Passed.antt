@@ -1,5 +1,5 @@
 -- What was passed in an epoch: its lines, its cuts, and that resets part epochs.
-use Rattle.std.proofs.Common.{◌≡◌, ℕ, ◌+◌, ◌≤◌, ◌||◌, Bool, true, false, cond, List, [], ◌∷◌, ◌++◌, length, refl, ap, ◌∙◌, arith}
+use Rattle.std.proofs.Common.{◌≡◌, ℕ, ◌+◌, ◌||◌, Bool, true, false, cond, List, [], ◌∷◌, ◌++◌, refl, ap, ◌∙◌, arith}
 use Rattle.std.proofs.lemmas.List.Folds.{list_any-append}
 use Rattle.std.specs.List.{list_any}
 use Rattle.flight.specs.Places.{end_from}
@@ -8,12 +8,12 @@ use Rattle.run_rules.specs.Work.{Outcome, is_limit}
 use Rattle.run_texts.specs.Courses.{Passed, Reset, cuts_in, lines_in}
 use Rattle.run_texts.specs.Courses.Passed.{a_line, a_broken, a_cut, a_reset}
 use Rattle.board_rules.specs.Conduct.{Conducted}
-use Rattle.board_rules.specs.Cuts.{parts_of}
 use Rattle.board_rules.specs.Openings.{Opening}
 use Rattle.board_rules.specs.Steps.{Journal, given_of, has_limited}
 use Rattle.board_rules.specs.Steps.Step.{began, cut}
 use Rattle.epoch_courses.specs.Course.{is_made, passed_by}
 use Rattle.epoch_effects.specs.Effects.{onto_epoch, epochs_in, is_alarmed}
+use Rattle.epoch_courses.proofs.Cuts.{passed_cuts}
 
 -- ---- resets part epochs
 
@@ -25,9 +25,7 @@ HasNoReset (_ ∷ ps) = HasNoReset ps
 none_both : (ps qs : List Passed) → HasNoReset ps → HasNoReset qs → HasNoReset (ps ++ qs)
 none_both [] qs f g = g
 none_both (a_reset r ∷ ps) qs f g = absurd f
-none_both (a_line o ∷ ps) qs f g = none_both ps qs f g
-none_both (a_broken o ∷ ps) qs f g = none_both ps qs f g
-none_both (a_cut k at ∷ ps) qs f g = none_both ps qs f g
+none_both (_ ∷ ps) qs f g = none_both ps qs f g
 
 one_begun : (broken : Bool) (o : Outcome) → HasNoReset (cond broken (a_broken o) (a_line o) ∷ [])
 one_begun true o = tt
@@ -70,36 +68,18 @@ epoch_goes broken made first h = alone (passed_by broken made first h) (none_pas
 pub cuts_both : (ps qs : List Passed) → cuts_in (ps ++ qs) ≡ cuts_in ps + cuts_in qs
 cuts_both [] qs = omega arith
 cuts_both (a_cut k at ∷ ps) qs = let was = cuts_both ps qs in omega (arith, was)
-cuts_both (a_line o ∷ ps) qs = cuts_both ps qs
-cuts_both (a_broken o ∷ ps) qs = cuts_both ps qs
-cuts_both (a_reset r ∷ ps) qs = cuts_both ps qs
+cuts_both (_ ∷ ps) qs = cuts_both ps qs
 
 pub begun_uncut : (broken : Bool) (o : Outcome) → cuts_in (cond broken (a_broken o) (a_line o) ∷ []) ≡ 0
 begun_uncut true o = refl
 begun_uncut false o = refl
-
-one_cut : (t : Bool) (p : Passed) → cuts_in (p ∷ []) ≤ 1 → cuts_in (cond t (p ∷ []) []) ≤ 1
-one_cut true p few = few
-one_cut false p few = omega arith
-
--- each ends a part
-pub cuts_passed : (broken : Bool) (made : ℕ) (first : Opening) (h : Journal) → cuts_in (passed_by broken made first h) ≤ length (parts_of first h)
-cuts_passed broken made first [] = omega arith
-cuts_passed broken made first (began o ∷ h) =
-    let both = cuts_both (passed_by false made first h) (cond broken (a_broken o) (a_line o) ∷ []) in let none = begun_uncut broken o in let few = cuts_passed false made first h in omega (arith, both, none, few)
-cuts_passed broken made first (cut k ∷ h) =
-    let p = a_cut k (end_from first.place (given_of h)) in
-    let both = cuts_both (passed_by broken made first h) (cond (is_made made h) (p ∷ []) []) in let one = one_cut (is_made made h) p (omega arith) in let few = cuts_passed broken made first h in omega (arith, both, one, few)
-cuts_passed broken made first (_ ∷ h) = cuts_passed broken made first h
 
 -- ---- its lines
 
 pub lines_both : (ps qs : List Passed) → lines_in (ps ++ qs) ≡ lines_in ps ++ lines_in qs
 lines_both [] qs = refl
 lines_both (a_line o ∷ ps) qs = ap (λ (os : List Outcome). o ∷ os) (lines_both ps qs)
-lines_both (a_broken o ∷ ps) qs = lines_both ps qs
-lines_both (a_cut k at ∷ ps) qs = lines_both ps qs
-lines_both (a_reset r ∷ ps) qs = lines_both ps qs
+lines_both (_ ∷ ps) qs = lines_both ps qs
 
 alarmed_both : (ps qs : List Passed) → is_alarmed (ps ++ qs) ≡ (is_alarmed ps || is_alarmed qs)
 alarmed_both ps qs = ap (list_any raises_alarm) (lines_both ps qs) ∙ list_any-append raises_alarm (lines_in ps) (lines_in qs)

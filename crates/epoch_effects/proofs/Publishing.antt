@@ -5,7 +5,7 @@ use Rattle.std.proofs.lemmas.List.{map-append, reverse-append}
 use Rattle.flight.specs.Places.{end_from}
 use Rattle.run_rules.specs.Work.{Outcome}
 use Rattle.run_texts.specs.Courses.{Passed}
-use Rattle.run_texts.specs.Courses.Passed.{a_line, a_broken, a_cut, a_reset}
+use Rattle.run_texts.specs.Courses.Passed.{a_line, a_broken, a_cut}
 use Rattle.step_line.specs.Finishing.{ticks_together}
 use Rattle.step_line.specs.declared.Mark.TheVariants as marks
 use Rattle.step_line.specs.declared.Piece.{Piece}
@@ -38,10 +38,8 @@ use Rattle.epoch_effects.proofs.Parts.{all_made}
 
 numbers_both : (ps qs : List Passed) → cut_numbers (ps ++ qs) ≡ cut_numbers ps ++ cut_numbers qs
 numbers_both [] qs = refl
-numbers_both (a_line o ∷ ps) qs = numbers_both ps qs
-numbers_both (a_broken o ∷ ps) qs = numbers_both ps qs
 numbers_both (a_cut k at ∷ ps) qs = ap (λ (ks : List ℕ). k ∷ ks) (numbers_both ps qs)
-numbers_both (a_reset r ∷ ps) qs = numbers_both ps qs
+numbers_both (_ ∷ ps) qs = numbers_both ps qs
 
 begun_none : (broken : Bool) (o : Outcome) → cut_numbers (cond broken (a_broken o) (a_line o) ∷ []) ≡ []
 begun_none true o = refl

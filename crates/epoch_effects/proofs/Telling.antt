@@ -8,18 +8,15 @@ use Rattle.status_report.specs.declared.Reply.{Reply}
 use Rattle.step_line.specs.Logs.{NewestFirst}
 use Rattle.board_rules.specs.Conduct.{Conducted}
 use Rattle.board_rules.specs.Openings.{Opening}
-use Rattle.board_rules.specs.Ports.{BoardLog, answered_in}
-use Rattle.board_rules.specs.Ports.PortStep.{answered, reported}
+use Rattle.board_rules.specs.Ports.{answered_in}
+use Rattle.board_rules.specs.Ports.PortStep.{answered}
 use Rattle.board_rules.specs.Steps.{Journal, port_log, known_of, answered_of}
-use Rattle.board_rules.specs.Steps.Step.{at_port, turned}
 use Rattle.board_rules.specs.Turns.{is_limited}
 use Rattle.board_epochs.specs.Epochs.{Closed, Epochs, AreClosed, AreEpochs, IsEpoch, opening_behind, ticks_made, closed_log, log_behind, last_line}
 use Rattle.board_epochs.specs.Epochs.Epochs.{goes, resets}
 use Rattle.board_epochs.specs.Resets.{MayReset}
-use Rattle.board_epochs.specs.Work.{Work, Works, stage_of}
 use Rattle.board_epochs.proofs.Onto.{answered_on}
 use Rattle.board_epochs.proofs.Prompting.{calm}
-use Rattle.board_epochs.proofs.Working.{all_of, never}
 use Rattle.epoch_courses.specs.Course.{is_unanswered, passed_by, made_at_halt, open_journal}
 use Rattle.epoch_courses.specs.Told.{answered_by}
 use Rattle.epoch_courses.proofs.Halted.{known_made}
@@ -34,6 +31,7 @@ use Rattle.epoch_effects.proofs.Locks.{locks_shown}
 use Rattle.epoch_effects.proofs.Passed.{alarmed_passed, calm_passed}
 use Rattle.epoch_effects.proofs.Publishing.{published_so_far, published_broken}
 use Rattle.epoch_effects.proofs.Reporting.{has_reported}
+use Rattle.epoch_courses.proofs.Told.{none_answered}
 
 -- ---- one epoch
 
@@ -58,21 +56,21 @@ all_both : (xs ys : List EpochEffects) → AllByRecursion HasReported xs → All
 all_both [] ys f g = g
 all_both (x ∷ xs) ys f g = (f.0, all_both xs ys f.1 g)
 
-closed_report : (state : State) (es : NewestFirst Closed) → AreClosed state es → AllByRecursion HasReported (closed_effects state es)
-closed_report state [] c = tt
-closed_report state (e ∷ es) c =
-    let first = opening_behind state es in
+closed_report : (blocks : ℕ) (state : State) (es : NewestFirst Closed) → AreClosed blocks state es → AllByRecursion HasReported (closed_effects blocks state es)
+closed_report blocks state [] c = tt
+closed_report blocks state (e ∷ es) c =
+    let first = opening_behind blocks state es in
     let made = made_at_halt (ticks_made es) e.work in
-    all_both (closed_effects state es) (effects_at_reset made first e.journal ∷ []) (closed_report state es c.1)
-    (at_reset made first e.journal c.0.resetting.epoch c.0.resetting.may (known_made state e es c), tt)
+    all_both (closed_effects blocks state es) (effects_at_reset made first e.journal ∷ []) (closed_report blocks state es c.1)
+    (at_reset made first e.journal c.0.resetting.epoch c.0.resetting.may (known_made blocks state e es c), tt)
 
-pub epochs_report : (state : State) (made : ℕ) (es : Epochs) → AreEpochs state es → known_of (open_journal es) ≤ made → AllByRecursion HasReported (effects_of state made es)
-epochs_report state made (goes es h) c known =
-    let first = opening_behind state es in
-    all_both (closed_effects state es) (effects_so_far made first h ∷ []) (closed_report state es c.0) (so_far made first h c.1.conducted known, tt)
-epochs_report state made (resets es h w) c known =
-    let first = opening_behind state es in
-    all_both (closed_effects state es) (effects_at_reset made first h ∷ []) (closed_report state es c.0) (at_reset made first h c.1.epoch c.1.may known, tt)
+pub epochs_report : (blocks : ℕ) (state : State) (made : ℕ) (es : Epochs) → AreEpochs blocks state es → known_of (open_journal es) ≤ made → AllByRecursion HasReported (effects_of blocks state made es)
+epochs_report blocks state made (goes es h) c known =
+    let first = opening_behind blocks state es in
+    all_both (closed_effects blocks state es) (effects_so_far made first h ∷ []) (closed_report blocks state es c.0) (so_far made first h c.1.conducted known, tt)
+epochs_report blocks state made (resets es h w) c known =
+    let first = opening_behind blocks state es in
+    all_both (closed_effects blocks state es) (effects_at_reset made first h ∷ []) (closed_report blocks state es c.0) (at_reset made first h c.1.epoch c.1.may known, tt)
 
 -- ---- how they tell of a lock
 
@@ -83,20 +81,20 @@ both_locks : (xs ys : List EpochEffects) → AllByRecursion TellsLock xs → All
 both_locks [] ys f g = g
 both_locks (x ∷ xs) ys f g = (f.0, both_locks xs ys f.1 g)
 
-closed_locks : (state : State) (es : NewestFirst Closed) → AreClosed state es → AllByRecursion TellsLock (closed_effects state es)
-closed_locks state [] c = tt
-closed_locks state (e ∷ es) c =
-    let first = opening_behind state es in
+closed_locks : (blocks : ℕ) (state : State) (es : NewestFirst Closed) → AreClosed blocks state es → AllByRecursion TellsLock (closed_effects blocks state es)
+closed_locks blocks state [] c = tt
+closed_locks blocks state (e ∷ es) c =
+    let first = opening_behind blocks state es in
     let made = made_at_halt (ticks_made es) e.work in
-    both_locks (closed_effects state es) (effects_at_reset made first e.journal ∷ []) (closed_locks state es c.1) (locks_so (is_unanswered e.journal) made first e.journal c.0.resetting.epoch.conducted, tt)
+    both_locks (closed_effects blocks state es) (effects_at_reset made first e.journal ∷ []) (closed_locks blocks state es c.1) (locks_so (is_unanswered e.journal) made first e.journal c.0.resetting.epoch.conducted, tt)
 
-pub epochs_lock : (state : State) (made : ℕ) (es : Epochs) → AreEpochs state es → AllByRecursion TellsLock (effects_of state made es)
-epochs_lock state made (goes es h) c =
-    let first = opening_behind state es in
-    both_locks (closed_effects state es) (effects_so_far made first h ∷ []) (closed_locks state es c.0) (locks_so false made first h c.1.conducted, tt)
-epochs_lock state made (resets es h w) c =
-    let first = opening_behind state es in
-    both_locks (closed_effects state es) (effects_at_reset made first h ∷ []) (closed_locks state es c.0) (locks_so (is_unanswered h) made first h c.1.epoch.conducted, tt)
+pub epochs_lock : (blocks : ℕ) (state : State) (made : ℕ) (es : Epochs) → AreEpochs blocks state es → AllByRecursion TellsLock (effects_of blocks state made es)
+epochs_lock blocks state made (goes es h) c =
+    let first = opening_behind blocks state es in
+    both_locks (closed_effects blocks state es) (effects_so_far made first h ∷ []) (closed_locks blocks state es c.0) (locks_so false made first h c.1.conducted, tt)
+epochs_lock blocks state made (resets es h w) c =
+    let first = opening_behind blocks state es in
+    both_locks (closed_effects blocks state es) (effects_at_reset made first h ∷ []) (closed_locks blocks state es c.0) (locks_so (is_unanswered h) made first h c.1.epoch.conducted, tt)
 
 -- ---- what was published
 
@@ -111,32 +109,23 @@ both_published : (xs ys : List EpochEffects) → AllByRecursion ArePublished xs 
 both_published [] ys f g = g
 both_published (x ∷ xs) ys f g = (f.0, both_published xs ys f.1 g)
 
-closed_published : (state : State) (es : NewestFirst Closed) → AreClosed state es → AllByRecursion ArePublished (closed_effects state es)
-closed_published state [] c = tt
-closed_published state (e ∷ es) c =
-    let first = opening_behind state es in
+closed_published : (blocks : ℕ) (state : State) (es : NewestFirst Closed) → AreClosed blocks state es → AllByRecursion ArePublished (closed_effects blocks state es)
+closed_published blocks state [] c = tt
+closed_published blocks state (e ∷ es) c =
+    let first = opening_behind blocks state es in
     let made = made_at_halt (ticks_made es) e.work in
-    both_published (closed_effects state es) (effects_at_reset made first e.journal ∷ []) (closed_published state es c.1)
-    (published_at_reset made first e.journal c.0.resetting.epoch c.0.resetting.may (known_made state e es c), tt)
+    both_published (closed_effects blocks state es) (effects_at_reset made first e.journal ∷ []) (closed_published blocks state es c.1)
+    (published_at_reset made first e.journal c.0.resetting.epoch c.0.resetting.may (known_made blocks state e es c), tt)
 
-pub epochs_publish : (state : State) (made : ℕ) (es : Epochs) → AreEpochs state es → known_of (open_journal es) ≤ made → AllByRecursion ArePublished (effects_of state made es)
-epochs_publish state made (goes es h) c known =
-    let first = opening_behind state es in
-    both_published (closed_effects state es) (effects_so_far made first h ∷ []) (closed_published state es c.0) (published_so_far made first h c.1.conducted known, tt)
-epochs_publish state made (resets es h w) c known =
-    let first = opening_behind state es in
-    both_published (closed_effects state es) (effects_at_reset made first h ∷ []) (closed_published state es c.0) (published_at_reset made first h c.1.epoch c.1.may known, tt)
+pub epochs_publish : (blocks : ℕ) (state : State) (made : ℕ) (es : Epochs) → AreEpochs blocks state es → known_of (open_journal es) ≤ made → AllByRecursion ArePublished (effects_of blocks state made es)
+epochs_publish blocks state made (goes es h) c known =
+    let first = opening_behind blocks state es in
+    both_published (closed_effects blocks state es) (effects_so_far made first h ∷ []) (closed_published blocks state es c.0) (published_so_far made first h c.1.conducted known, tt)
+epochs_publish blocks state made (resets es h w) c known =
+    let first = opening_behind blocks state es in
+    both_published (closed_effects blocks state es) (effects_at_reset made first h ∷ []) (closed_published blocks state es c.0) (published_at_reset made first h c.1.epoch c.1.may known, tt)
 
 -- ---- what was answered
-
--- the work of a reset answers nothing
-none_answered : (number : ℕ) (before : BoardLog) (w : Work) → Works number before w → answered_in (port_log w ++ before) ≡ answered_in before
-none_answered number before [] c = refl
-none_answered number before (at_port (answered r) ∷ w) c = absurd (never number (all_of before w) (stage_of before w) (answered r) tt c.0)
-none_answered number before (at_port (reported r) ∷ w) c = absurd (never number (all_of before w) (stage_of before w) (reported r) tt c.0)
-none_answered number before (at_port e ∷ w) c = none_answered number before w c.2
-none_answered number before (turned t ∷ w) c = none_answered number before w c.2
-none_answered number before (_ ∷ w) c = absurd c.0
 
 abbrev replies_of : List EpochEffects → List Reply
 replies_of es = flat_map (λ (e : EpochEffects). e.answered) es
@@ -145,15 +134,15 @@ with_one : (before : List Reply) (es : List EpochEffects) (e : EpochEffects) →
 with_one before es e is =
     ap (λ (rs : List Reply). rs ++ e.answered) is ∙ ap (λ (rs : List Reply). replies_of es ++ rs) (sym (append-nil e.answered)) ∙ sym (flat_map-append (λ (x : EpochEffects). x.answered) es (e ∷ []))
 
-closed_answered : (state : State) (es : NewestFirst Closed) → AreClosed state es → answered_in (closed_log es) ≡ replies_of (closed_effects state es)
-closed_answered state [] c = refl
-closed_answered state (e ∷ es) c =
-    none_answered (last_line (opening_behind state es) e.journal) (log_behind (closed_log es) e.journal) e.work c.0.resetting.works ∙ answered_on (ticks_made es) (port_log e.journal) (closed_log es)
-    ∙ with_one (answered_in (closed_log es)) (closed_effects state es) (effects_at_reset (made_at_halt (ticks_made es) e.work) (opening_behind state es) e.journal) (closed_answered state es c.1)
+closed_answered : (blocks : ℕ) (state : State) (es : NewestFirst Closed) → AreClosed blocks state es → answered_in (closed_log es) ≡ replies_of (closed_effects blocks state es)
+closed_answered blocks state [] c = refl
+closed_answered blocks state (e ∷ es) c =
+    none_answered (last_line (opening_behind blocks state es) e.journal) (log_behind (closed_log es) e.journal) e.work c.0.resetting.works ∙ answered_on (ticks_made es) (port_log e.journal) (closed_log es)
+    ∙ with_one (answered_in (closed_log es)) (closed_effects blocks state es) (effects_at_reset (made_at_halt (ticks_made es) e.work) (opening_behind blocks state es) e.journal) (closed_answered blocks state es c.1)
 
-pub all_answered : (state : State) (made : ℕ) (es : Epochs) → AreEpochs state es → answered_by es ≡ replies_of (effects_of state made es)
-all_answered state made (goes es h) c =
-    answered_on (ticks_made es) (port_log h) (closed_log es) ∙ with_one (answered_in (closed_log es)) (closed_effects state es) (effects_so_far made (opening_behind state es) h) (closed_answered state es c.0)
-all_answered state made (resets es h w) c =
-    none_answered (last_line (opening_behind state es) h) (log_behind (closed_log es) h) w c.1.works ∙ answered_on (ticks_made es) (port_log h) (closed_log es)
-    ∙ with_one (answered_in (closed_log es)) (closed_effects state es) (effects_at_reset made (opening_behind state es) h) (closed_answered state es c.0)
+pub all_answered : (blocks : ℕ) (state : State) (made : ℕ) (es : Epochs) → AreEpochs blocks state es → answered_by es ≡ replies_of (effects_of blocks state made es)
+all_answered blocks state made (goes es h) c =
+    answered_on (ticks_made es) (port_log h) (closed_log es) ∙ with_one (answered_in (closed_log es)) (closed_effects blocks state es) (effects_so_far made (opening_behind blocks state es) h) (closed_answered blocks state es c.0)
+all_answered blocks state made (resets es h w) c =
+    none_answered (last_line (opening_behind blocks state es) h) (log_behind (closed_log es) h) w c.1.works ∙ answered_on (ticks_made es) (port_log h) (closed_log es)
+    ∙ with_one (answered_in (closed_log es)) (closed_effects blocks state es) (effects_at_reset made (opening_behind blocks state es) h) (closed_answered blocks state es c.0)

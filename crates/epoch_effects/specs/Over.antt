@@ -42,11 +42,11 @@ effects_so_far made first h = effects_with (passed_so_far made first h) made fir
 abbrev pub effects_at_reset : (made : ℕ) → Opening → Journal → EpochEffects
 effects_at_reset made first h = effects_with (passed_at_reset made first h) made first h
 
-abbrev pub closed_effects : State → NewestFirst Closed → List EpochEffects
-closed_effects state [] = []
-closed_effects state (e ∷ es) = closed_effects state es ++ effects_at_reset (made_at_halt (ticks_made es) e.work) (opening_behind state es) e.journal ∷ []
+abbrev pub closed_effects : (blocks : ℕ) → State → NewestFirst Closed → List EpochEffects
+closed_effects blocks state [] = []
+closed_effects blocks state (e ∷ es) = closed_effects blocks state es ++ effects_at_reset (made_at_halt (ticks_made es) e.work) (opening_behind blocks state es) e.journal ∷ []
 
 -- epoch by epoch, of whose open one so many ticks are made
-abbrev pub effects_of : State → (made : ℕ) → Epochs → List EpochEffects
-effects_of state made (goes es h) = closed_effects state es ++ effects_so_far made (opening_behind state es) h ∷ []
-effects_of state made (resets es h w) = closed_effects state es ++ effects_at_reset made (opening_behind state es) h ∷ []
+abbrev pub effects_of : (blocks : ℕ) → State → (made : ℕ) → Epochs → List EpochEffects
+effects_of blocks state made (goes es h) = closed_effects blocks state es ++ effects_so_far made (opening_behind blocks state es) h ∷ []
+effects_of blocks state made (resets es h w) = closed_effects blocks state es ++ effects_at_reset made (opening_behind blocks state es) h ∷ []

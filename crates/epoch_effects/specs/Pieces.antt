@@ -1,7 +1,7 @@
 -- What was published in an epoch: the pieces that its parts have given, with the marks of its cuts between them.
 use Rattle.std.specs.Prelude.{◌≡◌, ℕ, ◌≤◌, ◌⊎◌, List, [], ◌∷◌, ◌++◌}
 use Rattle.run_texts.specs.Courses.{Passed}
-use Rattle.run_texts.specs.Courses.Passed.{a_line, a_broken, a_cut, a_reset}
+use Rattle.run_texts.specs.Courses.Passed.{a_cut}
 use Rattle.step_line.specs.Finishing.{ticks_together}
 use Rattle.step_line.specs.declared.Mark.TheVariants as marks
 use Rattle.step_line.specs.declared.Piece.{Piece}
@@ -13,10 +13,8 @@ use Rattle.epoch_effects.specs.Effects.Stop.{runs_on, is_halted, is_cut}
 -- the numbers of its cuts
 abbrev pub cut_numbers : List Passed → List ℕ
 cut_numbers [] = []
-cut_numbers (a_line o ∷ ps) = cut_numbers ps
-cut_numbers (a_broken o ∷ ps) = cut_numbers ps
 cut_numbers (a_cut k at ∷ ps) = k ∷ cut_numbers ps
-cut_numbers (a_reset r ∷ ps) = cut_numbers ps
+cut_numbers (_ ∷ ps) = cut_numbers ps
 
 -- the pieces of parts, each before the mark of the cut that ends it
 abbrev pub pieces_between : List ℕ → List Driven → List Piece

@@ -93,10 +93,8 @@ TellsLock e = ShowLocks e.locked (begun_in e.passed) (reverse e.answered)
 -- the resets of a course
 abbrev pub resets_of : List Passed → List Reset
 resets_of [] = []
-resets_of (a_line o ∷ ps) = resets_of ps
-resets_of (a_broken o ∷ ps) = resets_of ps
-resets_of (a_cut k at ∷ ps) = resets_of ps
 resets_of (a_reset r ∷ ps) = r ∷ resets_of ps
+resets_of (_ ∷ ps) = resets_of ps
 
 pub record OpensAt (first : State) (place : Steps3) (locked : Bool) (e : EpochEffects) : Type 0 where
   pub state : e.first ≡ first

@@ -34,19 +34,19 @@ ghost use Rattle.epoch_effects.specs.Words.{AreTakenIn, words_taken};
 /// epoch; nothing slows the machine down but a hold, a cancel or a change of overrides for which a word was taken in it, and
 /// an alarm behind the line that raised it; and jogs are cut as often at most as words for a hold or a cancel were taken.
 pub fn words_do_what_they_ask()
-    ensures { (state : State) (made : ℕ) (es : Epochs) → AreEpochs state es → known_of (open_journal es) ≤ made →
-        AreEffects (course_of state made es) (drives_of state made es) (effects_of state made es) }
+    ensures { (blocks : ℕ) (state : State) (made : ℕ) (es : Epochs) → AreEpochs blocks state es → known_of (open_journal es) ≤ made →
+        AreEffects (course_of blocks state made es) (drives_of blocks state made es) (effects_of blocks state made es) }
 {}
 
 /// What was taken in an epoch was taken at the port, and no word counts for two epochs.
 pub fn words_are_taken_once()
-    ensures { (state : State) (made : ℕ) (es : Epochs) → AreTakenIn (words_taken (log_of es)) (map (λ e. e.taken) (effects_of state made es)) }
+    ensures { (blocks : ℕ) (state : State) (made : ℕ) (es : Epochs) → AreTakenIn (words_taken (log_of es)) (map (λ e. e.taken) (effects_of blocks state made es)) }
 {}
 
 /// Each cut has a cause: the last that was accepted of G-code and jogs in its epoch is a jog.
 pub fn cuts_have_causes()
-    ensures { (state : State) (made : ℕ) (es : Epochs) → AreEpochs state es → known_of (open_journal es) ≤ made →
-        CutsHaveCauses (opening state) (sent_by es) (course_of state made es) }
+    ensures { (blocks : ℕ) (state : State) (made : ℕ) (es : Epochs) → AreEpochs blocks state es → known_of (open_journal es) ≤ made →
+        CutsHaveCauses (opening state) (sent_by es) (course_of blocks state made es) }
 {}
 
 /// Each report fits the lines of its epoch, as its opening and the ticks that were made in it have them: of an epoch that is
@@ -57,12 +57,12 @@ pub fn cuts_have_causes()
 /// answered in the epochs is all that was answered; and each epoch opens as the reset before it says, the first as a run begins. What
 /// is answered in an epoch begins with what greets it, up to the banner: no report comes before.
 pub fn reports_fit_their_epochs()
-    ensures fit { (state : State) (made : ℕ) (es : Epochs) → AreEpochs state es → known_of (open_journal es) ≤ made → AllByRecursion HasReported (effects_of state made es) }
-    ensures locks { (state : State) (made : ℕ) (es : Epochs) → AreEpochs state es → AllByRecursion TellsLock (effects_of state made es) }
-    ensures published { (state : State) (made : ℕ) (es : Epochs) → AreEpochs state es → known_of (open_journal es) ≤ made → AllByRecursion ArePublished (effects_of state made es) }
-    ensures answered { (state : State) (made : ℕ) (es : Epochs) → AreEpochs state es → answered_by es ≡ flat_map (λ e. e.answered) (effects_of state made es) }
-    ensures opened { (state : State) (made : ℕ) (es : Epochs) → AreEpochs state es → AreOpened state origin false (resets_of (course_of state made es)) (effects_of state made es) }
-    ensures greeted { (state : State) (made : ℕ) (es : Epochs) → AreEpochs state es → AreGreeted (AnyReply.Banner ∷ []) (resets_of (course_of state made es)) (effects_of state made es) }
+    ensures fit { (blocks : ℕ) (state : State) (made : ℕ) (es : Epochs) → AreEpochs blocks state es → known_of (open_journal es) ≤ made → AllByRecursion HasReported (effects_of blocks state made es) }
+    ensures locks { (blocks : ℕ) (state : State) (made : ℕ) (es : Epochs) → AreEpochs blocks state es → AllByRecursion TellsLock (effects_of blocks state made es) }
+    ensures published { (blocks : ℕ) (state : State) (made : ℕ) (es : Epochs) → AreEpochs blocks state es → known_of (open_journal es) ≤ made → AllByRecursion ArePublished (effects_of blocks state made es) }
+    ensures answered { (blocks : ℕ) (state : State) (made : ℕ) (es : Epochs) → AreEpochs blocks state es → answered_by es ≡ flat_map (λ e. e.answered) (effects_of blocks state made es) }
+    ensures opened { (blocks : ℕ) (state : State) (made : ℕ) (es : Epochs) → AreEpochs blocks state es → AreOpened state origin false (resets_of (course_of blocks state made es)) (effects_of blocks state made es) }
+    ensures greeted { (blocks : ℕ) (state : State) (made : ℕ) (es : Epochs) → AreEpochs blocks state es → AreGreeted (AnyReply.Banner ∷ []) (resets_of (course_of blocks state made es)) (effects_of blocks state made es) }
 {}
 
 /// Over all epochs each line that is passed has one answer, but for one that raises an alarm, and the errors are those of the
@@ -71,15 +71,15 @@ pub fn reports_fit_their_epochs()
 pub fn lines_are_answered_once()
     ensures course { (p last : Point) (sent rest : List Sent) (course : List Passed) → LeadsTo p sent course last rest →
         (answers_in (told_in course) + limits_in (lines_in course) ≡ length (lines_in course)) × (errors_among (told_in course) ≡ errors_in (lines_in course)) }
-    ensures so_far { (state : State) (made : ℕ) (es : Epochs) → AreEpochs state es → known_of (open_journal es) ≤ made → let lines = lines_in (course_of state made es) in
-        (answers_in (answered_by es) + answers_in (untold_by state es) + limits_in lines ≡ length lines) × (errors_among (answered_by es) + errors_among (untold_by state es) ≡ errors_in lines) }
-    ensures finished { (state : State) (made : ℕ) (es : NewestFirst Closed) (h : Journal) → AreEpochs state (goes es h) → IsFinished (opening_behind state es) h → known_of h ≤ made →
-        let lines = lines_in (course_of state made (goes es h)) in
+    ensures so_far { (blocks : ℕ) (state : State) (made : ℕ) (es : Epochs) → AreEpochs blocks state es → known_of (open_journal es) ≤ made → let lines = lines_in (course_of blocks state made es) in
+        (answers_in (answered_by es) + answers_in (untold_by blocks state es) + limits_in lines ≡ length lines) × (errors_among (answered_by es) + errors_among (untold_by blocks state es) ≡ errors_in lines) }
+    ensures finished { (blocks : ℕ) (state : State) (made : ℕ) (es : NewestFirst Closed) (h : Journal) → AreEpochs blocks state (goes es h) → IsFinished (opening_behind blocks state es) h → known_of h ≤ made →
+        let lines = lines_in (course_of blocks state made (goes es h)) in
         (answers_in (answered_by (goes es h)) + limits_in lines ≡ length lines) × (errors_among (answered_by (goes es h)) ≡ errors_in lines) }
 {}
 
 /// Of each part of an epoch all was asked of its plan that its lines but the last ask for. So nothing of a line waits while a
 /// later one is begun.
 pub fn lines_are_asked_in_turn()
-    ensures { (state : State) (made : ℕ) (es : Epochs) → AreEpochs state es → known_of (open_journal es) ≤ made → AllByRecursion AsksInTurn (effects_of state made es) }
+    ensures { (blocks : ℕ) (state : State) (made : ℕ) (es : Epochs) → AreEpochs blocks state es → known_of (open_journal es) ≤ made → AllByRecursion AsksInTurn (effects_of blocks state made es) }
 {}

@@ -93,15 +93,15 @@ made_on [] (x ∷ ds) e d are many same = absurd are
 made_on (y ∷ es) [] e d are many same = absurd are
 made_on (y ∷ es) (x ∷ ds) e d are many same = (are.0, are.1, made_on es ds e d are.2 many same)
 
-pub closed_made : (state : State) (es : NewestFirst Closed) → AreMade (closed_effects state es) (closed_epochs state es)
-closed_made state [] = tt
-closed_made state (e ∷ es) = made_on (closed_effects state es) (closed_epochs state es) _ _ (closed_made state es) refl refl
+pub closed_made : (blocks : ℕ) (state : State) (es : NewestFirst Closed) → AreMade (closed_effects blocks state es) (closed_epochs blocks state es)
+closed_made blocks state [] = tt
+closed_made blocks state (e ∷ es) = made_on (closed_effects blocks state es) (closed_epochs blocks state es) _ _ (closed_made blocks state es) refl refl
 
 -- ---- all of it
 
-module _ (state : State) (es : NewestFirst Closed) (h : Journal) (c : AreEpochs state (goes es h)) (over : IsFinished (opening_behind state es) h) where
+module _ (blocks : ℕ) (state : State) (es : NewestFirst Closed) (h : Journal) (c : AreEpochs blocks state (goes es h)) (over : IsFinished (opening_behind blocks state es) h) where
   abbrev first : Opening
-  first = opening_behind state es
+  first = opening_behind blocks state es
 
   abbrev made : ℕ
   made = ticks_together (planned_of h)
@@ -109,10 +109,10 @@ module _ (state : State) (es : NewestFirst Closed) (h : Journal) (c : AreEpochs 
   known : known_of h ≤ made
   known = let s = spent first h c.1.conducted over in let d = s.done in let g = ap ticks_together s.given in let n = no_more_ticks (planned_of h) in omega (arith, d, g, n)
 
-  leads : LeadsTo (opening state) (items_in (taken_by (goes es h))) (course_of state made (goes es h)) (point_behind made first h) []
+  leads : LeadsTo (opening state) (items_in (taken_by (goes es h))) (course_of blocks state made (goes es h)) (point_behind made first h) []
   leads =
-      subst (λ (ss : List Sent). LeadsTo (opening state) ss (course_of state made (goes es h)) (point_behind made first h) []) (all_items es h)
-      (subst (λ (ss : List Sent). LeadsTo (opening state) (sent_by (goes es h)) (course_of state made (goes es h)) (point_behind made first h) ss) (none_left first h c.1 over) (epochs_lead state made (goes es h) c known))
+      subst (λ (ss : List Sent). LeadsTo (opening state) ss (course_of blocks state made (goes es h)) (point_behind made first h) []) (all_items es h)
+      (subst (λ (ss : List Sent). LeadsTo (opening state) (sent_by (goes es h)) (course_of blocks state made (goes es h)) (point_behind made first h) ss) (none_left first h c.1 over) (epochs_lead blocks state made (goes es h) c known))
 
   closes : (point_behind made first h).before.alarmed ≡ false → has_closed_in (log_of (goes es h)) ≡ true
   closes calm = by_cause (spent first h c.1.conducted over).closed
@@ -129,47 +129,47 @@ module _ (state : State) (es : NewestFirst Closed) (h : Journal) (c : AreEpochs 
   open_drops : (room : ℕ) → DropsAreFew room 0 (texts_in (taken_of h)) (passed_so_far made first h)
   open_drops room = none_dropped room 0 (point_of first) (point_behind made first h) (texts_in (taken_of h)) (texts_in (bytes_behind h)) (passed_so_far made first h) (none_passed false made first h) open_leads
 
-  drops : (room : ℕ) → AllByRecursion (λ ls. length (ended ls) ≤ room) (map dropped_by es) → DropsAreFew room 0 (items_in (taken_by (goes es h))) (course_of state made (goes es h))
+  drops : (room : ℕ) → AllByRecursion (λ ls. length (ended ls) ≤ room) (map dropped_by es) → DropsAreFew room 0 (items_in (taken_by (goes es h))) (course_of blocks state made (goes es h))
   drops room few =
-      subst (λ (ss : List Sent). DropsAreFew room 0 ss (course_of state made (goes es h))) (all_items es h)
-      (drops_closed state es room (texts_in (taken_of h)) (passed_so_far made first h) c.0 few (open_drops room))
+      subst (λ (ss : List Sent). DropsAreFew room 0 ss (course_of blocks state made (goes es h))) (all_items es h)
+      (drops_closed blocks state es room (texts_in (taken_of h)) (passed_so_far made first h) c.0 few (open_drops room))
 
-  pub board_ran : (behind : List Reply) → IsOpening state → without_byes (answered_by (goes es h)) ≡ Banner ∷ behind → BoardRan (board_did (goes es h))
+  pub board_ran : (behind : List Reply) → IsOpening state → without_byes (answered_by (goes es h)) ≡ Banner ∷ behind → BoardRan blocks (board_did (goes es h))
   board_ran behind opens said = record {
     first = state;
     opens = opens;
-    course = course_of state made (goes es h);
+    course = course_of blocks state made (goes es h);
     last = point_behind made first h;
     leads = leads;
     complete = refl;
     closes = closes;
-    ends = (let e = ends_epochs state (goes es h) c in subst (λ (bytes : List ℕ). EndsEpochs (taken_by (goes es h)) bytes (board_did (goes es h)).loaded (board_did (goes es h)).at_answers) e.whole e);
-    causes = subst (λ (ss : List Sent). CutsHaveCauses (opening state) ss (course_of state made (goes es h))) (all_items es h) (cuts_caused state made (goes es h) c known);
-    lost = all_lost state es (point_of first) (point_behind made first h) (texts_in (taken_of h)) (texts_in (bytes_behind h)) (passed_so_far made first h) c.0 (none_passed false made first h) open_leads refl;
-    greets = all_banners state es (opening state) (point_behind made first h) (items_in (taken_by (goes es h))) [] (passed_so_far made first h)
-        (λ m e before. none_passed (is_unanswered e.journal) m (opening_behind state before) e.journal) (none_passed false made first h) leads;
+    ends = (let e = ends_epochs blocks state (goes es h) c in subst (λ (bytes : List ℕ). EndsEpochs (taken_by (goes es h)) bytes (board_did (goes es h)).loaded (board_did (goes es h)).at_answers) e.whole e);
+    causes = subst (λ (ss : List Sent). CutsHaveCauses (opening state) ss (course_of blocks state made (goes es h))) (all_items es h) (cuts_caused blocks state made (goes es h) c known);
+    lost = all_lost blocks state es (point_of first) (point_behind made first h) (texts_in (taken_of h)) (texts_in (bytes_behind h)) (passed_so_far made first h) c.0 (none_passed false made first h) open_leads refl;
+    greets = all_banners blocks state es (opening state) (point_behind made first h) (items_in (taken_by (goes es h))) [] (passed_so_far made first h)
+        (λ m e before. none_passed (is_unanswered e.journal) m (opening_behind blocks state before) e.journal) (none_passed false made first h) leads;
     drops = drops;
-    console = subst (λ (rs : List Reply). IsTold (course_of state made (goes es h)) rs) (sym said) (console_tells state made es h behind c over said);
-    told = finished_tell state made es h c over;
-    drives = drives_of state made (goes es h);
-    driven = finished_driven state made es h c over known;
-    epochs = epochs_of state es h;
-    run = epochs_run state made es h c over known;
-    over = epochs_over state es h c.0;
-    published_are = epochs_sent state es h c over;
-    before_end = published_in (closed_epochs state es) ++ planned_of h;
-    ends_with = epochs_sent state es h c over ∙ before_all state es h;
-    once = none_before state es h c.0 c.1.conducted;
-    halts_are = epochs_halted state es h c;
-    few = course_cuts state made (goes es h) c;
-    effects = effects_of state made (goes es h);
-    doing = effects_are state made (goes es h) c known;
-    opened = opened state made (goes es h) c;
-    reports = epochs_report state made (goes es h) c known;
-    locks = epochs_lock state made (goes es h) c;
-    asking = epochs_ask state made (goes es h) c known;
-    answered_are = all_answered state made (goes es h) c;
-    pieces = epochs_publish state made (goes es h) c known;
-    made = made_on (closed_effects state es) (closed_epochs state es) _ _ (closed_made state es) refl (published_ticks first h c.1.conducted over);
-    taken_are = taken_once state made (goes es h);
+    console = subst (λ (rs : List Reply). IsTold (course_of blocks state made (goes es h)) rs) (sym said) (console_tells blocks state made es h behind c over said);
+    told = finished_tell blocks state made es h c over;
+    drives = drives_of blocks state made (goes es h);
+    driven = finished_driven blocks state made es h c over known;
+    epochs = epochs_of blocks state es h;
+    run = epochs_run blocks state made es h c over known;
+    over = epochs_over blocks state es h c.0;
+    published_are = epochs_sent blocks state es h c over;
+    before_end = published_in (closed_epochs blocks state es) ++ planned_of h;
+    ends_with = epochs_sent blocks state es h c over ∙ before_all blocks state es h;
+    once = none_before blocks state es h c.0 c.1.conducted;
+    halts_are = epochs_halted blocks state es h c;
+    few = course_cuts blocks state made (goes es h) c;
+    effects = effects_of blocks state made (goes es h);
+    doing = effects_are blocks state made (goes es h) c known;
+    opened = opened blocks state made (goes es h) c;
+    reports = epochs_report blocks state made (goes es h) c known;
+    locks = epochs_lock blocks state made (goes es h) c;
+    asking = epochs_ask blocks state made (goes es h) c known;
+    answered_are = all_answered blocks state made (goes es h) c;
+    pieces = epochs_publish blocks state made (goes es h) c known;
+    made = made_on (closed_effects blocks state es) (closed_epochs blocks state es) _ _ (closed_made blocks state es) refl (published_ticks first h c.1.conducted over);
+    taken_are = taken_once blocks state made (goes es h);
   }

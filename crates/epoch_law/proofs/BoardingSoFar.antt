@@ -72,15 +72,15 @@ told_by told plain untold closing (inl none) is = record {
 }
 told_by told plain untold closing (inr bye) is = record { rest = untold; is = ap (λ (rs : List Reply). Banner ∷ (told ++ rs)) (sym bye) ∙ is }
 
-closes_once : (state : State) (es : Epochs) → AreEpochs state es → (closing_by es ≡ []) ⊎ (closing_by es ≡ Bye ∷ [])
-closes_once state (goes es h) c = one_bye (opening_behind state es) h c.1.conducted
-closes_once state (resets es h w) c = inl refl
+closes_once : (blocks : ℕ) (state : State) (es : Epochs) → AreEpochs blocks state es → (closing_by es ≡ []) ⊎ (closing_by es ≡ Bye ∷ [])
+closes_once blocks state (goes es h) c = one_bye (opening_behind blocks state es) h c.1.conducted
+closes_once blocks state (resets es h w) c = inl refl
 
 -- ---- the open epoch
 
-same_epochs : (state : State) (made : ℕ) (es : Epochs) → epochs_so_far state made es ≡ closed_of state es ++ open_epoch made (open_journal es) ∷ []
-same_epochs state made (goes es h) = refl
-same_epochs state made (resets es h w) = refl
+same_epochs : (blocks : ℕ) (state : State) (made : ℕ) (es : Epochs) → epochs_so_far blocks state made es ≡ closed_of blocks state es ++ open_epoch made (open_journal es) ∷ []
+same_epochs blocks state made (goes es h) = refl
+same_epochs blocks state made (resets es h w) = refl
 
 -- the end has no ticks
 out_ticks : (ps : List Piece) → flat_map ticks_of ps ≡ flat_map ticks_of (without_end ps)
@@ -89,70 +89,70 @@ out_ticks (pieces.Segment s ∷ ps) = ap (λ (rs : List Record). ticks_of (piece
 out_ticks (pieces.Mark m ∷ ps) = ap (λ (rs : List Record). ticks_of (pieces.Mark m) ++ rs) (out_ticks ps)
 out_ticks (pieces.End ∷ ps) = out_ticks ps
 
-all_made : (state : State) (made : ℕ) (es : Epochs) → AreMade (effects_of state made es) (closed_of state es ++ open_epoch made (open_journal es) ∷ [])
-all_made state made (goes es h) = made_on (closed_effects state es) (closed_epochs state es) _ _ (closed_made state es) refl (out_ticks (published_of h))
-all_made state made (resets es h w) = made_on (closed_effects state es) (closed_epochs state es) _ _ (closed_made state es) refl (out_ticks (published_of h))
+all_made : (blocks : ℕ) (state : State) (made : ℕ) (es : Epochs) → AreMade (effects_of blocks state made es) (closed_of blocks state es ++ open_epoch made (open_journal es) ∷ [])
+all_made blocks state made (goes es h) = made_on (closed_effects blocks state es) (closed_epochs blocks state es) _ _ (closed_made blocks state es) refl (out_ticks (published_of h))
+all_made blocks state made (resets es h w) = made_on (closed_effects blocks state es) (closed_epochs blocks state es) _ _ (closed_made blocks state es) refl (out_ticks (published_of h))
 
 -- it drops nothing before its reset
-open_drops : (state : State) (made : ℕ) (es : Epochs) (room : ℕ) → AreEpochs state es → known_of (open_journal es) ≤ made → AllByRecursion (λ ls. length (ended ls) ≤ room) (map dropped_by (ended_of es))
-    → DropsAreFew room 0 (sent_by es) (course_of state made es)
-open_drops state made (goes es h) room c known few =
-    let first = opening_behind state es in
-    drops_closed state es room (texts_in (taken_of h)) (passed_so_far made first h) c.0 few
+open_drops : (blocks : ℕ) (state : State) (made : ℕ) (es : Epochs) (room : ℕ) → AreEpochs blocks state es → known_of (open_journal es) ≤ made → AllByRecursion (λ ls. length (ended ls) ≤ room) (map dropped_by (ended_of es))
+    → DropsAreFew room 0 (sent_by es) (course_of blocks state made es)
+open_drops blocks state made (goes es h) room c known few =
+    let first = opening_behind blocks state es in
+    drops_closed blocks state es room (texts_in (taken_of h)) (passed_so_far made first h) c.0 few
     (none_dropped room 0 (point_of first) (point_behind made first h) (texts_in (taken_of h)) (texts_in (bytes_behind h)) (passed_so_far made first h) (none_passed false made first h)
     (subst (λ (ss : List Sent). LeadsTo (point_of first) ss (passed_so_far made first h) (point_behind made first h) (texts_in (bytes_behind h))) (sym (texts_now first h c.1.conducted))
     (epoch_leads made first h (texts_in (bytes_behind h)) c.1.conducted known)))
-open_drops state made (resets es h w) room c known few =
-    let first = opening_behind state es in
+open_drops blocks state made (resets es h w) room c known few =
+    let first = opening_behind blocks state es in
     let is = c.1.epoch in
     let left = texts_in (bytes_behind h ++ taken_in (port_log w)) in
-    drops_closed state es room (texts_in (bytes_with h w)) (passed_at_reset made first h) c.0 few
+    drops_closed blocks state es room (texts_in (bytes_with h w)) (passed_at_reset made first h) c.0 few
     (none_dropped room 0 (point_of first) (point_at_reset made first h) (texts_in (bytes_with h w)) left (passed_at_reset made first h) (none_passed (is_unanswered h) made first h)
     (subst (λ (ss : List Sent). LeadsTo (point_of first) ss (passed_at_reset made first h) (point_at_reset made first h) left) (sym (texts_behind first h (taken_in (port_log w)) is.conducted))
     (comes_there made first h left is c.1.may known).leads))
 
 -- the number of the line that was begun last
-numbered : (state : State) (made : ℕ) (es : Epochs) → AreEpochs state es → known_of (open_journal es) ≤ made → number_of state es + 1 ≡ (stands_at state made es).before.number
-numbered state made (goes es h) c known = sym (number_is (opening_behind state es) h c.1.conducted) ∙ sym (same_but made (opening_behind state es) h).number
-numbered state made (resets es h w) c known = sym (number_is (opening_behind state es) h c.1.epoch.conducted) ∙ sym (comes_there made (opening_behind state es) h [] c.1.epoch c.1.may known).found.number
+numbered : (blocks : ℕ) (state : State) (made : ℕ) (es : Epochs) → AreEpochs blocks state es → known_of (open_journal es) ≤ made → number_of blocks state es + 1 ≡ (stands_at blocks state made es).before.number
+numbered blocks state made (goes es h) c known = sym (number_is (opening_behind blocks state es) h c.1.conducted) ∙ sym (same_but made (opening_behind blocks state es) h).number
+numbered blocks state made (resets es h w) c known = sym (number_is (opening_behind blocks state es) h c.1.epoch.conducted) ∙ sym (comes_there made (opening_behind blocks state es) h [] c.1.epoch c.1.may known).found.number
 
 -- ---- all of it
 
-pub board_runs : (state : State) (ticks : ℕ) (es : Epochs) → IsOpening state → AreEpochs state es → known_in (log_of es) ≤ ticks → ticks ≤ ticks_published (sent_in (log_of es)) → BeginWithBanner (without_byes (answered_by es)) → BoardRuns ticks (board_did es)
-board_runs state ticks es opens c low high begins =
+pub board_runs : (blocks : ℕ) (state : State) (ticks : ℕ) (es : Epochs) → IsOpening state → AreEpochs blocks state es → known_in (log_of es) ≤ ticks → ticks ≤ ticks_published (sent_in (log_of es)) → BeginWithBanner (without_byes (answered_by es)) → BoardRuns blocks ticks (board_did es)
+board_runs blocks state ticks es opens c low high begins =
     let made = made_of ticks es in
-    let open_is = epochs_open state ticks es c low high in
+    let open_is = epochs_open blocks state ticks es c low high in
     let known = open_is.known in
     record {
       first = state;
       opens = opens;
-      course = course_of state made es;
-      point = stands_at state made es;
+      course = course_of blocks state made es;
+      point = stands_at blocks state made es;
       left = left_by es;
-      leads = subst (λ (ss : List Sent). LeadsTo (opening state) ss (course_of state made es) (stands_at state made es) (left_by es)) (items_so_far es) (epochs_lead state made es c known);
-      ends = (let e = ends_epochs state es c in subst (λ (bytes : List ℕ). EndsEpochs (taken_by es) bytes (board_did es).loaded (board_did es).at_answers) e.whole e);
-      causes = subst (λ (ss : List Sent). CutsHaveCauses (opening state) ss (course_of state made es)) (items_so_far es) (cuts_caused state made es c known);
-      drops = λ room few. subst (λ (ss : List Sent). DropsAreFew room 0 ss (course_of state made es)) (items_so_far es) (open_drops state made es room c known few);
+      leads = subst (λ (ss : List Sent). LeadsTo (opening state) ss (course_of blocks state made es) (stands_at blocks state made es) (left_by es)) (items_so_far es) (epochs_lead blocks state made es c known);
+      ends = (let e = ends_epochs blocks state es c in subst (λ (bytes : List ℕ). EndsEpochs (taken_by es) bytes (board_did es).loaded (board_did es).at_answers) e.whole e);
+      causes = subst (λ (ss : List Sent). CutsHaveCauses (opening state) ss (course_of blocks state made es)) (items_so_far es) (cuts_caused blocks state made es c known);
+      drops = λ room few. subst (λ (ss : List Sent). DropsAreFew room 0 ss (course_of blocks state made es)) (items_so_far es) (open_drops blocks state made es room c known few);
       begins = begins;
-      told = told_by (told_in (course_of state made es)) (without_reports (answered_by es)) (untold_by state es) (closing_by es) (closes_once state es c) (epochs_tell state made es c);
-      plain = told_so_far state made es c;
-      drives = drives_of state made es;
-      driven = epochs_driven state made es c known;
-      closed = closed_of state es;
+      told = told_by (told_in (course_of blocks state made es)) (without_reports (answered_by es)) (untold_by blocks state es) (closing_by es) (closes_once blocks state es c) (epochs_tell blocks state made es c);
+      plain = told_so_far blocks state made es c;
+      drives = drives_of blocks state made es;
+      driven = epochs_driven blocks state made es c known;
+      closed = closed_of blocks state es;
       now = open_epoch made (open_journal es);
-      run = subst (λ (xs : List Epoch). AreRunSoFar (parts_of (course_of state made es)) origin xs) (same_epochs state made es) (epochs_run_so_far state made es c known open_is.are.few);
-      number = number_of state es;
-      numbered = numbered state made es c known;
+      run = subst (λ (xs : List Epoch). AreRunSoFar (parts_of (course_of blocks state made es)) origin xs) (same_epochs blocks state made es) (epochs_run_so_far blocks state made es c known open_is.are.few);
+      number = number_of blocks state es;
+      numbered = numbered blocks state made es c known;
       published_are = open_is.are;
-      few = course_cuts state made es c;
-      effects = effects_of state made es;
-      doing = effects_are state made es c known;
-      opened = opened state made es c;
-      reports = epochs_report state made es c known;
-      locks = epochs_lock state made es c;
-      asking = epochs_ask state made es c known;
-      answered_are = all_answered state made es c;
-      pieces = epochs_publish state made es c known;
-      made = all_made state made es;
-      taken_are = taken_once state made es;
+      few = course_cuts blocks state made es c;
+      effects = effects_of blocks state made es;
+      doing = effects_are blocks state made es c known;
+      opened = opened blocks state made es c;
+      reports = epochs_report blocks state made es c known;
+      locks = epochs_lock blocks state made es c;
+      asking = epochs_ask blocks state made es c known;
+      answered_are = all_answered blocks state made es c;
+      pieces = epochs_publish blocks state made es c known;
+      made = all_made blocks state made es;
+      taken_are = taken_once blocks state made es;
     }

@@ -161,17 +161,17 @@ module _ (made : ℕ) (first : Opening) (e : Closed) (is : IsEpoch first e.journ
       (passes (point_of first) (point_at_reset made first e.journal) lines more left (passed_at_reset made first e.journal) (none_passed (is_unanswered e.journal) made first e.journal) leads))
       few rest
 
-pub drops_closed : (state : State) (es : NewestFirst Closed) (room : ℕ) (sent : List Sent) (course : List Passed) → AreClosed state es → AllByRecursion (λ ls. length (ended ls) ≤ room) (map dropped_by es) → DropsAreFew room 0 sent course
-    → DropsAreFew room 0 (closed_texts es ++ sent) (closed_course state es ++ course)
-drops_closed state [] room sent course c few rest = rest
-drops_closed state (e ∷ es) room sent course c few rest =
-    let first = opening_behind state es in
+pub drops_closed : (blocks : ℕ) (state : State) (es : NewestFirst Closed) (room : ℕ) (sent : List Sent) (course : List Passed) → AreClosed blocks state es → AllByRecursion (λ ls. length (ended ls) ≤ room) (map dropped_by es) → DropsAreFew room 0 sent course
+    → DropsAreFew room 0 (closed_texts es ++ sent) (closed_course blocks state es ++ course)
+drops_closed blocks state [] room sent course c few rest = rest
+drops_closed blocks state (e ∷ es) room sent course c few rest =
+    let first = opening_behind blocks state es in
     let made = made_at_halt (ticks_made es) e.work in
     let r = reset_of (ticks_made es) first e.journal e.work in
     let lines = texts_in (bytes_with e.journal e.work) in
-    let here = drops_one made first e c.0.resetting.epoch c.0.resetting.may (known_made state e es c) sent room (ticks_made es) course few.0 rest in
-    let more = drops_closed state es room (lines ++ a_stop ∷ sent) (passed_at_reset made first e.journal ++ a_reset r ∷ course) c.1 few.1 here in
-    subst (λ (ss : List Sent). DropsAreFew room 0 ss (closed_course state (e ∷ es) ++ course))
+    let here = drops_one made first e c.0.resetting.epoch c.0.resetting.may (known_made blocks state e es c) sent room (ticks_made es) course few.0 rest in
+    let more = drops_closed blocks state es room (lines ++ a_stop ∷ sent) (passed_at_reset made first e.journal ++ a_reset r ∷ course) c.1 few.1 here in
+    subst (λ (ss : List Sent). DropsAreFew room 0 ss (closed_course blocks state (e ∷ es) ++ course))
     (sym (append_assoc (closed_texts es) (lines ++ a_stop ∷ []) sent ∙ ap (λ (ss : List Sent). closed_texts es ++ ss) (append_assoc lines (a_stop ∷ []) sent)))
     (subst (λ (ps : List Passed). DropsAreFew room 0 (closed_texts es ++ (lines ++ a_stop ∷ sent)) ps)
-    (sym (append_assoc (closed_course state es) (passed_at_reset made first e.journal ++ a_reset r ∷ []) course ∙ ap (λ (ps : List Passed). closed_course state es ++ ps) (append_assoc (passed_at_reset made first e.journal) (a_reset r ∷ []) course))) more)
+    (sym (append_assoc (closed_course blocks state es) (passed_at_reset made first e.journal ++ a_reset r ∷ []) course ∙ ap (λ (ps : List Passed). closed_course blocks state es ++ ps) (append_assoc (passed_at_reset made first e.journal) (a_reset r ∷ []) course))) more)

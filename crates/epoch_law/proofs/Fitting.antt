@@ -1,5 +1,5 @@
 -- What host, board and pulse have done fits the texts.
-use Rattle.std.proofs.Common.{◌≡◌, ◌⊎◌, inl, inr, Bool, true, false, not, ◌&&◌, List, [], ◌∷◌, ◌++◌, drop, refl, sym, ap, ◌∙◌, subst, append-nil, arith, ◌||◌}
+use Rattle.std.proofs.Common.{◌≡◌, ℕ, ◌⊎◌, inl, inr, Bool, true, false, not, ◌&&◌, List, [], ◌∷◌, ◌++◌, drop, refl, sym, ap, ◌∙◌, subst, append-nil, arith, ◌||◌}
 use Rattle.std.proofs.lemmas.List.{append_cancel_left}
 use Rattle.std.proofs.lemmas.List.Elements.{filter-append}
 use Rattle.flight.specs.Places.{origin}
@@ -42,8 +42,8 @@ use Rattle.epoch_law.proofs.Sending.{cancels_scanned}
 -- ---- the records
 
 -- what a pulse puts is put of the epochs that were published
-pub put_of_epochs : (b : BoardDid) (p : PulseDid) (board : BoardRan b) → PulseRan p → ArePassed b p → ArePut board.epochs p.put
-put_of_epochs b p board pulse passed = stretches_put board.epochs pulse.stretches pulse.last p.put (by_halts passed.halts) pulse.put
+pub put_of_epochs : (blocks : ℕ) (b : BoardDid) (p : PulseDid) (board : BoardRan blocks b) → PulseRan p → ArePassed b p → ArePut board.epochs p.put
+put_of_epochs blocks b p board pulse passed = stretches_put board.epochs pulse.stretches pulse.last p.put (by_halts passed.halts) pulse.put
   where
     pieces : pieces_of_all pulse.stretches ++ pulse.last ≡ published_in board.epochs
     pieces = pulse.pieces ∙ passed.pieces ∙ board.published_are
@@ -54,9 +54,9 @@ put_of_epochs b p board pulse passed = stretches_put board.epochs pulse.stretche
         some_epochs_of_stretches board.epochs p.halts pulse.stretches pulse.last board.over pieces pulse.halted (some ∙ ap but_none board.halts_are ∙ none_reversed (halts_in 0 0 board.epochs))
 
 -- and these are the records of the parts of the course
-pub put_recorded : (b : BoardDid) (p : PulseDid) (board : BoardRan b) → PulseRan p → ArePassed b p → AreRecorded origin (parts_of board.course) p.put
-put_recorded b p board pulse passed =
-    are_recorded (parts_of board.course) origin board.epochs p.put board.run (put_of_epochs b p board pulse passed)
+pub put_recorded : (blocks : ℕ) (b : BoardDid) (p : PulseDid) (board : BoardRan blocks b) → PulseRan p → ArePassed b p → AreRecorded origin (parts_of board.course) p.put
+put_recorded blocks b p board pulse passed =
+    are_recorded (parts_of board.course) origin board.epochs p.put board.run (put_of_epochs blocks b p board pulse passed)
 
 -- ---- the replies
 
@@ -76,8 +76,8 @@ told_front course answered got front same told =
     record { behind = b.0; begins = b.1; told = b.2 }
 
 -- an alarm was got exactly where a line has raised one
-pub alarm_got : (b : BoardDid) (board : BoardRan b) (got : List Reply) → without_reports got ≡ without_reports b.answered → has_alarm got ≡ board.last.before.alarmed
-alarm_got b board got same =
+pub alarm_got : (blocks : ℕ) (b : BoardDid) (board : BoardRan blocks b) (got : List Reply) → without_reports got ≡ without_reports b.answered → has_alarm got ≡ board.last.before.alarmed
+alarm_got blocks b board got same =
     sym (plain_alarms got) ∙ ap has_alarm (same ∙ board.told) ∙ any_on (told_in board.course) (Bye ∷ []) ∙ by_test (has_alarm (told_in board.course))
     ∙ course_so (opening board.first) board.last (items_in b.taken) [] board.course board.leads
   where
@@ -87,7 +87,7 @@ alarm_got b board got same =
 
 -- ---- the job
 
-module _ (h : HostDid) (b : BoardDid) (sent : List Sent) (board : BoardRan b) (connected : AreConnected h b) (same : without_reports h.got ≡ without_reports b.answered) (front : IsFrontOf sent h.stored h.marks) (awaits : AwaitsBanners h.stored h.marks h.at_got)
+module _ (room blocks : ℕ) (h : HostDid) (b : BoardDid) (sent : List Sent) (board : BoardRan blocks b) (connected : AreConnected room h b) (same : without_reports h.got ≡ without_reports b.answered) (front : IsFrontOf sent h.stored h.marks) (awaits : AwaitsBanners h.stored h.marks h.at_got)
     (waits : HasBanners h.marks h.at_got ⊎ IsAllOf sent h.stored h.marks) (greeted : is_sent_out h.shut h.got ≡ true → HasBanners h.marks h.at_got) (whole : is_sent_out h.shut h.got ≡ true → IsAllOf sent h.stored h.marks) where
   cut : EndAtMarks h.stored h.marks b.taken
   cut = cut_at_marks h.stored h.marks h.at_got (joined b.taken) b.at_answers b.loaded h.shut b.closed b.taken connected.link awaits board.ends
@@ -99,7 +99,7 @@ module _ (h : HostDid) (b : BoardDid) (sent : List Sent) (board : BoardRan b) (c
   one_reset = left_behind sent h.stored h.marks h.at_got (joined b.taken) b.at_answers b.loaded h.shut b.closed b.taken front connected.link awaits board.ends waits begins
 
   out : board.last.before.alarmed ≡ false → is_sent_out h.shut h.got ≡ true
-  out calm = ap (λ t. t && not (has_alarm h.got)) (connected.link.closes (board.closes calm)) ∙ ap not (alarm_got b board h.got same ∙ calm)
+  out calm = ap (λ t. t && not (has_alarm h.got)) (connected.link.closes (board.closes calm)) ∙ ap not (alarm_got blocks b board h.got same ∙ calm)
 
   all_taken : board.last.before.alarmed ≡ false → sent ≡ items_in b.taken
   all_taken calm =
@@ -124,17 +124,17 @@ module _ (h : HostDid) (b : BoardDid) (sent : List Sent) (board : BoardRan b) (c
 
 -- ---- all of it
 
-abbrev pub texts_fit : (job_was job_is : SourceState) (console_was console_is : SinkState) (end : HostEnd) (h : HostDid) (b : BoardDid) (p : PulseDid)
-    → (host : HasSent job_was job_is console_was console_is h end) → BoardRan b → PulseRan p → AreConnected h b → ArePassed b p → BeginsWith b.answered h.got → without_reports h.got ≡ without_reports b.answered
+abbrev pub texts_fit : (room blocks : ℕ) (job_was job_is : SourceState) (console_was console_is : SinkState) (end : HostEnd) (h : HostDid) (b : BoardDid) (p : PulseDid)
+    → (host : HasSent room job_was job_is console_was console_is h end) → BoardRan blocks b → PulseRan p → AreConnected room h b → ArePassed b p → BeginsWith b.answered h.got → without_reports h.got ≡ without_reports b.answered
     → FitsTexts (sent_of host.ran.lines host.rest) (slows_in host.ran.scanned) (without_byes h.got) p.put
-texts_fit job_was job_is console_was console_is end h b p host board pulse connected passed begins same = record {
+texts_fit room blocks job_was job_is console_was console_is end h b p host board pulse connected passed begins same = record {
   first = board.first;
   opens = board.opens;
   course = board.course;
   last = board.last;
-  follows = job_follows h b (sent_of host.ran.lines host.rest) board connected same host.sends.front host.sends.awaits host.sends.waits host.sends.greeted host.sends.whole;
+  follows = job_follows room blocks h b (sent_of host.ran.lines host.rest) board connected same host.sends.front host.sends.awaits host.sends.waits host.sends.greeted host.sends.whole;
   told = told_front board.course b.answered h.got begins same board.console;
-  recorded = put_recorded b p board pulse passed;
+  recorded = put_recorded blocks b p board pulse passed;
   few = (let a = board.few in
       let c = cancels_scanned host.ran.scanned h.raised host.ran.due host.ran.resumes host.ran.raises_so_far b.words connected.flags in
       omega (arith, a, c));

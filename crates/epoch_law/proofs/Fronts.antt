@@ -1,5 +1,5 @@
 -- Where each actor has ended, what one got is all that the other gave: its end is the last.
-use Rattle.std.proofs.Common.{◌≡◌, Bool, List, [], ◌∷◌, ◌++◌, sym, ap, ◌∙◌, subst, append-nil, append_assoc}
+use Rattle.std.proofs.Common.{◌≡◌, ℕ, Bool, List, [], ◌∷◌, ◌++◌, sym, ap, ◌∙◌, subst, append-nil, append_assoc}
 use Rattle.flight.specs.Places.{origin}
 use Rattle.outside.specs.Causes.{SourceState}
 use Rattle.run_law.specs.Fronts.{BeginsWith as Begins}
@@ -55,9 +55,9 @@ plain_no_byes (r ∷ rs) none = (none.0, plain_no_byes rs none.1)
 
 -- ---- a run
 
-module _ (form : Form) (job_was job_is : SourceState) (was is : Sinks) (end : HostEnd) (steps_failed : Bool) (h : HostDid) (b : BoardDid) (p : PulseDid) (records : List Record)
-    (host : HasSent job_was job_is was.console is.console h end) (board : BoardRan b) (pulse : PulseRan p) (recorder : RecorderRan form was.steps is.steps records steps_failed)
-    (connected : AreConnected h b) (passed : ArePassedSome b p) (some_replies : BeginsWith b.answered h.got) (some_records : BeginsWith p.put records) where
+module _ (room blocks : ℕ) (form : Form) (job_was job_is : SourceState) (was is : Sinks) (end : HostEnd) (steps_failed : Bool) (h : HostDid) (b : BoardDid) (p : PulseDid) (records : List Record)
+    (host : HasSent room job_was job_is was.console is.console h end) (board : BoardRan blocks b) (pulse : PulseRan p) (recorder : RecorderRan form was.steps is.steps records steps_failed)
+    (connected : AreConnected room h b) (passed : ArePassedSome b p) (some_replies : BeginsWith b.answered h.got) (some_records : BeginsWith p.put records) where
   told_none : NoByes (replies.Banner ∷ told_in board.course)
   told_none =
       let all : NoByes (replies.Banner ∷ board.console.behind) = subst NoByes board.console.begins (no_byes b.answered) in
@@ -79,7 +79,7 @@ module _ (form : Form) (job_was job_is : SourceState) (was is : Sinks) (end : Ho
 
   same_records : records ≡ p.put
   same_records =
-      records_whole p.put records (all_ended (parts_of board.course) origin p.put (one_end board.course) (put_recorded b p board pulse all_passed)) recorder.ended (as_front p.put records some_records)
+      records_whole p.put records (all_ended (parts_of board.course) origin p.put (one_end board.course) (put_recorded blocks b p board pulse all_passed)) recorder.ended (as_front p.put records some_records)
 
-  pub run_ended : (run : IsRun form job_was job_is was is (run_end end steps_failed)) × (run.scanned ≡ host.ran.scanned) × (run.replies ≡ h.got)
-  run_ended = run_made form job_was job_is was is end steps_failed h b p records host board pulse recorder connected all_passed some_replies same_replies same_records
+  pub run_ended : (run : IsRun room blocks form job_was job_is was is (run_end end steps_failed)) × (run.scanned ≡ host.ran.scanned) × (run.replies ≡ h.got)
+  run_ended = run_made room blocks form job_was job_is was is end steps_failed h b p records host board pulse recorder connected all_passed some_replies same_replies same_records

@@ -42,8 +42,8 @@ pulse_runs p h k fits = record { stretches = stretches_in h; last = pieces_since
 -- ---- the host
 
 -- the rest that was scanned is that of its lines
-rest_is : (h : Journal) → Conducted h → IsRest (scanned_of h) (cut_of h) (raw_of h)
-rest_is h c = by_cut (cut_is h c)
+rest_is : (room : ℕ) (h : Journal) → Conducted room h → IsRest (scanned_of h) (cut_of h) (raw_of h)
+rest_is room h c = by_cut (cut_is room h c)
   where
     by_cut : IsCut h → IsRest (scanned_of h) (cut_of h) (raw_of h)
     by_cut (inl is) = inl is
@@ -55,35 +55,35 @@ sent_shut true false e = (refl, refl)
 sent_shut true true e = absurd cc
 sent_shut false limit e = absurd cc
 
-pub host_sent : (h : Journal) (job_was job_is : SourceState) (console_was console_is : SinkState) → Conducted h → HasFinished h → TellsJob h job_was job_is → TellsConsole h console_was console_is
-    → (sent : HasSent job_was job_is console_was console_is (host_did h) (end_of h)) × (sent.ran.scanned ≡ scanned_of h)
-host_sent h job_was job_is console_was console_is c finished job console =
-    let ran = has_run_of h job_was job_is console_was console_is c finished job console in
-    let lines : ran.0.lines ≡ cut_of h = ran_lines h job_was job_is console_was console_is c finished job console in (
+pub host_sent : (room : ℕ) (h : Journal) (job_was job_is : SourceState) (console_was console_is : SinkState) → Conducted room h → HasFinished h → TellsJob h job_was job_is → TellsConsole h console_was console_is
+    → (sent : HasSent room job_was job_is console_was console_is (host_did h) (end_of h)) × (sent.ran.scanned ≡ scanned_of h)
+host_sent room h job_was job_is console_was console_is c finished job console =
+    let ran = has_run_of room h job_was job_is console_was console_is c finished job console in
+    let lines : ran.0.lines ≡ cut_of h = ran_lines room h job_was job_is console_was console_is c finished job console in (
       record {
         ran = ran.0;
         rest = raw_of h;
-        is_rest = subst (λ (s : List ℕ). IsRest s ran.0.lines (raw_of h)) (sym ran.1) (subst (λ (ls : List (List ℕ)). IsRest (scanned_of h) ls (raw_of h)) (sym lines) (rest_is h c));
+        is_rest = subst (λ (s : List ℕ). IsRest s ran.0.lines (raw_of h)) (sym ran.1) (subst (λ (ls : List (List ℕ)). IsRest (scanned_of h) ls (raw_of h)) (sym lines) (rest_is room h c));
         sends = subst (λ (ls : List (List ℕ)). Sends ls (raw_of h) (host_did h)) (sym lines) (record {
-          front = sends_front h c;
-          awaits = awaits h c;
-          waits = got_or_all h c;
-          greeted = λ out. let s = sent_shut (is_shut h) (has_limit h) out in all_got h c s.0 s.1;
-          whole = λ out. let s = sent_shut (is_shut h) (has_limit h) out in sends_all h c s.0 s.1;
+          front = sends_front room h c;
+          awaits = awaits room h c;
+          waits = got_or_all room h c;
+          greeted = λ out. let s = sent_shut (is_shut h) (has_limit h) out in all_got room h c s.0 s.1;
+          whole = λ out. let s = sent_shut (is_shut h) (has_limit h) out in sends_all room h c s.0 s.1;
         });
-        forgotten = ran_forgotten h job_was job_is console_was console_is c finished job console;
+        forgotten = ran_forgotten room h job_was job_is console_was console_is c finished job console;
       },
       ran.1,
     )
 
 -- before it is done
-pub host_sends : (h : Journal) (job_was job_is : SourceState) (console_was console_is : SinkState) → Conducted h → TellsJob h job_was job_is → TellsConsole h console_was console_is → Sending job_was job_is console_was console_is (host_did h)
-host_sends h job_was job_is console_was console_is c job console =
-    let of_host = runs_of h job_was job_is console_was console_is c job console in
+pub host_sends : (room : ℕ) (h : Journal) (job_was job_is : SourceState) (console_was console_is : SinkState) → Conducted room h → TellsJob h job_was job_is → TellsConsole h console_was console_is → Sending room job_was job_is console_was console_is (host_did h)
+host_sends room h job_was job_is console_was console_is c job console =
+    let of_host = runs_of room h job_was job_is console_was console_is c job console in
     record {
       runs = of_host.0;
       rest = raw_of h;
-      is_rest = subst (λ (s : List ℕ). IsRest s of_host.0.lines (raw_of h)) (sym of_host.1) (subst (λ (ls : List (List ℕ)). IsRest (scanned_of h) ls (raw_of h)) (sym of_host.2) (rest_is h c));
-      front = subst (λ (ls : List (List ℕ)). IsFrontOf (sent_of ls (raw_of h)) (stored_of h) (marks_of h)) (sym of_host.2) (sends_front h c);
-      awaits = awaits h c;
+      is_rest = subst (λ (s : List ℕ). IsRest s of_host.0.lines (raw_of h)) (sym of_host.1) (subst (λ (ls : List (List ℕ)). IsRest (scanned_of h) ls (raw_of h)) (sym of_host.2) (rest_is room h c));
+      front = subst (λ (ls : List (List ℕ)). IsFrontOf (sent_of ls (raw_of h)) (stored_of h) (marks_of h)) (sym of_host.2) (sends_front room h c);
+      awaits = awaits room h c;
     }

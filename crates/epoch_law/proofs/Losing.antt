@@ -1,7 +1,6 @@
 -- How many lines a course leaves without an answer, and how many Banners it tells.
 use Rattle.std.proofs.Common.{◌≡◌, ℕ, suc, ◌+◌, ◌≤◌, Bool, true, false, cond, List, [], ◌∷◌, ◌++◌, length, map, take, drop, length-append, length-take-le, refl, sym, ap, ◌∙◌, arith}
 use Rattle.std.proofs.lemmas.List.{length-map, take-append-drop}
-use Rattle.std.proofs.lemmas.List.Sums.{sum_by-append, sum_by-cons}
 use Rattle.run_rules.specs.declared.State.{State}
 use Rattle.run_rules.specs.Lines.{whole_lines}
 use Rattle.run_rules.specs.Work.{tells}
@@ -27,6 +26,7 @@ use Rattle.epoch_courses.proofs.Halted.{known_made}
 use Rattle.epoch_links.specs.Drops.{dropped_by, lines_among}
 use Rattle.epoch_law.specs.Ran.{lost_in}
 use Rattle.epoch_law.proofs.Dropping.{NoResets, answered_there}
+use Rattle.run_texts.proofs.Banners.{banners_first, banners_on}
 
 -- ---- by the numbers of lines
 
@@ -102,34 +102,34 @@ dropped_length n lines few =
     omega (arith, both, parts, first)
 
 -- what was passed of all epochs, and how many lines came to them
-closed_total : (state : State) (es : NewestFirst Closed) → AreClosed state es → length (lines_in (closed_course state es)) + lost_in (closed_course state es) ≡ texts (closed_texts es)
-closed_total state es c =
-    let leads = closed_lead state es [] c in
-    let n = numbers (opening state) (point_of (opening_behind state es)) _ [] (closed_course state es) leads in
-    let t = counted (opening state) (point_of (opening_behind state es)) _ [] (closed_course state es) leads in
+closed_total : (blocks : ℕ) (state : State) (es : NewestFirst Closed) → AreClosed blocks state es → length (lines_in (closed_course blocks state es)) + lost_in (closed_course blocks state es) ≡ texts (closed_texts es)
+closed_total blocks state es c =
+    let leads = closed_lead blocks state es [] c in
+    let n = numbers (opening state) (point_of (opening_behind blocks state es)) _ [] (closed_course blocks state es) leads in
+    let t = counted (opening state) (point_of (opening_behind blocks state es)) _ [] (closed_course blocks state es) leads in
     let none = texts_on (closed_texts es) [] in
     omega (arith, n, t, none)
 
-pub closed_lost : (state : State) (es : NewestFirst Closed) → AreClosed state es → lost_in (closed_course state es) ≡ lines_among (map dropped_by es)
-closed_lost state [] c = refl
-closed_lost state (e ∷ es) c =
+pub closed_lost : (blocks : ℕ) (state : State) (es : NewestFirst Closed) → AreClosed blocks state es → lost_in (closed_course blocks state es) ≡ lines_among (map dropped_by es)
+closed_lost blocks state [] c = refl
+closed_lost blocks state (e ∷ es) c =
     let made = made_at_halt (ticks_made es) e.work in
-    let first = opening_behind state es in
+    let first = opening_behind blocks state es in
     let passed = passed_at_reset made first e.journal in
     let lines = whole_lines (bytes_with e.journal e.work) in
     let r = reset_of (ticks_made es) first e.journal e.work in
-    let now = closed_total state (e ∷ es) c in
-    let before = closed_total state es c.1 in
-    let lost = lost_on (closed_course state es) (passed ++ a_reset r ∷ []) in
-    let many = lines_more (closed_course state es) (passed ++ a_reset r ∷ []) in
+    let now = closed_total blocks state (e ∷ es) c in
+    let before = closed_total blocks state es c.1 in
+    let lost = lost_on (closed_course blocks state es) (passed ++ a_reset r ∷ []) in
+    let many = lines_more (closed_course blocks state es) (passed ++ a_reset r ∷ []) in
     let passed_lost = lost_on passed (a_reset r ∷ []) in
     let passed_many = lines_more passed (a_reset r ∷ []) in
     let came = texts_on (closed_texts es) (texts_in (bytes_with e.journal e.work) ++ a_stop ∷ []) in
     let came_here = texts_on (texts_in (bytes_with e.journal e.work)) (a_stop ∷ []) in
     let own = texts_of lines in
-    let told = answered_there made first e c.0.resetting.epoch c.0.resetting.may (known_made state e es c) [] in
+    let told = answered_there made first e c.0.resetting.epoch c.0.resetting.may (known_made blocks state e es c) [] in
     let here = dropped_length (answers_in (answered_of e.journal)) lines (omega (arith, now, before, lost, many, passed_lost, passed_many, came, came_here, own, told)) in
-    let rest = closed_lost state es c.1 in
+    let rest = closed_lost blocks state es c.1 in
     omega (arith, now, before, lost, many, passed_lost, passed_many, came, came_here, own, told, here, rest)
 
 -- ---- the open epoch, where each line that was begun is answered
@@ -157,10 +157,10 @@ none_lost p last (a_stop ∷ sent) left (a_broken o ∷ ps) none f done = absurd
 none_lost p last (a_text line ∷ sent) left (a_broken o ∷ ps) none f done =
     absurd (let e = sym (still_open (behind_broken p o) last sent left ps none f.1 refl) ∙ done in cc)
 
-pub all_lost : (state : State) (es : NewestFirst Closed) (p last : Point) (sent left : List Sent) (ps : List Passed) → AreClosed state es → NoResets ps → LeadsTo p sent ps last left → last.unanswered ≡ false
-    → lost_in (closed_course state es ++ ps) ≡ lines_among (map dropped_by es)
-all_lost state es p last sent left ps c none f done =
-    let both = lost_on (closed_course state es) ps in let closed = closed_lost state es c in let rest = none_lost p last sent left ps none f done in omega (arith, both, closed, rest)
+pub all_lost : (blocks : ℕ) (state : State) (es : NewestFirst Closed) (p last : Point) (sent left : List Sent) (ps : List Passed) → AreClosed blocks state es → NoResets ps → LeadsTo p sent ps last left → last.unanswered ≡ false
+    → lost_in (closed_course blocks state es ++ ps) ≡ lines_among (map dropped_by es)
+all_lost blocks state es p last sent left ps c none f done =
+    let both = lost_on (closed_course blocks state es) ps in let closed = closed_lost blocks state es c in let rest = none_lost p last sent left ps none f done in omega (arith, both, closed, rest)
 
 -- ---- Banners
 
@@ -170,12 +170,6 @@ resets_passed (a_line o ∷ ps) = resets_passed ps
 resets_passed (a_broken o ∷ ps) = resets_passed ps
 resets_passed (a_cut k at ∷ ps) = resets_passed ps
 resets_passed (a_reset r ∷ ps) = resets_passed ps + 1
-
-banners_on : (xs ys : List Reply) → banners_in (xs ++ ys) ≡ banners_in xs + banners_in ys
-banners_on xs ys = sum_by-append (λ (r : Reply). cond (is_banner r) 1 0) xs ys
-
-banners_first : (r : Reply) (rs : List Reply) → banners_in (r ∷ rs) ≡ cond (is_banner r) 1 0 + banners_in rs
-banners_first r rs = sum_by-cons (λ (x : Reply). cond (is_banner x) 1 0) r rs
 
 not_banner : (r : Reply) → opens r ≡ false → ◌≡◌ {A = ℕ} (cond (is_banner r) 1 0) 0
 not_banner replies.Banner e = absurd cc
@@ -225,23 +219,23 @@ no_resets (a_cut k at ∷ ps) none = no_resets ps none
 no_resets (a_reset r ∷ ps) none = absurd none
 
 -- each epoch that is closed is passed by one reset
-closed_resets : (state : State) (es : NewestFirst Closed) → ((made : ℕ) (e : Closed) (es : NewestFirst Closed) → NoResets (passed_at_reset made (opening_behind state es) e.journal)) → resets_passed (closed_course state es) ≡ length es
-closed_resets state [] none = refl
-closed_resets state (e ∷ es) none =
-    let passed = passed_at_reset (made_at_halt (ticks_made es) e.work) (opening_behind state es) e.journal in
-    let r = reset_of (ticks_made es) (opening_behind state es) e.journal e.work in
-    let both = resets_on (closed_course state es) (passed ++ a_reset r ∷ []) in
+closed_resets : (blocks : ℕ) (state : State) (es : NewestFirst Closed) → ((made : ℕ) (e : Closed) (es : NewestFirst Closed) → NoResets (passed_at_reset made (opening_behind blocks state es) e.journal)) → resets_passed (closed_course blocks state es) ≡ length es
+closed_resets blocks state [] none = refl
+closed_resets blocks state (e ∷ es) none =
+    let passed = passed_at_reset (made_at_halt (ticks_made es) e.work) (opening_behind blocks state es) e.journal in
+    let r = reset_of (ticks_made es) (opening_behind blocks state es) e.journal e.work in
+    let both = resets_on (closed_course blocks state es) (passed ++ a_reset r ∷ []) in
     let here = resets_on passed (a_reset r ∷ []) in
     let zero = no_resets passed (none (made_at_halt (ticks_made es) e.work) e es) in
-    let rest = closed_resets state es none in
+    let rest = closed_resets blocks state es none in
     omega (arith, both, here, zero, rest)
 
-pub all_banners : (state : State) (es : NewestFirst Closed) (p last : Point) (sent left : List Sent) (ps : List Passed) → ((made : ℕ) (e : Closed) (es : NewestFirst Closed) → NoResets (passed_at_reset made (opening_behind state es) e.journal)) → NoResets ps
-    → LeadsTo p sent (closed_course state es ++ ps) last left → banners_in (told_in (closed_course state es ++ ps)) ≡ length (map dropped_by es)
-all_banners state es p last sent left ps each none f =
-    let told = course_banners p last sent left (closed_course state es ++ ps) f in
-    let both = resets_on (closed_course state es) ps in
-    let closed = closed_resets state es each in
+pub all_banners : (blocks : ℕ) (state : State) (es : NewestFirst Closed) (p last : Point) (sent left : List Sent) (ps : List Passed) → ((made : ℕ) (e : Closed) (es : NewestFirst Closed) → NoResets (passed_at_reset made (opening_behind blocks state es) e.journal)) → NoResets ps
+    → LeadsTo p sent (closed_course blocks state es ++ ps) last left → banners_in (told_in (closed_course blocks state es ++ ps)) ≡ length (map dropped_by es)
+all_banners blocks state es p last sent left ps each none f =
+    let told = course_banners p last sent left (closed_course blocks state es ++ ps) f in
+    let both = resets_on (closed_course blocks state es) ps in
+    let closed = closed_resets blocks state es each in
     let rest = no_resets ps none in
     let same = length-map es dropped_by in
     omega (arith, told, both, closed, rest, same)

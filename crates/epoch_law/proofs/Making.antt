@@ -1,5 +1,5 @@
 -- Four actors make a run.
-use Rattle.std.proofs.Common.{◌≡◌, ◌+◌, Bool, true, false, cond, List, [], ◌∷◌, ◌++◌, refl, sym, ap, ◌∙◌, subst, arith}
+use Rattle.std.proofs.Common.{◌≡◌, ℕ, ◌+◌, Bool, true, false, cond, List, [], ◌∷◌, ◌++◌, refl, sym, ap, ◌∙◌, subst, arith}
 use Rattle.std.proofs.lemmas.List.Sums.{sum_by-append}
 use Rattle.board_rules.proofs.Plain.{answers_without}
 use Rattle.flight.specs.Places.{origin}
@@ -15,7 +15,7 @@ use Rattle.run_texts.specs.Parts.{parts_of}
 use Rattle.run_texts.specs.Points.{opening}
 use Rattle.run_texts.specs.Sent.{Sent, sent_of}
 use Rattle.run_texts.specs.Told.{told_in, has_alarm}
-use Rattle.status_report.specs.Answering.{receive_room, answers_in, without_reports}
+use Rattle.status_report.specs.Answering.{answers_in, without_reports}
 use Rattle.status_report.specs.declared.Reply.{Reply}
 use Rattle.status_report.specs.declared.Reply.TheVariants.{Banner, Bye}
 use Rattle.status_report.proofs.Answered.{answers_on}
@@ -37,23 +37,23 @@ use Rattle.epoch_law.proofs.Sending.{cancels_scanned, reports_scanned, epochs_sc
 errors_on : (rs ss : List Reply) → errors_among (rs ++ ss) ≡ errors_among rs + errors_among ss
 errors_on rs ss = sum_by-append (λ s. cond (is_error s) 1 0) rs ss
 
-module _ (form : Form) (job_was job_is : SourceState) (was is : Sinks) (end : HostEnd) (steps_failed : Bool) (h : HostDid) (b : BoardDid) (p : PulseDid) (records : List Record)
-    (host : HasSent job_was job_is was.console is.console h end) (board : BoardRan b) (pulse : PulseRan p) (recorder : RecorderRan form was.steps is.steps records steps_failed)
-    (connected : AreConnected h b) (passed : ArePassed b p) (begins : BeginsWith b.answered h.got) (same_replies : without_reports h.got ≡ without_reports b.answered) (same_records : records ≡ p.put) where
+module _ (room blocks : ℕ) (form : Form) (job_was job_is : SourceState) (was is : Sinks) (end : HostEnd) (steps_failed : Bool) (h : HostDid) (b : BoardDid) (p : PulseDid) (records : List Record)
+    (host : HasSent room job_was job_is was.console is.console h end) (board : BoardRan blocks b) (pulse : PulseRan p) (recorder : RecorderRan form was.steps is.steps records steps_failed)
+    (connected : AreConnected room h b) (passed : ArePassed b p) (begins : BeginsWith b.answered h.got) (same_replies : without_reports h.got ≡ without_reports b.answered) (same_records : records ≡ p.put) where
   abbrev sent : List Sent
   sent = sent_of host.ran.lines host.rest
 
   abbrev more : List Sent
-  more = (more_comes h b sent board connected same_replies host.sends.front host.sends.awaits host.sends.waits host.sends.greeted host.sends.whole).rest
+  more = (more_comes room blocks h b sent board connected same_replies host.sends.front host.sends.awaits host.sends.waits host.sends.greeted host.sends.whole).rest
 
   sent_is : sent ≡ items_in b.taken ++ more
-  sent_is = (more_comes h b sent board connected same_replies host.sends.front host.sends.awaits host.sends.waits host.sends.greeted host.sends.whole).is
+  sent_is = (more_comes room blocks h b sent board connected same_replies host.sends.front host.sends.awaits host.sends.waits host.sends.greeted host.sends.whole).is
 
   alarm : has_alarm h.got ≡ board.last.before.alarmed
-  alarm = alarm_got b board h.got same_replies
+  alarm = alarm_got blocks b board h.got same_replies
 
   sent_out : has_alarm h.got ≡ false → is_sent_out h.shut h.got ≡ true
-  sent_out calm = is_out h b sent board connected same_replies host.sends.front host.sends.awaits host.sends.waits host.sends.greeted host.sends.whole (sym alarm ∙ calm)
+  sent_out calm = is_out room blocks h b sent board connected same_replies host.sends.front host.sends.awaits host.sends.waits host.sends.greeted host.sends.whole (sym alarm ∙ calm)
 
   told : without_reports h.got ≡ Banner ∷ (told_in board.course ++ Bye ∷ [])
   told = same_replies ∙ board.told
@@ -64,7 +64,7 @@ module _ (form : Form) (job_was job_is : SourceState) (was is : Sinks) (end : Ho
   errors : errors_among h.got ≡ errors_among (told_in board.course)
   errors = let a = errors_without h.got in let t = ap errors_among told in let o = errors_on (told_in board.course) (Bye ∷ []) in omega (arith, a, t, o)
 
-  abbrev sending : IsScannedAndSent job_was job_is (run_end end steps_failed) host.ran.read host.ran.reading host.ran.scanned host.ran.lines host.rest h.got
+  abbrev sending : IsScannedAndSent room job_was job_is (run_end end steps_failed) host.ran.read host.ran.reading host.ran.scanned host.ran.lines host.rest h.got
   sending = record {
     taken = host.ran.taken;
     at_end = host.ran.at_end;
@@ -92,12 +92,12 @@ module _ (form : Form) (job_was job_is : SourceState) (was is : Sinks) (end : Ho
         console = host.ran.console;
       }
 
-  recording : IsRunAndRecorded form was is (run_end end steps_failed) board.course board.drives board.epochs p.put
+  recording : IsRunAndRecorded blocks form was is (run_end end steps_failed) board.course board.drives board.epochs p.put
   recording = record {
     driven = board.driven;
     run = board.run;
-    put = put_of_epochs b p board pulse passed;
-    ended = all_ended (parts_of board.course) origin p.put (one_end board.course) (put_recorded b p board pulse passed);
+    put = put_of_epochs blocks b p board pulse passed;
+    ended = all_ended (parts_of board.course) origin p.put (one_end board.course) (put_recorded blocks b p board pulse passed);
     steps = subst (λ (rs : List Record). Took was.steps is.steps steps_failed (text_in form rs)) same_records recorder.steps;
   }
 
@@ -118,25 +118,25 @@ module _ (form : Form) (job_was job_is : SourceState) (was is : Sinks) (end : Ho
         let c = reports_scanned host.ran.scanned h.raised host.ran.due host.ran.resumes host.ran.raises_so_far b.words connected.flags in omega (arith, a, s, c));
   }
 
-  causes : HasCauses board.first sent board.course
+  causes : HasCauses room board.first sent board.course
   causes = record {
     cuts = subst (λ (ss : List Sent). CutsHaveCauses (opening board.first) ss board.course) (sym sent_is)
         (causes_with_more (opening board.first) board.last (items_in b.taken) [] more board.course board.leads board.causes);
-    drops = subst (λ (ss : List Sent). DropsAreFew receive_room 0 ss board.course) (sym sent_is)
-        (drops_with_more receive_room 0 (opening board.first) board.last (items_in b.taken) [] more board.course board.leads (board.drops receive_room connected.few));
+    drops = subst (λ (ss : List Sent). DropsAreFew room 0 ss board.course) (sym sent_is)
+        (drops_with_more room 0 (opening board.first) board.last (items_in b.taken) [] more board.course board.leads (board.drops room connected.few));
   }
 
   ending : HasEnded job_was job_is (run_end end steps_failed) host.ran.reading host.ran.scanned host.ran.forgotten board.course h.got
   ending = record {
     lost = board.lost ∙ sym (connected.lost (banners_got h.got (told_in board.course) told ∙ ap (λ n. n + 1) board.greets)) ∙ sym host.forgotten;
     stop = host.ran.stop;
-    greeted = λ calm. each_greeted job_was job_is was.console is.console h end host.ran (told_in board.course) (sent_out calm) told;
+    greeted = λ calm. each_greeted room job_was job_is was.console is.console h end host.ran (told_in board.course) (sent_out calm) told;
     failed = host.ran.failed;
     source = host.ran.source;
     source_same = host.ran.source_same;
   }
 
-  pub run_made : (run : IsRun form job_was job_is was is (run_end end steps_failed)) × (run.scanned ≡ host.ran.scanned) × (run.replies ≡ h.got)
+  pub run_made : (run : IsRun room blocks form job_was job_is was is (run_end end steps_failed)) × (run.scanned ≡ host.ran.scanned) × (run.replies ≡ h.got)
   run_made = (
     record {
       read = host.ran.read;
@@ -150,7 +150,7 @@ module _ (form : Form) (job_was job_is : SourceState) (was is : Sinks) (end : Ho
       epochs = board.epochs;
       effects = board.effects;
       sending = sending;
-      fits = texts_fit job_was job_is was.console is.console end h b p host board pulse connected passed begins same_replies;
+      fits = texts_fit room blocks job_was job_is was.console is.console end h b p host board pulse connected passed begins same_replies;
       telling = telling;
       recording = recording;
       doing = doing;

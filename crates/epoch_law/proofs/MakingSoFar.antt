@@ -10,7 +10,6 @@ use Rattle.run_texts.specs.Parts.{parts_of}
 use Rattle.run_texts.specs.Points.{opening}
 use Rattle.run_texts.specs.Sent.{Sent, sent_of}
 use Rattle.run_texts.specs.SoFar.{FitsSoFar}
-use Rattle.status_report.specs.Answering.{receive_room}
 use Rattle.status_report.specs.declared.Reply.{Reply}
 use Rattle.step_line.specs.Asking.{ticks_among}
 use Rattle.step_line.specs.declared.Piece.{Piece}
@@ -35,9 +34,9 @@ use Rattle.epoch_law.proofs.Causing.{causes_with_more, drops_with_more}
 use Rattle.epoch_law.proofs.Sending.{cancels_scanned, reports_scanned, epochs_scanned, all_cancels, all_asked}
 use Rattle.epoch_law.proofs.SoFar.{texts_so_far}
 
-module _ (form : Form) (job_was job_is : SourceState) (was is : Sinks) (h : HostDid) (b : BoardDid) (p : PulseDid) (taken : List Record)
-    (host : Sending job_was job_is was.console is.console h) (board : BoardRuns (length (ticks_among p.put)) b) (pulse : PulseRuns p) (recorder : RecorderRuns form was.steps is.steps taken)
-    (connected : AreConnected h b) (passed : ArePassedSoFar (length (ticks_among p.put)) b p) (some_replies : BeginsWith b.answered h.got) (some_records : BeginsWith p.put taken) where
+module _ (room blocks : ℕ) (form : Form) (job_was job_is : SourceState) (was is : Sinks) (h : HostDid) (b : BoardDid) (p : PulseDid) (taken : List Record)
+    (host : Sending room job_was job_is was.console is.console h) (board : BoardRuns blocks (length (ticks_among p.put)) b) (pulse : PulseRuns p) (recorder : RecorderRuns form was.steps is.steps taken)
+    (connected : AreConnected room h b) (passed : ArePassedSoFar (length (ticks_among p.put)) b p) (some_replies : BeginsWith b.answered h.got) (some_records : BeginsWith p.put taken) where
   abbrev sent : List Sent
   sent = sent_of host.runs.lines host.rest
 
@@ -59,9 +58,9 @@ module _ (form : Form) (job_was job_is : SourceState) (was is : Sinks) (h : Host
   put_are = by_pieces passed
 
   abbrev fits : FitsSoFar sent (slows_in host.runs.scanned) (without_byes h.got) put_are.made
-  fits = texts_so_far job_was job_is was.console is.console h b ticks put_are.made host board connected some_replies (made_so_far (parts_of board.course) origin epochs put_are.made board.run put_are.are)
+  fits = texts_so_far room blocks job_was job_is was.console is.console h b ticks put_are.made host board connected some_replies (made_so_far (parts_of board.course) origin epochs put_are.made board.run put_are.are)
 
-  sending : IsScannedSoFar job_was job_is host.runs.read host.runs.reading host.runs.scanned host.runs.lines host.rest h.got
+  sending : IsScannedSoFar room job_was job_is host.runs.read host.runs.reading host.runs.scanned host.runs.lines host.rest h.got
   sending = record {
     taken = host.runs.taken;
     sent = subst (λ (stop : Stop). IsSentSoFar host.runs.read host.runs.reading host.runs.scanned host.runs.lines stop) host.runs.sent.cause host.runs.sent;
@@ -76,7 +75,7 @@ module _ (form : Form) (job_was job_is : SourceState) (was is : Sinks) (h : Host
   telling : IsToldSoFar was is board.course b.answered h.got
   telling = record { told = board.told; got_of = some_replies; failed = host.runs.failed; waiting = host.runs.waiting; console = host.runs.console }
 
-  recording : IsRecordedSoFar form was is board.course board.drives epochs p.put taken
+  recording : IsRecordedSoFar blocks form was is board.course board.drives epochs p.put taken
   recording = record { driven = board.driven; run = board.run; taken_of = some_records; failed = recorder.failed; waiting = recorder.waiting; steps = recorder.steps }
 
   doing : HasEffects host.runs.scanned board.first board.course board.drives epochs h.got board.effects
@@ -102,15 +101,15 @@ module _ (form : Form) (job_was job_is : SourceState) (was is : Sinks) (h : Host
   more : BeginsWith sent (items_in b.taken)
   more = fronts sent h.stored h.marks h.at_got (joined b.taken) b.at_answers b.loaded h.shut b.closed b.taken host.front connected.link board.ends cut
 
-  causes : HasCauses board.first sent board.course
+  causes : HasCauses room board.first sent board.course
   causes = record {
     cuts = subst (λ (ss : List Sent). CutsHaveCauses (opening board.first) ss board.course) (sym more.is)
         (causes_with_more (opening board.first) board.point (items_in b.taken) board.left more.rest board.course board.leads board.causes);
-    drops = subst (λ (ss : List Sent). DropsAreFew receive_room 0 ss board.course) (sym more.is)
-        (drops_with_more receive_room 0 (opening board.first) board.point (items_in b.taken) board.left more.rest board.course board.leads (board.drops receive_room connected.few));
+    drops = subst (λ (ss : List Sent). DropsAreFew room 0 ss board.course) (sym more.is)
+        (drops_with_more room 0 (opening board.first) board.point (items_in b.taken) board.left more.rest board.course board.leads (board.drops room connected.few));
   }
 
-  pub runs_so_far : IsSoFar form job_was job_is was is
+  pub runs_so_far : IsSoFar room blocks form job_was job_is was is
   runs_so_far = record {
     read = host.runs.read;
     reading = host.runs.reading;

@@ -5,8 +5,7 @@ use Rattle.std.proofs.lemmas.List.{length-append, length-map, length-reverse}
 use Rattle.std.proofs.lemmas.List.Sums.{sum_by-cons, sum_by-append}
 use Rattle.outside.specs.Causes.{SourceState, SinkState}
 use Rattle.run_rules.specs.Lines.{lines_of}
-use Rattle.stream_host.specs.Epochs.{Epoch, AreEnds}
-use Rattle.status_report.specs.Answering.{is_banner, is_plain, without_reports}
+use Rattle.status_report.specs.Answering.{is_banner, without_reports}
 use Rattle.status_report.specs.declared.Reply.{Reply}
 use Rattle.status_report.specs.declared.Reply.TheVariants.{Banner, Bye}
 use Rattle.status_report.specs.declared.Reply.TheVariants as replies
@@ -14,6 +13,8 @@ use Rattle.stream_host.specs.Jobs.{is_reset, served, marks_at, marks_behind, sen
 use Rattle.stream_host.specs.Links.{banners_in}
 use Rattle.stream_host.specs.Ran.{HostEnd, HostRan, is_sent_out}
 use Rattle.epoch_law.specs.Ran.{HostDid}
+use Rattle.run_texts.proofs.Banners.{reports_no_banners, banners_first}
+use Rattle.epoch_links.proofs.Forgetting.{length-ended}
 
 -- ---- the marks are as many as the resets
 
@@ -36,45 +37,22 @@ marks_count bytes (line ∷ lines) =
     let s = sum_by-append (λ x. cond (is_reset x) 1 0) (served line) (flat_map served lines) in
     omega (arith, a, b, c, i, s)
 
-ends_count : (marks : List ℕ) (ended : List Epoch) → AreEnds marks ended → length marks ≡ length ended
-ends_count [] [] are = refl
-ends_count [] (e ∷ es) are = absurd are
-ends_count (m ∷ ms) [] are = absurd are
-ends_count (m ∷ ms) (e ∷ es) are = let i = ends_count ms es are.1 in omega (arith, i)
-
 -- ---- the Banners
-
-banners_first : (r : Reply) (rs : List Reply) → banners_in (r ∷ rs) ≡ cond (is_banner r) 1 0 + banners_in rs
-banners_first r rs = sum_by-cons (λ (x : Reply). cond (is_banner x) 1 0) r rs
-
-report_no_banner : (r : Reply) → is_plain r ≡ false → ◌≡◌ {A = ℕ} (cond (is_banner r) 1 0) 0
-report_no_banner (replies.Report t) e = refl
-report_no_banner _ e = absurd cc
-
--- reports are no Banners
-plain_banners : (rs : List Reply) → banners_in (without_reports rs) ≡ banners_in rs
-plain_banners [] = refl
-plain_banners (r ∷ rs) = by_test (is_plain r) refl (banners_first r rs) (banners_first r (without_reports rs)) (plain_banners rs)
-  where
-    by_test : (t : Bool) → is_plain r ≡ t → banners_in (r ∷ rs) ≡ cond (is_banner r) 1 0 + banners_in rs → banners_in (r ∷ without_reports rs) ≡ cond (is_banner r) 1 0 + banners_in (without_reports rs)
-        → banners_in (without_reports rs) ≡ banners_in rs → banners_in (cond t (r ∷ without_reports rs) (without_reports rs)) ≡ banners_in (r ∷ rs)
-    by_test true e all plain same = omega (arith, all, plain, same)
-    by_test false e all plain same = omega (arith, all, same, report_no_banner r e)
 
 -- where a course was told behind the banner, and Bye behind it, a Banner of each of its resets was got, and the first
 pub banners_got : (rs told : List Reply) → without_reports rs ≡ Banner ∷ (told ++ Bye ∷ []) → banners_in rs ≡ banners_in told + 1
 banners_got rs told is =
-    let plain = plain_banners rs in
+    let plain = reports_no_banners rs in
     let all = ap banners_in is in
     let first : banners_in (Banner ∷ (told ++ Bye ∷ [])) ≡ 1 + banners_in (told ++ Bye ∷ []) = banners_first Banner (told ++ Bye ∷ []) in
     let both : banners_in (told ++ Bye ∷ []) ≡ banners_in told + 0 = sum_by-append (λ (r : Reply). cond (is_banner r) 1 0) told (Bye ∷ []) in
     omega (arith, plain, all, first, both)
 
 -- so each reset has one, behind the first
-pub each_greeted : (job_was job_is : SourceState) (console_was console_is : SinkState) (h : HostDid) (end : HostEnd) (ran : HostRan job_was job_is console_was console_is h.stored h.marks h.shut h.raised h.got end) (told : List Reply)
+pub each_greeted : (room : ℕ) (job_was job_is : SourceState) (console_was console_is : SinkState) (h : HostDid) (end : HostEnd) (ran : HostRan room job_was job_is console_was console_is h.stored h.marks h.shut h.raised h.got end) (told : List Reply)
     → is_sent_out h.shut h.got ≡ true → without_reports h.got ≡ Banner ∷ (told ++ Bye ∷ []) → banners_in h.got ≡ resets_scanned ran.scanned + 1
-each_greeted job_was job_is console_was console_is h end ran said out told =
-    let ends = ends_count h.marks ran.ended (ran.all_ended out) in
+each_greeted room job_was job_is console_was console_is h end ran said out told =
+    let ends = length-ended h.marks ran.ended (ran.all_ended out) in
     let marks = ap length (ran.all_marked out) in
     let long = length-reverse h.marks in
     let count = marks_count 0 (lines_of ran.scanned) in

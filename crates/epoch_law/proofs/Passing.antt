@@ -17,13 +17,13 @@ use Rattle.epoch_law.specs.Joined.{ArePassedSoFar, ArePiecesPassed, HasHaltedUns
 use Rattle.epoch_law.specs.Journals.{board_did, pulse_did}
 
 -- so many ticks are put in all: no fewer than the board knows of, and no more than it has published
-pub record ArePut (state : State) (es : Epochs) (h : PieceLog) (k : RecordLog) : Type 0 where
+pub record ArePut (blocks : ℕ) (state : State) (es : Epochs) (h : PieceLog) (k : RecordLog) : Type 0 where
   pub known : known_in (log_of es) ≤ length (ticks_among (records_put k))
   pub within : length (ticks_among (records_put k)) ≤ ticks_published (sent_in (log_of es))
   pub passed : ArePassedSoFar (length (ticks_among (records_put k))) (board_did es) (pulse_did h k)
 
-pub pieces_passed : (state : State) (es : Epochs) (p : Pulsing) (h : PieceLog) (k : RecordLog) → AreEpochs state es → PulseFits p h k → ArePiecesPassed (sent_in (log_of es)) (known_in (log_of es)) h → ArePut state es h k
-pieces_passed state es p h k c fits ring = record {
+pub pieces_passed : (blocks : ℕ) (state : State) (es : Epochs) (p : Pulsing) (h : PieceLog) (k : RecordLog) → AreEpochs blocks state es → PulseFits p h k → ArePiecesPassed (sent_in (log_of es)) (known_in (log_of es)) h → ArePut blocks state es h k
+pieces_passed blocks state es p h k c fits ring = record {
   known = (let a = ticks_length (records_put k) in let t = fits.ticks in let n = ring.known_is in omega (arith, a, t, n));
   within = (let a = ticks_length (records_put k) in let t = fits.ticks in let l = fits.left in let w = ring.within in omega (arith, a, t, l, w));
   passed = by_halts ring.halts;
@@ -41,7 +41,7 @@ pieces_passed state es p h k c fits ring = record {
         let seen = halts_seen (sent_in (log_of es)) in
         let all = published_in (sent_in (log_of es)) in
         inr (record {
-          stops = stopping_there state es c unseen.waits;
+          stops = stopping_there blocks state es c unseen.waits;
           all = ap reverse (sym unseen.all);
           halts_are = subst (λ (n : ℕ). AreSameHalts ((n, length (ticks_among (records_put k))) ∷ seen) (halts_of h)) (sym (length-reverse all))
               (subst (λ (n : ℕ). AreSameHalts ((length all, n) ∷ seen) (halts_of h)) (unseen_ticks unseen) unseen.halts_are);

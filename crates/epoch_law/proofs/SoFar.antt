@@ -46,10 +46,10 @@ got_begins answered got b begins =
 
 -- ---- the texts
 
-abbrev pub texts_so_far : (job_was job_is : SourceState) (console_was console_is : SinkState) (h : HostDid) (b : BoardDid) (ticks : ℕ) (records : List Record)
-    → (host : Sending job_was job_is console_was console_is h) → (board : BoardRuns ticks b) → AreConnected h b → BeginsWith b.answered h.got → AreMadeSoFar origin (parts_of board.course) records
+abbrev pub texts_so_far : (room blocks : ℕ) (job_was job_is : SourceState) (console_was console_is : SinkState) (h : HostDid) (b : BoardDid) (ticks : ℕ) (records : List Record)
+    → (host : Sending room job_was job_is console_was console_is h) → (board : BoardRuns blocks ticks b) → AreConnected room h b → BeginsWith b.answered h.got → AreMadeSoFar origin (parts_of board.course) records
     → FitsSoFar (sent_of host.runs.lines host.rest) (slows_in host.runs.scanned) (without_byes h.got) records
-texts_so_far job_was job_is console_was console_is h b ticks records host board connected front made =
+texts_so_far room blocks job_was job_is console_was console_is h b ticks records host board connected front made =
     let sent = sent_of host.runs.lines host.rest in
     let cut : EndAtMarks h.stored h.marks b.taken = cut_at_marks h.stored h.marks h.at_got (joined b.taken) b.at_answers b.loaded h.shut b.closed b.taken connected.link host.awaits board.ends in
     let begins : BeginsWith sent (items_in b.taken) = fronts sent h.stored h.marks h.at_got (joined b.taken) b.at_answers b.loaded h.shut b.closed b.taken host.front connected.link board.ends cut in

@@ -1,8 +1,7 @@
 -- How what the actors have done goes together.
-use Rattle.std.specs.Prelude.{◌≡◌, ◌⊎◌, ℕ, ◌+◌, ◌≤◌, Bool, true, List, ◌∷◌, ◌++◌, length}
+use Rattle.std.specs.Prelude.{◌≡◌, ◌⊎◌, ℕ, ◌+◌, ◌≤◌, true, List, ◌∷◌, ◌++◌, length}
 use Rattle.std.specs.List.{AllByRecursion}
 use Rattle.run_rules.specs.Lines.{ended}
-use Rattle.status_report.specs.Answering.{receive_room}
 use Rattle.epoch_links.specs.Drops.{lines_among}
 use Rattle.epoch_links.specs.Links.{AreLinked}
 use Rattle.epoch_links.specs.Pieces.{joined}
@@ -23,8 +22,7 @@ use Rattle.epoch_law.specs.Ran.{HostDid, BoardDid, PulseDid}
 
 -- what was taken of words of flags was raised
 pub record AreRaisedFor (raised : List ℕ) (w : WordsTaken) : Type 0 where
-  pub reset : Bool
-  pub taken : AreTaken raised w.held w.slowed w.changed reset w.asked w.cancels
+  pub taken : AreTaken raised w
   pub changes : AreAskedIn raised w.changes
 
 -- The pieces of a ring: those published are those that the pulse got or dropped; and the halts that it stored are those that were seen.
@@ -33,12 +31,12 @@ pub record ArePassed (b : BoardDid) (p : PulseDid) : Type 0 where
   pub halts : AreSameHalts b.halts p.halts
 
 -- Host and board by their link and the flags: what goes over the link goes together; what was taken of flags was raised; and the lines that
--- each reset leaves without an answer take 128 bytes at most, each with its LF. If the Banner of each was got, the host has forgotten as
--- many lines.
-pub record AreConnected (h : HostDid) (b : BoardDid) : Type 0 where
+-- each reset leaves without an answer take no more bytes than the link has room for, each with its LF. If the Banner of each was got,
+-- the host has forgotten as many lines.
+pub record AreConnected (room : ℕ) (h : HostDid) (b : BoardDid) : Type 0 where
   pub link : AreLinked h.stored h.marks h.at_got h.shut (joined b.taken) b.loaded b.at_answers b.closed
   pub flags : AreRaisedFor h.raised b.words
-  pub few : AllByRecursion (λ ls. length (ended ls) ≤ receive_room) b.dropped
+  pub few : AllByRecursion (λ ls. length (ended ls) ≤ room) b.dropped
   pub lost : banners_in h.got ≡ length b.dropped + 1 → h.forgotten ≡ lines_among b.dropped
 
 -- The pieces of a ring, where some may not have come to the pulse: it got or dropped the first of those published.

@@ -71,8 +71,8 @@ pub record Sends (lines : List (List ℕ)) (rest : List ℕ) (d : HostDid) : Typ
   pub whole : is_sent_out d.shut d.got ≡ true → IsAllOf (sent_of lines rest) d.stored d.marks
 
 -- A host has run over epochs.
-pub record HasSent (job_was job_is : SourceState) (console_was console_is : SinkState) (d : HostDid) (end : HostEnd) : Type 0 where
-  pub ran : HostRan job_was job_is console_was console_is d.stored d.marks d.shut d.raised d.got end
+pub record HasSent (room : ℕ) (job_was job_is : SourceState) (console_was console_is : SinkState) (d : HostDid) (end : HostEnd) : Type 0 where
+  pub ran : HostRan room job_was job_is console_was console_is d.stored d.marks d.shut d.raised d.got end
   pub rest : List ℕ
   pub is_rest : IsRest ran.scanned ran.lines rest
   pub sends : Sends ran.lines rest d
@@ -111,13 +111,13 @@ AreMade (e ∷ es) (d ∷ ds) = (e.made ≡ d.done) × (flat_map ticks_of e.piec
 AreMade [] (d ∷ ds) = ⊥
 AreMade (e ∷ es) [] = ⊥
 
--- A board has run over epochs. What it took has taken a course to its end: each line was begun that it took, and each but one that a reset
+-- A board has run over epochs, with a plan of so many blocks. What it took has taken a course to its end: each line was begun that it took, and each but one that a reset
 -- has broken off is answered; each reset drops the lines of its epoch that have no answer, and each cut has a jog as its cause. It has
 -- answered what the course tells, the banner first and Bye last, with reports among that. For each part of the course the planner was given
 -- what its lines ask for; epochs were run for the parts, and these were published, the last with the end. It has ended an epoch for each
 -- reset, whose Banner the course tells, and the lines that these left without an answer are those that the course has lost. What words of
 -- flags have done in each epoch is as they were taken. Unless a line has raised an alarm, it found the link closed.
-pub record BoardRan (d : BoardDid) : Type 0 where
+pub record BoardRan (blocks : ℕ) (d : BoardDid) : Type 0 where
   pub first : State
   pub opens : IsOpening first
   pub course : List Passed
@@ -133,7 +133,7 @@ pub record BoardRan (d : BoardDid) : Type 0 where
   pub console : IsTold course (without_byes d.answered)
   pub told : without_reports d.answered ≡ Banner ∷ (told_in course ++ Bye ∷ [])
   pub drives : List Driven
-  pub driven : AreDriven true origin fresh_plan (parts_of course) drives
+  pub driven : AreDriven blocks true origin fresh_plan (parts_of course) drives
   pub epochs : List Epoch
   pub run : AreRun (parts_of course) origin epochs
   pub over : AreOver epochs

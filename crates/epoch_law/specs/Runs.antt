@@ -20,7 +20,7 @@ use Rattle.run_texts.specs.Parts.{parts_of}
 use Rattle.run_texts.specs.Points.{Point, opening}
 use Rattle.run_texts.specs.Sent.{Sent, sent_of}
 use Rattle.run_texts.specs.Told.{told_in, banners_in, has_alarm}
-use Rattle.status_report.specs.Answering.{receive_room, answers_in, without_reports}
+use Rattle.status_report.specs.Answering.{answers_in, without_reports}
 use Rattle.status_report.specs.declared.Reply.{Reply}
 use Rattle.status_report.specs.declared.Reply.TheVariants.{Banner, Bye}
 use Rattle.step_line.specs.Ending.{IsEnded}
@@ -48,9 +48,9 @@ use Rattle.epoch_law.specs.Ran.{IsRest, AreMade, lost_in}
 
 -- What was scanned and sent of the job: some of it was read, and some lines of it were sent, all that are to be sent if no alarm was told.
 -- A rest was scanned behind them. The lines and the replies are those of epochs, each but the first begun by a Banner: at the end of each
--- the lines that have no answer are forgotten, which take 128 bytes at most, each with its LF; the others live. Each line that lives, asks
--- for a report and is answered has one, behind the answers to the lines before it.
-pub record IsScannedAndSent (job_was job_is : SourceState) (end : RunEnd) (read : List ℕ) (reading : Reading) (scanned : List ℕ) (lines : List (List ℕ)) (rest : List ℕ) (replies : List Reply) : Type 0 where
+-- the lines that have no answer are forgotten, which take no more bytes than the link has room for, each with its LF; the others live.
+-- Each line that lives, asks for a report and is answered has one, behind the answers to the lines before it.
+pub record IsScannedAndSent (room : ℕ) (job_was job_is : SourceState) (end : RunEnd) (read : List ℕ) (reading : Reading) (scanned : List ℕ) (lines : List (List ℕ)) (rest : List ℕ) (replies : List Reply) : Type 0 where
   pub taken : Consumes job_was.left job_is.left read
   pub at_end : reading ≡ Ended → IsAtEnd job_is.left
   pub so_far : IsSentSoFar read reading scanned lines (stop_by reading scanned)
@@ -61,7 +61,7 @@ pub record IsScannedAndSent (job_was job_is : SourceState) (end : RunEnd) (read 
   pub all : length lines ≡ length live + forgotten
   pub ended : List host.Epoch
   pub now : host.Epoch
-  pub epochs : host.AreEpochs lines live replies ended now
+  pub epochs : host.AreEpochs room lines live replies ended now
   pub reported : AreReported live replies
 
 -- ---- the console
@@ -78,11 +78,11 @@ pub record IsToldAndAnswered (was is : Sinks) (end : RunEnd) (course : List Pass
 
 -- ---- the steps
 
--- What was recorded: for each part of the course the planner was given what its lines ask for, and ran it; epoch by epoch the pieces that
--- it gave were run, and their records put, as far as ticks were made, with the mark of the reset, or the end, behind them. The text, in
+-- What was recorded: for each part of the course the planner was given what its lines ask for, and ran it, with a plan of so many blocks;
+-- epoch by epoch the pieces that it gave were run, and their records put, as far as ticks were made, with the mark of the reset, or the end, behind them. The text, in
 -- the form of the run, is whole if no write failed.
-pub record IsRunAndRecorded (form : Form) (was is : Sinks) (end : RunEnd) (course : List Passed) (drives : List Driven) (epochs : List Epoch) (records : List Record) : Type 0 where
-  pub driven : AreDriven true origin fresh_plan (parts_of course) drives
+pub record IsRunAndRecorded (blocks : ℕ) (form : Form) (was is : Sinks) (end : RunEnd) (course : List Passed) (drives : List Driven) (epochs : List Epoch) (records : List Record) : Type 0 where
+  pub driven : AreDriven blocks true origin fresh_plan (parts_of course) drives
   pub run : AreRun (parts_of course) origin epochs
   pub put : ArePut epochs records
   pub ended : IsEnded records
@@ -116,10 +116,10 @@ pub record HasEffects (scanned : List ℕ) (first : State) (course : List Passed
   pub cancels : sum (map (λ e. e.taken.cancels) effects) ≤ slows_in scanned
   pub asked : sum (map (λ e. e.taken.asked) effects) ≤ count_by is_query (served_in scanned)
 
--- Each cut has a jog as its cause, and each reset drops few lines: 128 bytes at most, each with its LF.
-pub record HasCauses (first : State) (sent : List Sent) (course : List Passed) : Type 0 where
+-- Each cut has a jog as its cause, and each reset drops few lines: no more bytes than the link has room for, each with its LF.
+pub record HasCauses (room : ℕ) (first : State) (sent : List Sent) (course : List Passed) : Type 0 where
   pub cuts : CutsHaveCauses (opening first) sent course
-  pub drops : DropsAreFew receive_room 0 sent course
+  pub drops : DropsAreFew room 0 sent course
 
 -- ---- the end
 
@@ -136,9 +136,9 @@ pub record HasEnded (job_was job_is : SourceState) (end : RunEnd) (reading : Rea
 
 -- ---- a run
 
--- A run of a job over epochs, whose steps have a form, whatever failed: what was read, scanned and sent of it; the replies and records that
+-- A run of a job over epochs, at a link that has room for so many bytes, with a plan of so many blocks, and whose steps have a form, whatever failed: what was read, scanned and sent of it; the replies and records that
 -- were made; that these texts fit, by one course; and beside this course how it was run, what words of flags have done, and how it ended.
-pub record IsRun (form : Form) (job_was job_is : SourceState) (was is : Sinks) (end : RunEnd) : Type 0 where
+pub record IsRun (room blocks : ℕ) (form : Form) (job_was job_is : SourceState) (was is : Sinks) (end : RunEnd) : Type 0 where
   pub read : List ℕ
   pub reading : Reading
   pub scanned : List ℕ
@@ -149,10 +149,10 @@ pub record IsRun (form : Form) (job_was job_is : SourceState) (was is : Sinks) (
   pub drives : List Driven
   pub epochs : List Epoch
   pub effects : List EpochEffects
-  pub sending : IsScannedAndSent job_was job_is end read reading scanned lines rest replies
+  pub sending : IsScannedAndSent room job_was job_is end read reading scanned lines rest replies
   pub fits : FitsTexts (sent_of lines rest) (slows_in scanned) (without_byes replies) records
   pub telling : IsToldAndAnswered was is end fits.course fits.last replies
-  pub recording : IsRunAndRecorded form was is end fits.course drives epochs records
+  pub recording : IsRunAndRecorded blocks form was is end fits.course drives epochs records
   pub doing : HasEffects scanned fits.first fits.course drives epochs replies effects
-  pub causes : HasCauses fits.first (sent_of lines rest) fits.course
+  pub causes : HasCauses room fits.first (sent_of lines rest) fits.course
   pub ending : HasEnded job_was job_is end reading scanned sending.forgotten fits.course replies

@@ -48,8 +48,8 @@ use Rattle.epoch_law.specs.Ran.{HostDid, BoardDid, PulseDid, IsRest, AreMade}
 use Rattle.epoch_law.specs.Runs.{HasEffects, HasCauses}
 
 -- A host runs over epochs: it has stored and marked a front of its lines and the resets that came of them and of a rest.
-pub record Sending (job_was job_is : SourceState) (console_was console_is : SinkState) (d : HostDid) : Type 0 where
-  pub runs : HostRuns job_was job_is console_was console_is d.stored d.marks d.raised d.got
+pub record Sending (room : ℕ) (job_was job_is : SourceState) (console_was console_is : SinkState) (d : HostDid) : Type 0 where
+  pub runs : HostRuns room job_was job_is console_was console_is d.stored d.marks d.raised d.got
   pub rest : List ℕ
   pub is_rest : IsRest runs.scanned runs.lines rest
   pub front : IsFrontOf (sent_of runs.lines rest) d.stored d.marks
@@ -59,12 +59,12 @@ pub record Sending (job_was job_is : SourceState) (console_was console_is : Sink
 abbrev pub BeginWithBanner : List Reply → Type 0
 BeginWithBanner replies = (replies ≡ []) ⊎ ((behind : List Reply) × (replies ≡ Banner ∷ behind))
 
--- A board runs over epochs, while so many ticks are put in all. What it took has taken a course so far, which leads to a point, where some of
+-- A board runs over epochs, with a plan of so many blocks, while so many ticks are put in all. What it took has taken a course so far, which leads to a point, where some of
 -- it is left that is not begun. It has answered a front of the banner, what the course tells, and Bye, with reports among that. For each part
 -- of the course so far the planner was given what its lines ask for, or that is left to ask; closed epochs and an open one were run for the
 -- parts, and these were published; the mark of the open one's reset has the number of the line that was begun last. It has ended an epoch for each reset, which drops the lines of its epoch that have no answer; each cut
 -- has a jog as its cause; and what words of flags have done in each epoch is as they were taken.
-pub record BoardRuns (ticks : ℕ) (d : BoardDid) : Type 0 where
+pub record BoardRuns (blocks ticks : ℕ) (d : BoardDid) : Type 0 where
   pub first : State
   pub opens : IsOpening first
   pub course : List Passed
@@ -78,7 +78,7 @@ pub record BoardRuns (ticks : ℕ) (d : BoardDid) : Type 0 where
   pub told : BeginsWith (Banner ∷ (told_in course ++ Bye ∷ [])) (without_reports d.answered)
   pub plain : BeginsWith (Banner ∷ told_in course) (without_reports (without_byes d.answered))
   pub drives : List Driven
-  pub driven : AreDriven false origin fresh_plan (parts_of course) drives
+  pub driven : AreDriven blocks false origin fresh_plan (parts_of course) drives
   pub closed : List Epoch
   pub now : Epoch
   pub run : AreRunSoFar (parts_of course) origin (closed ++ now ∷ [])
@@ -111,14 +111,14 @@ pub record PulseRuns (d : PulseDid) : Type 0 where
 -- What was scanned and sent of the job so far: some of it was read, and some lines of it were sent, and a rest was scanned behind them. The
 -- lines, and the replies that were got, are those of epochs, each but the first begun by a Banner, at whose end the lines that have no
 -- answer are forgotten. Each line that lives, asks for a report and is answered has one, behind the answers to the lines before it.
-pub record IsScannedSoFar (job_was job_is : SourceState) (read : List ℕ) (reading : Reading) (scanned : List ℕ) (lines : List (List ℕ)) (rest : List ℕ) (got : List Reply) : Type 0 where
+pub record IsScannedSoFar (room : ℕ) (job_was job_is : SourceState) (read : List ℕ) (reading : Reading) (scanned : List ℕ) (lines : List (List ℕ)) (rest : List ℕ) (got : List Reply) : Type 0 where
   pub taken : Consumes job_was.left job_is.left read
   pub sent : IsSentSoFar read reading scanned lines (stop_by reading scanned)
   pub is_rest : IsRest scanned lines rest
   pub live : List (List ℕ)
   pub ended : List host.Epoch
   pub now : host.Epoch
-  pub epochs : host.AreEpochs lines live got ended now
+  pub epochs : host.AreEpochs room lines live got ended now
   pub reported : AreReported live got
 
 -- What was told so far: the board has answered a front of the banner, what the course tells, and Bye, with reports among that; a front of
@@ -130,24 +130,24 @@ pub record IsToldSoFar (was is : Sinks) (course : List Passed) (answered got : L
   pub waiting : List ℕ
   pub console : Wrote was.console is.console failed waiting (replies_text got)
 
--- What was recorded so far: for each part of the course the planner was given what its lines ask for, or that is left to ask; epoch by
--- epoch the pieces that it gave were run. A front of what was put was taken, and a front of its text, in the form of the run, is with the
+-- What was recorded so far: for each part of the course the planner was given what its lines ask for, or that is left to ask, with a plan
+-- of so many blocks; epoch by epoch the pieces that it gave were run. A front of what was put was taken, and a front of its text, in the form of the run, is with the
 -- steps.
-pub record IsRecordedSoFar (form : Form) (was is : Sinks) (course : List Passed) (drives : List Driven) (epochs : List Epoch) (put taken : List Record) : Type 0 where
-  pub driven : AreDriven false origin fresh_plan (parts_of course) drives
+pub record IsRecordedSoFar (blocks : ℕ) (form : Form) (was is : Sinks) (course : List Passed) (drives : List Driven) (epochs : List Epoch) (put taken : List Record) : Type 0 where
+  pub driven : AreDriven blocks false origin fresh_plan (parts_of course) drives
   pub run : AreRunSoFar (parts_of course) origin epochs
   pub taken_of : BeginsWith put taken
   pub failed : Bool
   pub waiting : List ℕ
   pub steps : Wrote was.steps is.steps failed waiting (text_in form taken)
 
--- A run so far, over epochs: what was read, scanned and sent of the job; what was answered and got, and what was put and taken; that the
+-- A run so far, over epochs, with a plan of so many blocks: what was read, scanned and sent of the job; what was answered and got, and what was put and taken; that the
 -- records are put of epochs, of the open one as far as ticks are made, before what ends it, where the mark of a reset has the number of the
 -- line that was begun last; that these texts fit so far, by one course; and beside
 -- this course how it was told and run so far, what words of flags have done, and what caused cuts. One line at most of each epoch is begun
 -- and not answered, and reports are judged by the ticks that were made, which hold all of the lines up to the last answered one that settles
 -- (`doing`).
-pub record IsSoFar (form : Form) (job_was job_is : SourceState) (was is : Sinks) : Type 0 where
+pub record IsSoFar (room blocks : ℕ) (form : Form) (job_was job_is : SourceState) (was is : Sinks) : Type 0 where
   pub read : List ℕ
   pub reading : Reading
   pub scanned : List ℕ
@@ -160,12 +160,12 @@ pub record IsSoFar (form : Form) (job_was job_is : SourceState) (was is : Sinks)
   pub drives : List Driven
   pub epochs : List Epoch
   pub effects : List EpochEffects
-  pub sending : IsScannedSoFar job_was job_is read reading scanned lines rest got
+  pub sending : IsScannedSoFar room job_was job_is read reading scanned lines rest got
   pub number : ℕ
   pub put_are : IsPutSoFar number epochs put
   pub fits : FitsSoFar (sent_of lines rest) (slows_in scanned) (without_byes got) put_are.made
   pub numbered : number + 1 ≡ fits.point.before.number
   pub telling : IsToldSoFar was is fits.course answered got
-  pub recording : IsRecordedSoFar form was is fits.course drives epochs put taken
+  pub recording : IsRecordedSoFar blocks form was is fits.course drives epochs put taken
   pub doing : HasEffects scanned fits.first fits.course drives epochs got effects
-  pub causes : HasCauses fits.first (sent_of lines rest) fits.course
+  pub causes : HasCauses room fits.first (sent_of lines rest) fits.course

@@ -44,32 +44,32 @@ ghost use Rattle.epoch_law.specs.SoFar.{Sending, BoardRuns, PulseRuns, IsSoFar};
 /// has answered, and the pulse has got or dropped what the board has published, the texts fit: the lines and resets that came of the job,
 /// the replies got, without Bye, and the records put. The bytes scanned that may cut jogs are `!` and 0x85 outside comments.
 pub fn actors_make_texts_that_fit()
-    ensures { (job_was job_is : SourceState) (console_was console_is : SinkState) (end : HostEnd) (h : HostDid) (b : BoardDid) (p : PulseDid) →
-        (host : HasSent job_was job_is console_was console_is h end) → BoardRan b → PulseRan p → AreConnected h b → ArePassed b p → h.got ≡ b.answered →
+    ensures { (room blocks : ℕ) (job_was job_is : SourceState) (console_was console_is : SinkState) (end : HostEnd) (h : HostDid) (b : BoardDid) (p : PulseDid) →
+        (host : HasSent room job_was job_is console_was console_is h end) → BoardRan blocks b → PulseRan p → AreConnected room h b → ArePassed b p → h.got ≡ b.answered →
         FitsTexts (sent_of host.ran.lines host.rest) (slows_in host.ran.scanned) (without_byes h.got) p.put }
 {}
 
 /// So a host, a board, a pulse and a recorder that ran to their ends make a run of the job, if each has got what the other gave: what was
 /// scanned is what the host has scanned, and the replies are those that it got.
 pub fn actors_make_a_run()
-    ensures { (form : Form) (job_was job_is : SourceState) (was is : Sinks) (end : HostEnd) (steps_failed : Bool) (h : HostDid) (b : BoardDid) (p : PulseDid) (records : List AnyRecord) →
-        (host : HasSent job_was job_is was.console is.console h end) → BoardRan b → PulseRan p → RecorderRan form was.steps is.steps records steps_failed →
-        AreConnected h b → ArePassed b p → h.got ≡ b.answered → records ≡ p.put →
-        (run : IsRun form job_was job_is was is (run_end end steps_failed)) × (run.scanned ≡ host.ran.scanned) × (run.replies ≡ h.got) }
+    ensures { (room blocks : ℕ) (form : Form) (job_was job_is : SourceState) (was is : Sinks) (end : HostEnd) (steps_failed : Bool) (h : HostDid) (b : BoardDid) (p : PulseDid) (records : List AnyRecord) →
+        (host : HasSent room job_was job_is was.console is.console h end) → BoardRan blocks b → PulseRan p → RecorderRan form was.steps is.steps records steps_failed →
+        AreConnected room h b → ArePassed b p → h.got ≡ b.answered → records ≡ p.put →
+        (run : IsRun room blocks form job_was job_is was is (run_end end steps_failed)) × (run.scanned ≡ host.ran.scanned) × (run.replies ≡ h.got) }
 {}
 
 /// For that it is enough that each has got a front of what the other gave: nothing waits behind Bye but reports, nor behind the end.
 pub fn actors_that_end_make_a_run()
-    ensures { (form : Form) (job_was job_is : SourceState) (was is : Sinks) (end : HostEnd) (steps_failed : Bool) (h : HostDid) (b : BoardDid) (p : PulseDid) (records : List AnyRecord) →
-        (host : HasSent job_was job_is was.console is.console h end) → BoardRan b → PulseRan p → RecorderRan form was.steps is.steps records steps_failed →
-        AreConnected h b → ArePassedSome b p → BeginsWith b.answered h.got → BeginsWith p.put records →
-        (run : IsRun form job_was job_is was is (run_end end steps_failed)) × (run.scanned ≡ host.ran.scanned) × (run.replies ≡ h.got) }
+    ensures { (room blocks : ℕ) (form : Form) (job_was job_is : SourceState) (was is : Sinks) (end : HostEnd) (steps_failed : Bool) (h : HostDid) (b : BoardDid) (p : PulseDid) (records : List AnyRecord) →
+        (host : HasSent room job_was job_is was.console is.console h end) → BoardRan blocks b → PulseRan p → RecorderRan form was.steps is.steps records steps_failed →
+        AreConnected room h b → ArePassedSome b p → BeginsWith b.answered h.got → BeginsWith p.put records →
+        (run : IsRun room blocks form job_was job_is was is (run_end end steps_failed)) × (run.scanned ≡ host.ran.scanned) × (run.replies ≡ h.got) }
 {}
 
 /// The two ends of a link that are linked are connected, if what was taken of words of flags was raised: what each reset drops is few.
 pub fn linked_ends_are_connected()
-    ensures { (host : HostJournal) (state : State) (r : Epochs) → HostConducted host → AreEpochs state r → AreLinkedOver host r → AreAnsweredOver host r →
-        AreRaisedFor (raises_of host) (words_taken (log_of r)) → AreConnected (host_did host) (board_did r) }
+    ensures { (room : ℕ) (host : HostJournal) (blocks : ℕ) (state : State) (r : Epochs) → HostConducted room host → AreEpochs blocks state r → AreLinkedOver host r → AreAnsweredOver host r →
+        AreRaisedFor (raises_of host) (words_taken (log_of r)) → AreConnected room (host_did host) (board_did r) }
 {}
 
 /// What a board has taken of words of flags was raised, by the logs of host and board, if each flag was found down by as many raises as
@@ -80,7 +80,7 @@ pub fn words_that_are_taken_were_raised()
 
 /// A board that keeps to its rules over epochs, has closed its run and has nothing left to do, has run.
 pub fn boards_have_run()
-    ensures { (state : State) (es : NewestFirst Closed) (h : Journal) → IsOpening state → AreEpochs state (goes es h) → IsFinished (opening_behind state es) h → BoardRan (board_did (goes es h)) }
+    ensures { (blocks : ℕ) (state : State) (es : NewestFirst Closed) (h : Journal) → IsOpening state → AreEpochs blocks state (goes es h) → IsFinished (opening_behind blocks state es) h → BoardRan blocks (board_did (goes es h)) }
 {}
 
 /// A pulse that has put the end has run, whatever it halted.
@@ -90,29 +90,29 @@ pub fn pulses_have_run()
 
 /// A host that keeps to its rules, has got Bye, and has written all or met a write that failed, has run over epochs.
 pub fn hosts_have_sent()
-    ensures { (h : HostJournal) (job_was job_is : SourceState) (console_was console_is : SinkState) → HostConducted h → HasFinished h → TellsJob h job_was job_is → TellsConsole h console_was console_is →
-        (sent : HasSent job_was job_is console_was console_is (host_did h) (end_of h)) × (sent.ran.scanned ≡ scanned_of h) }
+    ensures { (room : ℕ) (h : HostJournal) (job_was job_is : SourceState) (console_was console_is : SinkState) → HostConducted room h → HasFinished h → TellsJob h job_was job_is → TellsConsole h console_was console_is →
+        (sent : HasSent room job_was job_is console_was console_is (host_did h) (end_of h)) × (sent.ran.scanned ≡ scanned_of h) }
 {}
 
 /// Before it is done, a host that keeps to its rules is sending over epochs.
 pub fn hosts_are_sending()
-    ensures { (h : HostJournal) (job_was job_is : SourceState) (console_was console_is : SinkState) → HostConducted h → TellsJob h job_was job_is → TellsConsole h console_was console_is →
-        Sending job_was job_is console_was console_is (host_did h) }
+    ensures { (room : ℕ) (h : HostJournal) (job_was job_is : SourceState) (console_was console_is : SinkState) → HostConducted room h → TellsJob h job_was job_is → TellsConsole h console_was console_is →
+        Sending room job_was job_is console_was console_is (host_did h) }
 {}
 
 /// Before they end, a host, a board, a pulse and a recorder have done a run so far, if each has got a front of what the other gave; the pulse
 /// may have halted once more than the board has seen.
 pub fn actors_make_a_run_so_far()
-    ensures { (form : Form) (job_was job_is : SourceState) (was is : Sinks) (h : HostDid) (b : BoardDid) (p : PulseDid) (records : List AnyRecord) →
-        Sending job_was job_is was.console is.console h → BoardRuns (length (ticks_among p.put)) b → PulseRuns p → RecorderRuns form was.steps is.steps records →
-        AreConnected h b → ArePassedSoFar (length (ticks_among p.put)) b p → BeginsWith b.answered h.got → BeginsWith p.put records → IsSoFar form job_was job_is was is }
+    ensures { (room blocks : ℕ) (form : Form) (job_was job_is : SourceState) (was is : Sinks) (h : HostDid) (b : BoardDid) (p : PulseDid) (records : List AnyRecord) →
+        Sending room job_was job_is was.console is.console h → BoardRuns blocks (length (ticks_among p.put)) b → PulseRuns p → RecorderRuns form was.steps is.steps records →
+        AreConnected room h b → ArePassedSoFar (length (ticks_among p.put)) b p → BeginsWith b.answered h.got → BeginsWith p.put records → IsSoFar room blocks form job_was job_is was is }
 {}
 
 /// A board that keeps to its rules over epochs runs, at any time. So many ticks are put in all, at least those that it knows of, and no
 /// more than it has published.
 pub fn boards_run()
-    ensures { (state : State) (ticks : ℕ) (es : Epochs) → IsOpening state → AreEpochs state es → known_in (log_of es) ≤ ticks → ticks ≤ ticks_published (sent_in (log_of es)) →
-        BoardRuns ticks (board_did es) }
+    ensures { (blocks : ℕ) (state : State) (ticks : ℕ) (es : Epochs) → IsOpening state → AreEpochs blocks state es → known_in (log_of es) ≤ ticks → ticks ≤ ticks_published (sent_in (log_of es)) →
+        BoardRuns blocks ticks (board_did es) }
 {}
 
 /// A pulse runs at any time, whatever it halted.
@@ -123,10 +123,10 @@ pub fn pulses_run()
 /// Where a ring has passed on what a board has published and a pulse has got, the pulse has put no fewer ticks than the board knows of (`known`),
 /// and no more than it has published (`within`); and what it got and halted is as the run so far asks (`passed`).
 pub fn rings_pass_pieces_so_far()
-    ensures known { (state : State) (es : Epochs) (p : Pulsing) (h : PieceLog) (k : RecordLog) → AreEpochs state es → PulseFits p h k → ArePiecesPassed (sent_in (log_of es)) (known_in (log_of es)) h →
+    ensures known { (blocks : ℕ) (state : State) (es : Epochs) (p : Pulsing) (h : PieceLog) (k : RecordLog) → AreEpochs blocks state es → PulseFits p h k → ArePiecesPassed (sent_in (log_of es)) (known_in (log_of es)) h →
         known_in (log_of es) ≤ length (ticks_among (records_put k)) }
-    ensures within { (state : State) (es : Epochs) (p : Pulsing) (h : PieceLog) (k : RecordLog) → AreEpochs state es → PulseFits p h k → ArePiecesPassed (sent_in (log_of es)) (known_in (log_of es)) h →
+    ensures within { (blocks : ℕ) (state : State) (es : Epochs) (p : Pulsing) (h : PieceLog) (k : RecordLog) → AreEpochs blocks state es → PulseFits p h k → ArePiecesPassed (sent_in (log_of es)) (known_in (log_of es)) h →
         length (ticks_among (records_put k)) ≤ ticks_published (sent_in (log_of es)) }
-    ensures passed { (state : State) (es : Epochs) (p : Pulsing) (h : PieceLog) (k : RecordLog) → AreEpochs state es → PulseFits p h k → ArePiecesPassed (sent_in (log_of es)) (known_in (log_of es)) h →
+    ensures passed { (blocks : ℕ) (state : State) (es : Epochs) (p : Pulsing) (h : PieceLog) (k : RecordLog) → AreEpochs blocks state es → PulseFits p h k → ArePiecesPassed (sent_in (log_of es)) (known_in (log_of es)) h →
         ArePassedSoFar (length (ticks_among (records_put k))) (board_did es) (pulse_did h k) }
 {}

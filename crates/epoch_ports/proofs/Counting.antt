@@ -14,10 +14,9 @@ use Rattle.board_rules.specs.Ports.PortStep.{published, no_piece_room, loaded}
 use Rattle.board_rules.specs.Steps.{Journal, port_log}
 use Rattle.board_rules.proofs.Unstopped.{journals_never_stop}
 use Rattle.board_epochs.specs.Epochs.{Closed, closed_log, opening_behind, ticks_made}
-use Rattle.board_epochs.proofs.Asking.{number_there, publish_there}
+use Rattle.board_epochs.proofs.Asking.{lines_there, publish_there}
 use Rattle.board_epochs.proofs.Chaining.{begins_behind}
 use Rattle.board_epochs.proofs.Onto.{taken_on}
-use Rattle.board_epochs.proofs.Opening.{opens}
 use Rattle.board_epochs.proofs.Seam.{done_behind, room_behind, reports_behind}
 use Rattle.board_epochs.proofs.Telling.{answer_there, report_there}
 use Rattle.epoch_ports.specs.Serving.{Since, Serves, MayTellNow, MayPublishNow, all_since}
@@ -26,11 +25,11 @@ pub few_reports : (es : NewestFirst Closed) (l : BoardLog) → HasFewReports (al
 few_reports es l few = reports_behind (ticks_made es) (closed_log es) l few
 
 module _ (R : Type 0) (port : R → BoardLog → Type 0) (base : ℕ) (since : Since R) (first : Opening) (h : Journal) (s : Serves R port base since first (port_log h)) where
-  opens_so : Conducted first h → Conducted (opening_behind since.state since.closed) h
+  opens_so : Conducted first h → Conducted (opening_behind since.blocks since.state since.closed) h
   opens_so c = subst (λ (o : Opening). Conducted o h) s.opens c
 
   a_report : (r : Reply) → is_report r ≡ true → Conducted first h → IsReply r → MayAnswer (all_since since.closed (port_log h)) r
-  a_report (replies.Report r) is c text = report_there since.state since.closed h r (s.closed, opens_so c, s.bounded) text
+  a_report (replies.Report r) is c text = report_there since.blocks since.state since.closed h r (s.closed, opens_so c, s.bounded) text
   a_report r is c text = absurd cc
 
   pub may_answer : (r : Reply) → MayTellNow first r h → MayAnswer (all_since since.closed (port_log h)) r
@@ -38,19 +37,19 @@ module _ (R : Type 0) (port : R → BoardLog → Type 0) (base : ℕ) (since : S
     where
       by_kind : (is_report r ≡ true) ⊎ IsNextTask first (tell r) h → MayAnswer (all_since since.closed (port_log h)) r
       by_kind (inl is) = a_report r is may.conducted may.text
-      by_kind (inr next) = answer_there since.state since.closed h r (s.closed, opens_so may.conducted, s.bounded) (subst (λ (o : Opening). IsNextTask o (tell r) h) s.opens next) may.text
+      by_kind (inr next) = answer_there since.blocks since.state since.closed h r (s.closed, opens_so may.conducted, s.bounded) (subst (λ (o : Opening). IsNextTask o (tell r) h) s.opens next) may.text
 
   pub may_publish : (p : Piece) → MayPublishNow first p h → MayPublish (all_since since.closed (port_log h)) p
-  may_publish p may = publish_there since.state since.closed h p (s.closed, opens_so may.conducted, s.bounded) may.hand
+  may_publish p may = publish_there since.blocks since.state since.closed h p (s.closed, opens_so may.conducted, s.bounded) may.hand
 
   pub done_here : (k : ℕ) → Conducted first h → MayBeDone k (all_since since.closed (port_log h)) → (n : ℕ) × (k ≡ base + n) × MayBeDone n (port_log h)
   done_here k c may =
-      let r = done_behind (closed_log since.closed) (port_log h) k (begins_behind since.state since.closed s.closed) (journals_never_stop first h c) may in
+      let r = done_behind (closed_log since.closed) (port_log h) k (begins_behind since.blocks since.state since.closed s.closed) (journals_never_stop first h c) may in
       (r.0, r.1 ∙ ap (λ (b : ℕ). b + r.0) (sym s.ticks), r.2)
 
   pub room_here : (k : ℕ) → Conducted first h → LacksPieceRoom k (all_since since.closed (port_log h)) → (n : ℕ) × (k ≡ base + n) × LacksPieceRoom n (port_log h)
   room_here k c may =
-      let r = room_behind (closed_log since.closed) (port_log h) k (begins_behind since.state since.closed s.closed) (journals_never_stop first h c) may in
+      let r = room_behind (closed_log since.closed) (port_log h) k (begins_behind since.blocks since.state since.closed s.closed) (journals_never_stop first h c) may in
       (r.0, r.1 ∙ ap (λ (b : ℕ). b + r.0) (sym s.ticks), r.2)
 
 -- with a byte of an epoch before for each line before this one
@@ -58,7 +57,7 @@ pub few_taken : (R : Type 0) (port : R → BoardLog → Type 0) (base : ℕ) (si
     → first.lines + length (taken_in l) < 2 ^ 31
 few_taken R port base since first l s few =
     let es = since.closed in
-    let lines = number_there since.state es [] s.closed (opens since.state es) in
+    let lines = lines_there since.blocks since.state es s.closed in
     let same = ap (λ (o : Opening). o.lines) s.opens in
     let all = ap (λ (bs : List ℕ). length bs) (taken_on (ticks_made es) l (closed_log es)) in
     let both = length-append (taken_in (closed_log es)) (taken_in l) in

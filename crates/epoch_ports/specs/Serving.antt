@@ -13,10 +13,11 @@ use Rattle.board_rules.specs.Ports.{BoardLog}
 use Rattle.board_rules.specs.Steps.{Journal}
 use Rattle.board_epochs.specs.Epochs.{Closed, AreClosed, IsBounded, closed_log, log_on, opening_behind, ticks_made}
 
--- What stays as it is while an epoch goes on: what the port does not change; the state that the run began with; and the epochs that
--- resets have ended.
+-- What stays as it is while an epoch goes on: what the port does not change; how many blocks the plan holds at most; the state that the
+-- run began with; and the epochs that resets have ended.
 pub record Since (R : Type 0) : Type 0 where
   pub rest : R
+  pub blocks : ℕ
   pub state : State
   pub closed : NewestFirst Closed
 
@@ -29,8 +30,8 @@ all_since es l = log_on (ticks_made es) l ++ closed_log es
 pub record Serves (R : Type 0) (port : R → BoardLog → Type 0) (base : ℕ) (since : Since R) (first : Opening) (l : BoardLog) : Type 0 where
   pub stands : port since.rest (all_since since.closed l)
   pub ticks : base ≡ ticks_made since.closed
-  pub opens : first ≡ opening_behind since.state since.closed
-  pub closed : AreClosed since.state since.closed
+  pub opens : first ≡ opening_behind since.blocks since.state since.closed
+  pub closed : AreClosed since.blocks since.state since.closed
   pub bounded : IsBounded (all_since since.closed l)
 
 -- A reply may be answered: the epoch has kept to its rules, and it is next, or a report.

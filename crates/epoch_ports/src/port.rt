@@ -1,7 +1,6 @@
 //! The port of a board within one epoch.
 
 ghost use Rattle.std.specs.Prelude.{◌≡◌, ℕ, ◌+◌, ◌^◌, ◌∷◌, ◌≤◌, ◌<◌, length, true, OnOk, OnErr, IfErr};
-ghost use Rattle.status_report.specs.Answering.{receive_room};
 ghost use Rattle.board_rules.specs.Conduct.{Conducted};
 ghost use Rattle.board_rules.specs.Openings.{Opening};
 ghost use Rattle.board_rules.specs.Ports.{BoardLog, MayBeDone, HasFewReports, LacksPieceRoom, asks_report, said, taken_in};
@@ -20,6 +19,9 @@ pub trait EpochPort {
     /// What this side does not change.
     ghost Rest: { Type 0 };
 
+    /// So many bytes may be on the link at once.
+    ghost room: { ℕ };
+
     /// This side of the port serves an epoch with this opening, in which it has done what the log says, the latest first.
     ghost stands: { Self → Rest → Opening → BoardLog → Type 0 };
 
@@ -30,9 +32,9 @@ pub trait EpochPort {
         ensures empty { result ≡ ByteIn.Empty → (rest : Rest) (first : Opening) (l : BoardLog) → stands self.old rest first l → stands self.new rest first (found_empty ∷ l) }
         ensures closed { result ≡ ByteIn.Closed → (rest : Rest) (first : Opening) (l : BoardLog) → stands self.old rest first l → stands self.new rest first (found_closed ∷ l) };
 
-    /// How many more bytes there is room for on the link, at most 128.
+    /// How many more bytes there is room for on the link.
     fn free(&mut self) -> u8
-        ensures room { result ≤ receive_room }
+        ensures room { result ≤ room }
         ensures free { (rest : Rest) (first : Opening) (l : BoardLog) → stands self.old rest first l → stands self.new rest first (found_free result ∷ l) };
 
     /// Answers, or hands the reply back if 16 may wait. The epoch must have kept to its rules, and the reply be next, or a

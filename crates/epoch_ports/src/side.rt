@@ -20,6 +20,8 @@ pub struct EpochSide<'a, P> {
 impl<P: BoardPort> EpochPort for EpochSide<'_, P> {
     ghost Rest = { Since P.Rest × ℕ };
 
+    ghost room = { P.room };
+
     ghost stands = { λ side since first l. (side.port.ghost_name ≡ since.1) × Serves P.Rest (P.stands side.port.now) side.base since.0 first l };
 
     #[inline(always)]

@@ -42,11 +42,9 @@ put_count (s ∷ ss) rs are =
 -- all that was counted is that of the stretches, and since
 all_counted : (h : PieceLog) → counted h ≡ count_made (stretches_in h) + counted_since h
 all_counted [] = refl
-all_counted (asked b ∷ h) = all_counted h
-all_counted (got p ∷ h) = all_counted h
-all_counted (none ∷ h) = all_counted h
 all_counted (ticked ∷ h) = let more = all_counted h in omega (arith, more)
 all_counted (halted ps ∷ h) = let more = all_counted h in let on = made_on (stretches_in h) (stretch_of ps h) in omega (arith, more, on)
+all_counted (_ ∷ h) = all_counted h
 
 -- ---- pieces
 
@@ -149,10 +147,6 @@ all_pieces (halted ps ∷ h) =
 
 pub halts_end : (h : PieceLog) → EndStretches (halts_of h) (stretches_in h)
 halts_end [] = refl
-halts_end (asked b ∷ h) = halts_end h
-halts_end (got p ∷ h) = halts_end h
-halts_end (none ∷ h) = halts_end h
-halts_end (ticked ∷ h) = halts_end h
 halts_end (halted ps ∷ h) =
     let made = made_on (stretches_in h) (stretch_of ps h) in
     let all = all_counted h in (
@@ -163,3 +157,4 @@ halts_end (halted ps ∷ h) =
       all ∙ sym made,
       halts_end h,
     )
+halts_end (_ ∷ h) = halts_end h

@@ -4,7 +4,7 @@ use Rattle.std.specs.List.{flat_map}
 use Rattle.flight.specs.Halts.{Stretch, count_made}
 use Rattle.planner_runs.specs.Runs.{all_records}
 use Rattle.pulse_engine.specs.Logs.{PieceLog, got_since}
-use Rattle.pulse_engine.specs.Logs.PieceEvent.{asked, got, none, ticked, halted}
+use Rattle.pulse_engine.specs.Logs.PieceEvent.{got, ticked, halted}
 use Rattle.run_texts.specs.Fronts.{BeginsWith}
 use Rattle.step_line.specs.Asking.{ticks_among}
 use Rattle.step_line.specs.Finishing.{ticks_together}
@@ -19,11 +19,9 @@ use Rattle.epoch_records.specs.Epochs.{Epoch}
 -- how many ticks were counted since the last halt
 abbrev pub counted_since : PieceLog → ℕ
 counted_since [] = 0
-counted_since (asked b ∷ h) = counted_since h
-counted_since (got p ∷ h) = counted_since h
-counted_since (none ∷ h) = counted_since h
 counted_since (ticked ∷ h) = counted_since h + 1
 counted_since (halted ps ∷ h) = 0
+counted_since (_ ∷ h) = counted_since h
 
 -- the stretch that a halt ends: the pieces that were got in it or dropped, in order, and how many ticks were counted
 abbrev pub stretch_of : NewestFirst Piece → PieceLog → Stretch
@@ -32,11 +30,8 @@ stretch_of dropped h = record { pieces = reverse (dropped ++ got_since h); done 
 -- the stretches that halts have ended, the oldest first
 abbrev pub stretches_in : PieceLog → List Stretch
 stretches_in [] = []
-stretches_in (asked b ∷ h) = stretches_in h
-stretches_in (got p ∷ h) = stretches_in h
-stretches_in (none ∷ h) = stretches_in h
-stretches_in (ticked ∷ h) = stretches_in h
 stretches_in (halted ps ∷ h) = stretches_in h ++ stretch_of ps h ∷ []
+stretches_in (_ ∷ h) = stretches_in h
 
 -- the pieces that were got since the last halt, in order
 abbrev pub pieces_since : PieceLog → List Piece

@@ -5,7 +5,7 @@ use Rattle.std.proofs.lemmas.List.{map-append}
 use Rattle.std.specs.List.{AllByRecursion}
 use Rattle.flight.specs.Places.{end_from}
 use Rattle.flight.proofs.Places.{moved_both}
-use Rattle.planner_runs.specs.Runs.{most_blocks, all_asked}
+use Rattle.planner_runs.specs.Runs.{all_asked}
 use Rattle.run_rules.specs.Cuts.{LosesJogsAlone}
 use Rattle.run_rules.specs.Work.{Outcome}
 use Rattle.run_texts.specs.Courses.{Passed}
@@ -66,9 +66,9 @@ inside_there first (_ ∷ h) c = inside_there first h c.1
 
 -- ---- a run
 
-abbrev pub run_for : (first : Opening) (h : Journal) (d : Driven) (lines : List Outcome) → Conducted first h → Runs h d → lines ≡ part_outcomes h → IsRunFor lines d.given d.plan
+abbrev pub run_for : (first : Opening) (h : Journal) (d : Driven) (lines : List Outcome) → Conducted first h → Runs first.blocks h d → lines ≡ part_outcomes h → IsRunFor lines d.given d.plan
 run_for first h d lines c r same = record {
-  most = most_blocks;
+  most = first.blocks;
   start = d.start;
   starts = r.starts;
   actions = d.actions;

@@ -165,56 +165,56 @@ module _ (R : List Part → Steps3 → List Epoch → Type 0) (cons : SaysByPart
 
   -- ---- closed epochs
 
-  abbrev ClosedRuns : State → NewestFirst Closed → List Passed → List Epoch → Type 0
-  ClosedRuns state es rest epochs = R (parts_of (closed_course state es ++ rest)) origin (closed_epochs state es ++ epochs)
+  abbrev ClosedRuns : (blocks : ℕ) → State → NewestFirst Closed → List Passed → List Epoch → Type 0
+  ClosedRuns blocks state es rest epochs = R (parts_of (closed_course blocks state es ++ rest)) origin (closed_epochs blocks state es ++ epochs)
 
   -- one more, behind those that are closed
-  one_more : (state : State) (es : NewestFirst Closed) (h : Journal) (w : Work) (rest : List Passed) (epochs : List Epoch)
-      → ClosedRuns state es (passed_at_reset (made_at_halt (ticks_made es) w) (opening_behind state es) h ++ a_reset (reset_of (ticks_made es) (opening_behind state es) h w) ∷ rest) (reset_epoch (ticks_made es) (opening_behind state es) h w ∷ epochs)
-      → ClosedRuns state (with_reset es h w) rest epochs
-  one_more state es h w rest epochs all =
-      let first = opening_behind state es in
+  one_more : (blocks : ℕ) (state : State) (es : NewestFirst Closed) (h : Journal) (w : Work) (rest : List Passed) (epochs : List Epoch)
+      → ClosedRuns blocks state es (passed_at_reset (made_at_halt (ticks_made es) w) (opening_behind blocks state es) h ++ a_reset (reset_of (ticks_made es) (opening_behind blocks state es) h w) ∷ rest) (reset_epoch (ticks_made es) (opening_behind blocks state es) h w ∷ epochs)
+      → ClosedRuns blocks state (with_reset es h w) rest epochs
+  one_more blocks state es h w rest epochs all =
+      let first = opening_behind blocks state es in
       let r = reset_of (ticks_made es) first h w in
       let passed = passed_at_reset (made_at_halt (ticks_made es) w) first h in
-      subst (λ (ps : List Passed). R (parts_of ps) origin (closed_epochs state (with_reset es h w) ++ epochs))
-      (sym (append_assoc (closed_course state es) (passed ++ a_reset r ∷ []) rest ∙ ap (λ (ps : List Passed). closed_course state es ++ ps) (append_assoc passed (a_reset r ∷ []) rest)))
-      (subst (λ (xs : List Epoch). R (parts_of (closed_course state es ++ (passed ++ a_reset r ∷ rest))) origin xs)
-      (sym (append_assoc (closed_epochs state es) (reset_epoch (ticks_made es) first h w ∷ []) epochs)) all)
+      subst (λ (ps : List Passed). R (parts_of ps) origin (closed_epochs blocks state (with_reset es h w) ++ epochs))
+      (sym (append_assoc (closed_course blocks state es) (passed ++ a_reset r ∷ []) rest ∙ ap (λ (ps : List Passed). closed_course blocks state es ++ ps) (append_assoc passed (a_reset r ∷ []) rest)))
+      (subst (λ (xs : List Epoch). R (parts_of (closed_course blocks state es ++ (passed ++ a_reset r ∷ rest))) origin xs)
+      (sym (append_assoc (closed_epochs blocks state es) (reset_epoch (ticks_made es) first h w ∷ []) epochs)) all)
 
   -- one whose reset is being worked
-  one_run : (state : State) (es : NewestFirst Closed) (h : Journal) (w : Work) (rest : List Passed) (epochs : List Epoch) → IsResetting (opening_behind state es) (closed_log es) h w → IsMadeAtHalt h (made_at_halt (ticks_made es) w)
-      → R (parts_of rest) (opening_behind state (with_reset es h w)).place epochs → EpochRuns (made_at_halt (ticks_made es) w) (opening_behind state es) h (reset_of (ticks_made es) (opening_behind state es) h w) (passed_at_reset (made_at_halt (ticks_made es) w) (opening_behind state es) h) rest epochs
-  one_run state es h w rest epochs is there run =
-      let first = opening_behind state es in epoch_runs (made_at_halt (ticks_made es) w) first h (reset_of (ticks_made es) first h w) rest epochs is.epoch is.may there refl run
+  one_run : (blocks : ℕ) (state : State) (es : NewestFirst Closed) (h : Journal) (w : Work) (rest : List Passed) (epochs : List Epoch) → IsResetting (opening_behind blocks state es) (closed_log es) h w → IsMadeAtHalt h (made_at_halt (ticks_made es) w)
+      → R (parts_of rest) (opening_behind blocks state (with_reset es h w)).place epochs → EpochRuns (made_at_halt (ticks_made es) w) (opening_behind blocks state es) h (reset_of (ticks_made es) (opening_behind blocks state es) h w) (passed_at_reset (made_at_halt (ticks_made es) w) (opening_behind blocks state es) h) rest epochs
+  one_run blocks state es h w rest epochs is there run =
+      let first = opening_behind blocks state es in epoch_runs (made_at_halt (ticks_made es) w) first h (reset_of (ticks_made es) first h w) rest epochs is.epoch is.may there refl run
 
-  pub closed_run : (state : State) (es : NewestFirst Closed) (rest : List Passed) (epochs : List Epoch) → AreClosed state es → R (parts_of rest) (opening_behind state es).place epochs → ClosedRuns state es rest epochs
-  closed_run state [] rest epochs c run = run
-  closed_run state (e ∷ es) rest epochs c run =
-      let first = opening_behind state es in
+  pub closed_run : (blocks : ℕ) (state : State) (es : NewestFirst Closed) (rest : List Passed) (epochs : List Epoch) → AreClosed blocks state es → R (parts_of rest) (opening_behind blocks state es).place epochs → ClosedRuns blocks state es rest epochs
+  closed_run blocks state [] rest epochs c run = run
+  closed_run blocks state (e ∷ es) rest epochs c run =
+      let first = opening_behind blocks state es in
       let made = made_at_halt (ticks_made es) e.work in
-      let here = one_run state es e.journal e.work rest epochs c.0.resetting (made_there state e es c) run in
-      one_more state es e.journal e.work rest epochs
-      (closed_run state es (passed_at_reset made first e.journal ++ a_reset (reset_of (ticks_made es) first e.journal e.work) ∷ rest) (reset_epoch (ticks_made es) first e.journal e.work ∷ epochs) c.1 here)
+      let here = one_run blocks state es e.journal e.work rest epochs c.0.resetting (made_there blocks state e es c) run in
+      one_more blocks state es e.journal e.work rest epochs
+      (closed_run blocks state es (passed_at_reset made first e.journal ++ a_reset (reset_of (ticks_made es) first e.journal e.work) ∷ rest) (reset_epoch (ticks_made es) first e.journal e.work ∷ epochs) c.1 here)
 
   -- and one whose reset's mark is published
-  pub marked_run : (state : State) (es : NewestFirst Closed) (h : Journal) (w : Work) (rest : List Passed) (epochs : List Epoch) → AreEpochs state (resets es h w) → is_marked (stage_of (log_behind (closed_log es) h) w) ≡ true
-      → R (parts_of rest) (opening_behind state (with_reset es h w)).place epochs → ClosedRuns state (with_reset es h w) rest epochs
-  marked_run state es h w rest epochs c marked run =
-      let first = opening_behind state es in
+  pub marked_run : (blocks : ℕ) (state : State) (es : NewestFirst Closed) (h : Journal) (w : Work) (rest : List Passed) (epochs : List Epoch) → AreEpochs blocks state (resets es h w) → is_marked (stage_of (log_behind (closed_log es) h) w) ≡ true
+      → R (parts_of rest) (opening_behind blocks state (with_reset es h w)).place epochs → ClosedRuns blocks state (with_reset es h w) rest epochs
+  marked_run blocks state es h w rest epochs c marked run =
+      let first = opening_behind blocks state es in
       let made = made_at_halt (ticks_made es) w in
-      let here = one_run state es h w rest epochs c.1 (marked_there state es h w c.0 c.1 marked).made run in
-      one_more state es h w rest epochs
-      (closed_run state es (passed_at_reset made first h ++ a_reset (reset_of (ticks_made es) first h w) ∷ rest) (reset_epoch (ticks_made es) first h w ∷ epochs) c.0 here)
+      let here = one_run blocks state es h w rest epochs c.1 (marked_there blocks state es h w c.0 c.1 marked).made run in
+      one_more blocks state es h w rest epochs
+      (closed_run blocks state es (passed_at_reset made first h ++ a_reset (reset_of (ticks_made es) first h w) ∷ rest) (reset_epoch (ticks_made es) first h w ∷ epochs) c.0 here)
 
 -- ---- the last epoch
 
-run_out : (first : Opening) (h : Journal) (p : Part) → Conducted first h → lines_counted p ≡ part_outcomes h → p.lines ≡ part_outcomes h → IsOver p (driven_since first h) → IsRunOut p (part_given h)
+run_out : (first : Opening) (h : Journal) (p : Part) → Conducted first h → lines_counted p ≡ part_outcomes h → p.lines ≡ part_outcomes h → IsOver first.blocks p (driven_since first h) → IsRunOut p (part_given h)
 run_out first h p c counted lines over = by_alarm (list_any raises_alarm p.lines) refl over
   where
     run : IsRunFor (lines_counted p) (part_given h) (driven_since first h).plan
     run = run_for first h (driven_since first h) (lines_counted p) c (runs_since first h c) counted
 
-    by_alarm : (t : Bool) → list_any raises_alarm p.lines ≡ t → either t (IsAlarmedPart p.lines (driven_since first h).start (driven_since first h).actions (part_given h) (driven_since first h).plan) (AllIsRun p (driven_since first h)) → IsRunOut p (part_given h)
+    by_alarm : (t : Bool) → list_any raises_alarm p.lines ≡ t → either t (IsAlarmedPart first.blocks p.lines (driven_since first h).start (driven_since first h).actions (part_given h) (driven_since first h).plan) (AllIsRun p (driven_since first h)) → IsRunOut p (part_given h)
     by_alarm true is alarmed = record {
       last = (driven_since first h).plan;
       run = run;
@@ -249,8 +249,8 @@ last_run made first h c over known =
 
 -- ---- all of it
 
-pub epochs_run : (state : State) (made : ℕ) (es : NewestFirst Closed) (h : Journal) → AreEpochs state (goes es h) → IsFinished (opening_behind state es) h → known_of h ≤ made
-    → AreRun (parts_of (course_of state made (goes es h))) origin (epochs_of state es h)
-epochs_run state made es h c over known =
-    let first = opening_behind state es in
-    closed_run AreRun all_by_parts state es (passed_so_far made first h) (last_epoch h ∷ []) c.0 (last_run made first h c.1.conducted over known)
+pub epochs_run : (blocks : ℕ) (state : State) (made : ℕ) (es : NewestFirst Closed) (h : Journal) → AreEpochs blocks state (goes es h) → IsFinished (opening_behind blocks state es) h → known_of h ≤ made
+    → AreRun (parts_of (course_of blocks state made (goes es h))) origin (epochs_of blocks state es h)
+epochs_run blocks state made es h c over known =
+    let first = opening_behind blocks state es in
+    closed_run AreRun all_by_parts blocks state es (passed_so_far made first h) (last_epoch h ∷ []) c.0 (last_run made first h c.1.conducted over known)

@@ -13,31 +13,29 @@ use Rattle.step_line.specs.Logs.{NewestFirst}
 use Rattle.step_line.specs.declared.Mark.TheVariants as marks
 use Rattle.step_line.specs.declared.Piece.{Piece}
 use Rattle.step_line.specs.declared.Piece.TheVariants as pieces
-use Rattle.board_rules.specs.Breaking.{is_end}
 use Rattle.board_rules.specs.Conduct.{Conducted, ticks_given}
 use Rattle.board_rules.specs.Cuts.{part_outcomes, part_given, part_of}
 use Rattle.board_rules.specs.Cuts.{parts_of as board_parts}
 use Rattle.board_rules.specs.Openings.{Opening}
 use Rattle.board_rules.specs.Parts.{Part as CutPart, pieces_in}
 use Rattle.board_rules.specs.Steps.{Journal, published_of, planned_of, given_of, hand_of, known_of}
-use Rattle.board_rules.proofs.Breaking.{planned_none}
 use Rattle.board_rules.proofs.Closing.{one_end}
 use Rattle.board_rules.proofs.Counting.{given_sum}
-use Rattle.board_rules.proofs.Ending.{NoEnds}
+use Rattle.board_rules.proofs.Ending.{NoEnds, planned_none}
 use Rattle.board_rules.proofs.Keeping.{hand_is}
 use Rattle.board_rules.proofs.Numbers.{pieces_are}
-use Rattle.board_epochs.specs.Epochs.{Closed, Epochs, AreEpochs, IsEpoch, closed_log, log_behind, opening_behind}
+use Rattle.board_epochs.specs.Epochs.{Closed, Epochs, AreEpochs, IsEpoch, closed_log, log_behind, opening_behind, ticks_made}
 use Rattle.board_epochs.specs.Epochs.Epochs.{goes, resets}
 use Rattle.board_epochs.specs.Resets.{MayReset}
 use Rattle.board_epochs.specs.Work.{Work, stage_of}
-use Rattle.board_epochs.proofs.Opening.{opens}
+use Rattle.board_epochs.proofs.Opening.{opens_on}
 use Rattle.epoch_courses.specs.Course.{is_marked, with_reset, is_unanswered, closed_course, open_journal, passed_by, passed_so_far, passed_at_reset, course_of}
 use Rattle.epoch_courses.specs.Drives.{driven_by_cut, driven_since, is_pending}
 use Rattle.epoch_courses.proofs.Drives.{Pends, part, part_place, parts_end, parts_broken_end, others_made, pends_there, uncut_made, runs_cut, runs_since}
 use Rattle.epoch_courses.proofs.Made.{AllMade}
 use Rattle.epoch_courses.proofs.Uncut.{uncut_there}
 use Rattle.epoch_records.specs.SoFar.{AreRunSoFar, IsUnderWay}
-use Rattle.epoch_runs.specs.Epochs.{closed_epochs, epochs_so_far, open_epoch, without_end}
+use Rattle.epoch_runs.specs.Epochs.{is_end, closed_epochs, epochs_so_far, open_epoch, without_end}
 use Rattle.epoch_runs.proofs.Ends.{ticks_behind}
 use Rattle.epoch_runs.proofs.Parts.{so_far_by_parts, cuts_run, epoch_with, parts_made, run_for, same_epoch}
 use Rattle.epoch_runs.proofs.Pieces.{IsBehind, behind_parts}
@@ -174,23 +172,23 @@ at_reset_so_far made first h is may known few = by_one (is_unanswered h) refl
 
 -- ---- all of it
 
-pub epochs_run_so_far : (state : State) (made : ℕ) (es : Epochs) → AreEpochs state es → known_of (open_journal es) ≤ made → made ≤ ticks_together (without_end (published_of (open_journal es)))
-    → AreRunSoFar (parts_of (course_of state made es)) origin (epochs_so_far state made es)
-epochs_run_so_far state made (goes es h) c known few =
-    let first = opening_behind state es in
+pub epochs_run_so_far : (blocks : ℕ) (state : State) (made : ℕ) (es : Epochs) → AreEpochs blocks state es → known_of (open_journal es) ≤ made → made ≤ ticks_together (without_end (published_of (open_journal es)))
+    → AreRunSoFar (parts_of (course_of blocks state made es)) origin (epochs_so_far blocks state made es)
+epochs_run_so_far blocks state made (goes es h) c known few =
+    let first = opening_behind blocks state es in
     let here = answered_so_far made first h c.1.conducted known few in
-    closed_run AreRunSoFar so_far_by_parts state es (passed_so_far made first h) (open_epoch made h ∷ []) c.0
+    closed_run AreRunSoFar so_far_by_parts blocks state es (passed_so_far made first h) (open_epoch made h ∷ []) c.0
     (subst (λ (ps : List Passed). AreRunSoFar (parts_of ps) first.place (open_epoch made h ∷ [])) (append-nil (passed_so_far made first h)) here)
-epochs_run_so_far state made (resets es h w) c known few =
-    let first = opening_behind state es in
+epochs_run_so_far blocks state made (resets es h w) c known few =
+    let first = opening_behind blocks state es in
     let here = at_reset_so_far made first h c.1.epoch c.1.may known few in
-    closed_run AreRunSoFar so_far_by_parts state es (passed_at_reset made first h) (open_epoch made h ∷ []) c.0
+    closed_run AreRunSoFar so_far_by_parts blocks state es (passed_at_reset made first h) (open_epoch made h ∷ []) c.0
     (subst (λ (ps : List Passed). AreRunSoFar (parts_of ps) first.place (open_epoch made h ∷ [])) (append-nil (passed_at_reset made first h)) here)
 
 -- Behind a reset whose mark is published, where nothing was done yet.
-pub marked_run_so_far : (state : State) (es : NewestFirst Closed) (h : Journal) (w : Work) → AreEpochs state (resets es h w) → is_marked (stage_of (log_behind (closed_log es) h) w) ≡ true
-    → AreRunSoFar (parts_of (closed_course state (with_reset es h w))) origin (epochs_so_far state 0 (goes (with_reset es h w) []))
-marked_run_so_far state es h w c marked =
-    let first = opening_behind state (with_reset es h w) in
-    subst (λ (ps : List Passed). AreRunSoFar (parts_of ps) origin (closed_epochs state (with_reset es h w) ++ open_epoch 0 [] ∷ [])) (append-nil (closed_course state (with_reset es h w)))
-    (marked_run AreRunSoFar so_far_by_parts state es h w [] (open_epoch 0 [] ∷ []) c marked (answered_so_far 0 first [] (opens state (with_reset es h w)) (omega (arith)) (omega (arith))))
+pub marked_run_so_far : (blocks : ℕ) (state : State) (es : NewestFirst Closed) (h : Journal) (w : Work) → AreEpochs blocks state (resets es h w) → is_marked (stage_of (log_behind (closed_log es) h) w) ≡ true
+    → AreRunSoFar (parts_of (closed_course blocks state (with_reset es h w))) origin (epochs_so_far blocks state 0 (goes (with_reset es h w) []))
+marked_run_so_far blocks state es h w c marked =
+    let first = opening_behind blocks state (with_reset es h w) in
+    subst (λ (ps : List Passed). AreRunSoFar (parts_of ps) origin (closed_epochs blocks state (with_reset es h w) ++ open_epoch 0 [] ∷ [])) (append-nil (closed_course blocks state (with_reset es h w)))
+    (marked_run AreRunSoFar so_far_by_parts blocks state es h w [] (open_epoch 0 [] ∷ []) c marked (answered_so_far 0 first [] (opens_on (ticks_made es) (opening_behind blocks state es) h w c.1.epoch.conducted) (omega (arith)) (omega (arith))))

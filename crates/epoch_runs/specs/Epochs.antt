@@ -1,5 +1,5 @@
 -- The epochs of a board, as the pulse has them.
-use Rattle.std.specs.Prelude.{ℕ, ◌-◌, not, List, [], ◌∷◌, ◌++◌, map, reverse}
+use Rattle.std.specs.Prelude.{ℕ, ◌-◌, Bool, true, false, not, List, [], ◌∷◌, ◌++◌, map, reverse}
 use Rattle.std.specs.List.{filter}
 use Rattle.motion_ring.specs.Sides as ring
 use Rattle.motion_ring.specs.declared.lists.Sent.{Sent}
@@ -9,7 +9,6 @@ use Rattle.step_line.specs.Logs.{NewestFirst}
 use Rattle.step_line.specs.declared.Mark.TheVariants as marks
 use Rattle.step_line.specs.declared.Piece.{Piece}
 use Rattle.step_line.specs.declared.Piece.TheVariants as pieces
-use Rattle.board_rules.specs.Breaking.{is_end}
 use Rattle.board_rules.specs.Openings.{Opening}
 use Rattle.board_rules.specs.Steps.{Journal, published_of, planned_of}
 use Rattle.board_epochs.specs.Epochs.{Closed, Epochs, closed_log, log_behind, opening_behind, last_line, ticks_made}
@@ -30,14 +29,18 @@ reset_epoch base first h w = record { pieces = published_of h; done = made_at_ha
 abbrev pub last_epoch : Journal → Epoch
 last_epoch h = record { pieces = planned_of h; done = ticks_together (planned_of h); closing = pieces.End }
 
-abbrev pub closed_epochs : State → NewestFirst Closed → List Epoch
-closed_epochs state [] = []
-closed_epochs state (e ∷ es) = closed_epochs state es ++ reset_epoch (ticks_made es) (opening_behind state es) e.journal e.work ∷ []
+abbrev pub closed_epochs : (blocks : ℕ) → State → NewestFirst Closed → List Epoch
+closed_epochs blocks state [] = []
+closed_epochs blocks state (e ∷ es) = closed_epochs blocks state es ++ reset_epoch (ticks_made es) (opening_behind blocks state es) e.journal e.work ∷ []
 
-abbrev pub epochs_of : State → NewestFirst Closed → Journal → List Epoch
-epochs_of state es h = closed_epochs state es ++ last_epoch h ∷ []
+abbrev pub epochs_of : (blocks : ℕ) → State → NewestFirst Closed → Journal → List Epoch
+epochs_of blocks state es h = closed_epochs blocks state es ++ last_epoch h ∷ []
 
 -- ---- so far
+
+abbrev pub is_end : Piece → Bool
+is_end pieces.End = true
+is_end p = false
 
 -- the end is no piece of an epoch: it ends one
 abbrev pub without_end : List Piece → List Piece
@@ -47,9 +50,9 @@ without_end ps = filter (λ p. not (is_end p)) ps
 abbrev pub open_epoch : (made : ℕ) → Journal → Epoch
 open_epoch made h = record { pieces = without_end (published_of h); done = made; closing = pieces.End }
 
-abbrev pub epochs_so_far : State → (made : ℕ) → Epochs → List Epoch
-epochs_so_far state made (goes es h) = closed_epochs state es ++ open_epoch made h ∷ []
-epochs_so_far state made (resets es h w) = closed_epochs state es ++ open_epoch made h ∷ []
+abbrev pub epochs_so_far : (blocks : ℕ) → State → (made : ℕ) → Epochs → List Epoch
+epochs_so_far blocks state made (goes es h) = closed_epochs blocks state es ++ open_epoch made h ∷ []
+epochs_so_far blocks state made (resets es h w) = closed_epochs blocks state es ++ open_epoch made h ∷ []
 
 -- how far the reset of the open epoch is
 abbrev pub phase_at : Stage → Phase
@@ -77,14 +80,14 @@ made_of ticks (goes es h) = ticks - ticks_made es
 made_of ticks (resets es h w) = made_in (phase_of (resets es h w)) ticks (ticks_made es) (halted_in w)
 
 -- the number of the line that was begun last, which the mark of the open epoch's reset has
-abbrev pub number_of : State → Epochs → ℕ
-number_of state (goes es h) = last_line (opening_behind state es) h
-number_of state (resets es h w) = last_line (opening_behind state es) h
+abbrev pub number_of : (blocks : ℕ) → State → Epochs → ℕ
+number_of blocks state (goes es h) = last_line (opening_behind blocks state es) h
+number_of blocks state (resets es h w) = last_line (opening_behind blocks state es) h
 
 -- the epochs before the open one
-abbrev pub closed_of : State → Epochs → List Epoch
-closed_of state (goes es h) = closed_epochs state es
-closed_of state (resets es h w) = closed_epochs state es
+abbrev pub closed_of : (blocks : ℕ) → State → Epochs → List Epoch
+closed_of blocks state (goes es h) = closed_epochs blocks state es
+closed_of blocks state (resets es h w) = closed_epochs blocks state es
 
 -- ---- as the ring has them
 

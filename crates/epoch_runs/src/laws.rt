@@ -25,12 +25,12 @@ ghost use Rattle.epoch_runs.specs.Epochs.{closed_of, epochs_of, epochs_so_far, m
 /// many ticks of the open one are made, at least those that the board knows of, and no more than were published. And once
 /// the mark of a reset is published, so were the epochs with the one that it ends, and one behind it in which nothing is done.
 pub fn epochs_are_run_for_their_course()
-    ensures run { (state : State) (made : ℕ) (es : NewestFirst Closed) (h : Journal) → AreEpochs state (goes es h) → IsFinished (opening_behind state es) h → known_of h ≤ made →
-        AreRun (parts_of (course_of state made (goes es h))) origin (epochs_of state es h) }
-    ensures so_far { (state : State) (made : ℕ) (es : Epochs) → AreEpochs state es → known_of (open_journal es) ≤ made → made ≤ ticks_together (without_end (published_of (open_journal es))) →
-        AreRunSoFar (parts_of (course_of state made es)) origin (epochs_so_far state made es) }
-    ensures marked { (state : State) (es : NewestFirst Closed) (h : Journal) (w : Work) → AreEpochs state (resets es h w) → is_marked (stage_of (log_behind (closed_log es) h) w) ≡ true →
-        AreRunSoFar (parts_of (closed_course state (with_reset es h w))) origin (epochs_so_far state 0 (goes (with_reset es h w) [])) }
+    ensures run { (blocks : ℕ) (state : State) (made : ℕ) (es : NewestFirst Closed) (h : Journal) → AreEpochs blocks state (goes es h) → IsFinished (opening_behind blocks state es) h → known_of h ≤ made →
+        AreRun (parts_of (course_of blocks state made (goes es h))) origin (epochs_of blocks state es h) }
+    ensures so_far { (blocks : ℕ) (state : State) (made : ℕ) (es : Epochs) → AreEpochs blocks state es → known_of (open_journal es) ≤ made → made ≤ ticks_together (without_end (published_of (open_journal es))) →
+        AreRunSoFar (parts_of (course_of blocks state made es)) origin (epochs_so_far blocks state made es) }
+    ensures marked { (blocks : ℕ) (state : State) (es : NewestFirst Closed) (h : Journal) (w : Work) → AreEpochs blocks state (resets es h w) → is_marked (stage_of (log_behind (closed_log es) h) w) ≡ true →
+        AreRunSoFar (parts_of (closed_course blocks state (with_reset es h w))) origin (epochs_so_far blocks state 0 (goes (with_reset es h w) [])) }
 {}
 
 /// These epochs are those of the board's port: their pieces, with the marks of the resets between them and the end behind
@@ -39,12 +39,12 @@ pub fn epochs_are_run_for_their_course()
 /// all, at least those that the board knows of, and no more than it has published (`so_far`): of the open epoch no fewer are made than
 /// its journal knows (`known`). A stop waits for its halt only where the reset of the open epoch has stored it (`stops`).
 pub fn epochs_are_those_of_the_port()
-    ensures over { (state : State) (es : NewestFirst Closed) (h : Journal) → AreEpochs state (goes es h) → AreOver (epochs_of state es h) }
-    ensures pieces { (state : State) (es : NewestFirst Closed) (h : Journal) → AreEpochs state (goes es h) → IsFinished (opening_behind state es) h → pieces_sent (sent_in (log_of (goes es h))) ≡ published_in (epochs_of state es h) }
-    ensures halts { (state : State) (es : NewestFirst Closed) (h : Journal) → AreEpochs state (goes es h) → halts_seen (sent_in (log_of (goes es h))) ≡ reverse (halts_in 0 0 (epochs_of state es h)) }
-    ensures so_far { (state : State) (ticks : ℕ) (es : Epochs) → AreEpochs state es → known_in (log_of es) ≤ ticks → ticks ≤ ticks_published (sent_in (log_of es)) →
-        ArePublishedSoFar (number_of state es) (phase_of es) (closed_of state es) (open_epoch (made_of ticks es) (open_journal es)) ticks (pieces_sent (sent_in (log_of es))) (halts_seen (sent_in (log_of es))) }
-    ensures known { (state : State) (ticks : ℕ) (es : Epochs) → AreEpochs state es → known_in (log_of es) ≤ ticks → ticks ≤ ticks_published (sent_in (log_of es)) →
+    ensures over { (blocks : ℕ) (state : State) (es : NewestFirst Closed) (h : Journal) → AreEpochs blocks state (goes es h) → AreOver (epochs_of blocks state es h) }
+    ensures pieces { (blocks : ℕ) (state : State) (es : NewestFirst Closed) (h : Journal) → AreEpochs blocks state (goes es h) → IsFinished (opening_behind blocks state es) h → pieces_sent (sent_in (log_of (goes es h))) ≡ published_in (epochs_of blocks state es h) }
+    ensures halts { (blocks : ℕ) (state : State) (es : NewestFirst Closed) (h : Journal) → AreEpochs blocks state (goes es h) → halts_seen (sent_in (log_of (goes es h))) ≡ reverse (halts_in 0 0 (epochs_of blocks state es h)) }
+    ensures so_far { (blocks : ℕ) (state : State) (ticks : ℕ) (es : Epochs) → AreEpochs blocks state es → known_in (log_of es) ≤ ticks → ticks ≤ ticks_published (sent_in (log_of es)) →
+        ArePublishedSoFar (number_of blocks state es) (phase_of es) (closed_of blocks state es) (open_epoch (made_of ticks es) (open_journal es)) ticks (pieces_sent (sent_in (log_of es))) (halts_seen (sent_in (log_of es))) }
+    ensures known { (blocks : ℕ) (state : State) (ticks : ℕ) (es : Epochs) → AreEpochs blocks state es → known_in (log_of es) ≤ ticks → ticks ≤ ticks_published (sent_in (log_of es)) →
         known_of (open_journal es) ≤ made_of ticks es }
-    ensures stops { (state : State) (es : Epochs) → AreEpochs state es → (sent_in (log_of es)).waits ≡ true → phase_of es ≡ is_stopping }
+    ensures stops { (blocks : ℕ) (state : State) (es : Epochs) → AreEpochs blocks state es → (sent_in (log_of es)).waits ≡ true → phase_of es ≡ is_stopping }
 {}

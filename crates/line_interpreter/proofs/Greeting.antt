@@ -11,9 +11,6 @@ abbrev reply_of : List Task → Reply
 reply_of (tell r ∷ tasks) = r
 reply_of tasks = replies.Banner
 
-pub first_told : (r reply : Reply) (tasks : List Task) → IsNextOf (tell reply) (tell r ∷ tasks) → r ≡ reply
-first_told r reply tasks e = ap reply_of e
-
 locked_told : (locked : Bool) (k : ℕ) (reply : Reply) → IsNextOf (tell reply) (drop k (telling (cond locked (replies.Message Locked ∷ []) []))) → replies.Message Locked ≡ reply
 locked_told true zero reply e = ap reply_of e
 locked_told true (suc zero) reply e = absurd cc

@@ -36,7 +36,3 @@ pub whole_line : (line : Keeping) (kept : List ℕ) → IsKept line kept → lin
 whole_line line kept is under =
     let few : nat_lt 79 (length kept) ≡ false = sym is.over_is ∙ under in
     let fits : length kept ≤ 79 = grind (arith, nat_tests) in (is.bytes_are ∙ take_all 79 kept fits, fits)
-
-pub long_line : (line : Keeping) (kept : List ℕ) → IsKept line kept → line.over ≡ true → 79 < length kept
-long_line line kept is over =
-    let many : nat_lt 79 (length kept) ≡ true = sym is.over_is ∙ over in grind (arith, nat_tests)

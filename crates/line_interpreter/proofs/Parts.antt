@@ -72,11 +72,7 @@ row_told rs more k x r e f = same_reply (drop k (telling (rs ++ more))) x r (row
 abbrev pub TellsOnly : Reply → List Task → Type 0
 TellsOnly x [] = Unit {0}
 TellsOnly x (tell r ∷ ts) = (x ≡ r) × TellsOnly x ts
-TellsOnly x (ask a ∷ ts) = TellsOnly x ts
-TellsOnly x (pause ∷ ts) = TellsOnly x ts
-TellsOnly x (normal ∷ ts) = TellsOnly x ts
-TellsOnly x (finish ∷ ts) = TellsOnly x ts
-TellsOnly x (halt ∷ ts) = TellsOnly x ts
+TellsOnly x (_ ∷ ts) = TellsOnly x ts
 
 first_told : (x r : Reply) (t : Task) (ts : List Task) → TellsOnly x (t ∷ ts) → IsNextOf (tell r) (t ∷ ts) → x ≡ r
 first_told x r (tell y) ts only e = let f : y ≡ r = cc in only.0 ∙ f
@@ -146,13 +142,7 @@ items_told line s spindle flood all place k r past e =
 abbrev NoMoves : List Task → Type 0
 NoMoves [] = Unit {0}
 NoMoves (ask (a_move m) ∷ ts) = ⊥
-NoMoves (ask (a_mark m) ∷ ts) = NoMoves ts
-NoMoves (ask a_rest ∷ ts) = NoMoves ts
-NoMoves (tell r ∷ ts) = NoMoves ts
-NoMoves (pause ∷ ts) = NoMoves ts
-NoMoves (normal ∷ ts) = NoMoves ts
-NoMoves (finish ∷ ts) = NoMoves ts
-NoMoves (halt ∷ ts) = NoMoves ts
+NoMoves (_ ∷ ts) = NoMoves ts
 
 no_move : (m : PlannedMove) (w : List Task) (k : ℕ) → NoMoves w → IsNextOf (ask (a_move m)) (drop k w) → ⊥
 no_move m [] zero none e = none_first (ask (a_move m)) e

@@ -23,7 +23,7 @@ ghost use Rattle.step_line.specs.Asking.{IsPlannedMove};
 ghost use Rattle.step_line.specs.Asking.Asked.{a_move};
 ghost use Rattle.step_line.specs.declared.planned_move.PlannedMove.{PlannedMove as AnyMove};
 ghost use Rattle.line_interpreter.specs.Desks.{IsReady, standing, Begun};
-ghost use Rattle.line_interpreter.specs.Resets.{state_anew};
+ghost use Rattle.run_rules.specs.Resets.{reset_state};
 
 use crate::kept::KeptLine;
 use crate::tasks::{Body, Line, Todo};
@@ -70,10 +70,10 @@ fn fault_number(fault: WordFault) -> u8
 
 /// What a reset leaves of a state, with the machine at this place: the settings, and the offsets but that of G92. All else of
 /// the parser begins anew there.
-fn state_anew(state: State, at: Steps3) -> State
+fn reset_state(state: State, at: Steps3) -> State
     requires state { IsState state }
     requires place { IsPlace at }
-    ensures is { result ≡ state_anew at state }
+    ensures is { result ≡ reset_state at state }
     ensures valid { IsState result }
 {
     let mut parser = Parser::opening();
@@ -375,13 +375,13 @@ impl Desk {
         requires state { IsState answered }
         requires place { IsPlace at }
         requires few { self.old.number + dropped < 2 ^ 32 }
-        ensures same { self.new ≡ record self.old { state = state_anew at answered; number = self.old.number + dropped; line = self.new.line } }
+        ensures same { self.new ≡ record self.old { state = reset_state at answered; number = self.old.number + dropped; line = self.new.line } }
         ensures left { work_left self.new.line self.new.state ≡ telling (greeting alarm locked) }
         ensures ready { IsReady self.new }
         ensures settled { IsSettled self.new.line self.new.state }
     {
         self.begin(Body::Greets(alarm, locked));
-        self.state = state_anew(answered, at);
+        self.state = reset_state(answered, at);
         self.number += dropped;
     }
 

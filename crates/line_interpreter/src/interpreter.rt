@@ -21,7 +21,7 @@ ghost use Rattle.step_line.specs.Asking.Asked.{a_move};
 ghost use Rattle.step_line.specs.declared.planned_move.PlannedMove.{PlannedMove as AnyMove};
 ghost use Rattle.line_interpreter.specs.Interpreting.{stands_before};
 ghost use Rattle.line_interpreter.specs.Desks.{kind_told};
-ghost use Rattle.line_interpreter.specs.Resets.{state_anew};
+ghost use Rattle.run_rules.specs.Resets.{reset_state};
 
 use crate::desk::{Accepted, Desk};
 use crate::kept::KeptLine;
@@ -101,7 +101,7 @@ impl Interpreter {
         requires state { IsState answered }
         requires place { IsPlace at }
         requires few { self.old.number + dropped < 2 ^ 32 }
-        ensures { self.new ≡ record { state = state_anew at answered; number = self.old.number + dropped; left = telling (greeting alarm locked) } }
+        ensures { self.new ≡ record { state = reset_state at answered; number = self.old.number + dropped; left = telling (greeting alarm locked) } }
     {
         self.desk.open_behind(answered, at, dropped, alarm, locked);
     }

@@ -3,6 +3,7 @@ use Rattle.std.proofs.Common.{◌∷◌, [], refl, arith}
 use Rattle.code_table.specs.Flags.{raised_by}
 use Rattle.code_table.specs.declared.flags.Exec.{Exec}
 use Rattle.outside.specs.declared.Turn.TheVariants.{Did}
+use Rattle.planner_runs.specs.Runs.{most_blocks}
 use Rattle.run_rules.specs.declared.State.{State}
 use Rattle.status_report.specs.declared.Reply.TheVariants.{Banner}
 use Rattle.board_rules.specs.Conduct.{Conducted}
@@ -26,7 +27,7 @@ asks = record { 0 = raised_by reset_byte }
 abbrev pub asked : Journal
 asked = turned Did ∷ at_port (took_exec asks) ∷ turned Did ∷ at_port (answered Banner) ∷ []
 
-conducted : (state : State) → Conducted (first_opening state) asked
+conducted : (state : State) → Conducted (first_opening most_blocks state) asked
 conducted state = (
   ends _ _ (λ w. untrue w.blocks) refl refl refl refl refl refl,
   (
@@ -35,7 +36,7 @@ conducted state = (
   ),
 )
 
-prompt : (state : State) → IsPrompt (first_opening state) asked
+prompt : (state : State) → IsPrompt (first_opening most_blocks state) asked
 prompt state = (
   record { further = λ is. refl; waits = λ may. absurd (let b = may.between in cc) },
   (
@@ -44,15 +45,16 @@ prompt state = (
   ),
 )
 
-pub may : (state : State) → MayReset (first_opening state) asked
+pub may : (state : State) → MayReset (first_opening most_blocks state) asked
 may state = record { asked = refl; between = refl; unowed = refl; told = refl }
 
-pub epochs : (state : State) → AreEpochs state (goes [] asked)
+pub epochs : (state : State) → AreEpochs most_blocks state (goes [] asked)
 epochs state = (tt, record { conducted = conducted state; prompt = prompt state }, record { bytes = omega arith; reports = omega arith })
 
 pub begins : (state : State) (it : ResetWork) → IsWorking it 0 (log_of (goes [] asked)) [] → IsWorkedOn 3 0 0 it
 begins state it is =
-    let start = resets_begin state [] asked (epochs state) (may state) in (
+    let start = resets_begin most_blocks state [] asked (epochs state) (may state) in (
+      most_blocks,
       state,
       [],
       asked,

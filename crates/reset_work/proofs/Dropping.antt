@@ -54,17 +54,17 @@ one_more : (asks : Bool) (n : ℕ) → n ≤ 2 ^ 31 → (asks ≡ true → n < 2
 one_more true n was few = let f = few refl in omega (arith, f)
 one_more false n was few = was
 
-pub drop_changes_again : (was is : BoardLog → Type 0) (it : ResetWork) (word : Ovr) (state : State) (es : NewestFirst Closed) (h : Journal) (w : Work) → it.words ≡ Both
-    → IsBetween was it state es h w → is (took_ovr word ∷ log_of (resets es h w)) → WorksOn is Did it (record it { words = Requests }) state es h w
-drop_changes_again was is it word state es h w both b port =
+pub drop_changes_again : (was is : BoardLog → Type 0) (it : ResetWork) (word : Ovr) (blocks : ℕ) (state : State) (es : NewestFirst Closed) (h : Journal) (w : Work) → it.words ≡ Both
+    → IsBetween was it blocks state es h w → is (took_ovr word ∷ log_of (resets es h w)) → WorksOn is Did it (record it { words = Requests }) blocks state es h w
+drop_changes_again was is it word blocks state es h w both b port =
     let l = log_of (resets es h w) in
     let e = took_ovr word in
-    let number = last_line (opening_behind state es) h in
+    let number = last_line (opening_behind blocks state es) h in
     let before = log_behind (closed_log es) h in
     let i = b.working in
     let k = changes number l word it.stage it.words i.waited (λ none. absurd (let f = sym both ∙ none in cc)) in
-    turned_by is Did it (record it { words = Requests }) state es h w e port
-    (stepped state es h w e Did b.epochs (λ ends. k.going (sym i.stage_is ∙ ends)) (subst (MayWorkAt number l e) (sym i.stage_is) k.may) (one_out (at_port e) w b.between) (record { bytes = b.epochs.2.bytes; reports = b.epochs.2.reports }))
+    turned_by is Did it (record it { words = Requests }) blocks state es h w e port
+    (stepped blocks state es h w e Did b.epochs (λ ends. k.going (sym i.stage_is ∙ ends)) (subst (MayWorkAt number l e) (sym i.stage_is) k.may) (one_out (at_port e) w b.between) (record { bytes = b.epochs.2.bytes; reports = b.epochs.2.reports }))
     (record {
       stage_is = ap (stage_at l e) i.stage_is ∙ k.stays;
       words_are = refl;
@@ -80,17 +80,17 @@ drop_changes_again was is it word state es h w both b port =
     (λ did. inr (let f = ap words_left both in omega (arith, f)))
     (λ ends. absurd (k.going (ap stage_in ends)))
 
-pub drop_requests : (was is : BoardLog → Type 0) (it : ResetWork) (word : Exec) (state : State) (es : NewestFirst Closed) (h : Journal) (w : Work) → it.words ≡ Requests
-    → IsBetween was it state es h w → (asks_report word ≡ true → HasFewReports (log_of (resets es h w))) → is (took_exec word ∷ log_of (resets es h w)) → WorksOn is Did it (record it { words = None }) state es h w
-drop_requests was is it word state es h w one b few port =
+pub drop_requests : (was is : BoardLog → Type 0) (it : ResetWork) (word : Exec) (blocks : ℕ) (state : State) (es : NewestFirst Closed) (h : Journal) (w : Work) → it.words ≡ Requests
+    → IsBetween was it blocks state es h w → (asks_report word ≡ true → HasFewReports (log_of (resets es h w))) → is (took_exec word ∷ log_of (resets es h w)) → WorksOn is Did it (record it { words = None }) blocks state es h w
+drop_requests was is it word blocks state es h w one b few port =
     let l = log_of (resets es h w) in
     let e = took_exec word in
-    let number = last_line (opening_behind state es) h in
+    let number = last_line (opening_behind blocks state es) h in
     let before = log_behind (closed_log es) h in
     let i = b.working in
     let k = requests number l word it.stage it.words i.waited (λ none. absurd (let f = sym one ∙ none in cc)) few in
-    turned_by is Did it (record it { words = None }) state es h w e port
-    (stepped state es h w e Did b.epochs (λ ends. k.going (sym i.stage_is ∙ ends)) (subst (MayWorkAt number l e) (sym i.stage_is) k.may) (one_out (at_port e) w b.between)
+    turned_by is Did it (record it { words = None }) blocks state es h w e port
+    (stepped blocks state es h w e Did b.epochs (λ ends. k.going (sym i.stage_is ∙ ends)) (subst (MayWorkAt number l e) (sym i.stage_is) k.may) (one_out (at_port e) w b.between)
     (record { bytes = b.epochs.2.bytes; reports = one_more (asks_report word) (reports_in l) b.epochs.2.reports few }))
     (record {
       stage_is = ap (stage_at l e) i.stage_is ∙ k.stays;

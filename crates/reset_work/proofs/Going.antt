@@ -1,5 +1,5 @@
 -- How one step at the port, and the answer of its turn, go on with a reset's work.
-use Rattle.std.proofs.Common.{◌≡◌, ◌⊎◌, ◌≤◌, ◌<◌, zero, suc, Bool, true, false, ◌||◌, ◌∷◌, [], refl, sym, ap, subst, ◌∙◌}
+use Rattle.std.proofs.Common.{◌≡◌, ◌⊎◌, ℕ, ◌≤◌, ◌<◌, zero, suc, Bool, true, false, ◌||◌, ◌∷◌, [], refl, sym, ap, subst, ◌∙◌}
 use Rattle.std.specs.List.{count_by, list_any}
 use Rattle.std.proofs.lemmas.List.Sums.{count_by-le-length}
 use Rattle.outside.specs.declared.On.{On}
@@ -31,14 +31,14 @@ pub one_out : (s : Step) (w : Work) → this_turn w ≡ [] → count_by goes_out
 one_out s w between = subst (λ (x : Work). count_by goes_out (s ∷ x) ≤ 1) (sym between) (count_by-le-length goes_out (s ∷ []))
 
 -- A step that is allowed, and the answer of its turn, go on with the work, which is not over.
-pub stepped : (state : State) (es : NewestFirst Closed) (h : Journal) (w : Work) (e : PortStep) (t : Turn)
-    → AreEpochs state (resets es h w)
+pub stepped : (blocks : ℕ) (state : State) (es : NewestFirst Closed) (h : Journal) (w : Work) (e : PortStep) (t : Turn)
+    → AreEpochs blocks state (resets es h w)
     → (stage_of (log_behind (closed_log es) h) w ≡ over → ⊥)
-    → MayWorkAt (last_line (opening_behind state es) h) (log_of (resets es h w)) e (stage_of (log_behind (closed_log es) h) w)
+    → MayWorkAt (last_line (opening_behind blocks state es) h) (log_of (resets es h w)) e (stage_of (log_behind (closed_log es) h) w)
     → MayEndWork (log_behind (closed_log es) h) t (at_port e ∷ w)
     → IsBounded (e ∷ log_of (resets es h w))
-    → AreEpochs state (resets es h (turned t ∷ at_port e ∷ w))
-stepped state es h w e t c going may ends bounded = (
+    → AreEpochs blocks state (resets es h (turned t ∷ at_port e ∷ w))
+stepped blocks state es h w e t c going may ends bounded = (
   c.0,
   record {
     epoch = c.1.epoch;
@@ -60,14 +60,14 @@ is_last (Drops (suc left)) e = absurd cc
 is_last AwaitsDone e = absurd cc
 
 -- a turn of one step, behind which the fields keep what was done
-pub turned_by : (is : BoardLog → Type 0) (t : Turn) (was new : ResetWork) (state : State) (es : NewestFirst Closed) (h : Journal) (w : Work) (e : PortStep)
+pub turned_by : (is : BoardLog → Type 0) (t : Turn) (was new : ResetWork) (blocks : ℕ) (state : State) (es : NewestFirst Closed) (h : Journal) (w : Work) (e : PortStep)
     → is (e ∷ log_of (resets es h w))
-    → AreEpochs state (resets es h (turned t ∷ at_port e ∷ w))
-    → IsWorking new (last_line (opening_behind state es) h) (log_behind (closed_log es) h) (turned t ∷ at_port e ∷ w)
+    → AreEpochs blocks state (resets es h (turned t ∷ at_port e ∷ w))
+    → IsWorking new (last_line (opening_behind blocks state es) h) (log_behind (closed_log es) h) (turned t ∷ at_port e ∷ w)
     → (t ≡ Did → (list_any moving (at_port e ∷ this_turn w) ≡ true) ⊎ (number_of new < number_of was))
     → (new.stage ≡ Over → number_left < number_of was)
-    → WorksOn is t was new state es h w
-turned_by is t was new state es h w e port epochs working moves ends = (
+    → WorksOn is t was new blocks state es h w
+turned_by is t was new blocks state es h w e port epochs working moves ends = (
   turned t ∷ at_port e ∷ w,
   record { port = port; epochs = epochs; working = working; between = refl },
   record { steps = at_port e ∷ []; are = refl; moves = moves; ends = λ worked. ends (is_last new.stage (sym working.stage_is ∙ worked.done)) },
@@ -86,7 +86,7 @@ waits before w e o between still requests changes dropped cause = record {
 }
 
 -- a turn that waits does so with both words to be dropped again
-pub waited : (is : BoardLog → Type 0) (t : Turn) (new : ResetWork) (o : On) (it : ResetWork) (state : State) (es : NewestFirst Closed) (h : Journal) (w : Work)
-    → t ≡ Wait o → new ≡ record it { words = Both } → WorksOn is (Wait o) it (record it { words = Both }) state es h w → WorksOn is t it new state es h w
-waited is t new o it state es h w turn words on =
-    subst (λ (u : Turn). WorksOn is u it new state es h w) (sym turn) (subst (λ (n : ResetWork). WorksOn is (Wait o) it n state es h w) (sym words) on)
+pub waited : (is : BoardLog → Type 0) (t : Turn) (new : ResetWork) (o : On) (it : ResetWork) (blocks : ℕ) (state : State) (es : NewestFirst Closed) (h : Journal) (w : Work)
+    → t ≡ Wait o → new ≡ record it { words = Both } → WorksOn is (Wait o) it (record it { words = Both }) blocks state es h w → WorksOn is t it new blocks state es h w
+waited is t new o it blocks state es h w turn words on =
+    subst (λ (u : Turn). WorksOn is u it new blocks state es h w) (sym turn) (subst (λ (n : ResetWork). WorksOn is (Wait o) it n blocks state es h w) (sym words) on)

@@ -30,12 +30,6 @@ marks stored left ticks done m bytes l few t =
 pub not_empty : {A : Type 0} (stored ticks done : ℕ) (l : BoardLog) → IsTape stored 0 ticks done l → IsMarkedPast l → A
 not_empty stored ticks done l t past = absurd (let n = t.marks _ past in let b = t.bytes in omega (arith, n, b))
 
--- more is stored
-pub stores : (stored left ticks done n : ℕ) (l : BoardLog) → IsTape stored left ticks done l → IsTape (stored + n) (left + n) ticks done l
-stores stored left ticks done n l t =
-    let b = t.bytes in
-    record { bytes = omega (arith, b); marks = λ m past. let e = t.marks m past in omega (arith, e); ticks_are = t.ticks_are; known = t.known; below = t.below; few = t.few }
-
 -- ---- what is done
 
 pub later_done : (stored left ticks done later : ℕ) (l : BoardLog) → done ≤ later → later ≤ ticks → IsTape stored left ticks done l → IsTape stored left ticks later (loaded later ∷ l)

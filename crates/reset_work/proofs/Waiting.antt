@@ -27,20 +27,20 @@ use Rattle.reset_work.proofs.Going.{both_dropped, stepped, turned_by, waits}
 old_mark : (worked m : ℕ) → m ≤ worked → nat_lt worked m ≡ false
 old_mark worked m le = grind (arith, nat_tests)
 
-pub await_mark : (was is : BoardLog → Type 0) (it : ResetWork) (m bytes : ℕ) (state : State) (es : NewestFirst Closed) (h : Journal) (w : Work) → it.stage ≡ AwaitsMark → it.words ≡ None
-    → m < 2 ^ 32 → m ≤ it.mark → IsBetween was it state es h w → is (found_mark m bytes ∷ log_of (resets es h w)) → WorksOn is (Wait on.Reset) it (record it { words = Both }) state es h w
-await_mark was is it m bytes state es h w at free fits old b port =
+pub await_mark : (was is : BoardLog → Type 0) (it : ResetWork) (m bytes : ℕ) (blocks : ℕ) (state : State) (es : NewestFirst Closed) (h : Journal) (w : Work) → it.stage ≡ AwaitsMark → it.words ≡ None
+    → m < 2 ^ 32 → m ≤ it.mark → IsBetween was it blocks state es h w → is (found_mark m bytes ∷ log_of (resets es h w)) → WorksOn is (Wait on.Reset) it (record it { words = Both }) blocks state es h w
+await_mark was is it m bytes blocks state es h w at free fits old b port =
     let l = log_of (resets es h w) in
     let e = found_mark m bytes in
-    let number = last_line (opening_behind state es) h in
+    let number = last_line (opening_behind blocks state es) h in
     let before = log_behind (closed_log es) h in
     let i = b.working in
     let stage : stage_of before w ≡ awaits_mark = i.stage_is ∙ ap stage_in at in
     let worked : it.mark ≡ worked_in l = i.mark_is ∙ ap (mark_known l) at in
     let still : stage_of before (at_port e ∷ w) ≡ awaits_mark =
     ap (stage_at l e) stage ∙ ap (λ (t : Bool). by_mark t (bytes - length (taken_in l))) (old_mark (worked_in l) m (subst (λ (n : ℕ). m ≤ n) worked old)) in
-    turned_by is (Wait on.Reset) it (record it { words = Both }) state es h w e port
-    (stepped state es h w e (Wait on.Reset) b.epochs (λ ends. absurd (let f = sym stage ∙ ends in cc)) (subst (MayWorkAt number l e) (sym stage) fits)
+    turned_by is (Wait on.Reset) it (record it { words = Both }) blocks state es h w e port
+    (stepped blocks state es h w e (Wait on.Reset) b.epochs (λ ends. absurd (let f = sym stage ∙ ends in cc)) (subst (MayWorkAt number l e) (sym stage) fits)
     (waits before w e on.Reset b.between refl refl refl (both_dropped it.words w free i.words_are) (subst (λ (s : WorkStage). NeedsAt on.Reset s (at_port e ∷ w)) (sym still) refl))
     (record { bytes = b.epochs.2.bytes; reports = b.epochs.2.reports }))
     (record {
@@ -60,18 +60,18 @@ await_mark was is it m bytes state es h w at free fits old b port =
 
 -- ---- for the halt
 
-pub await_halt : (was is : BoardLog → Type 0) (it : ResetWork) (left : ℕ) (state : State) (es : NewestFirst Closed) (h : Journal) (w : Work) → it.stage ≡ AwaitsHalt left → it.words ≡ None
-    → IsBetween was it state es h w → is (found_no_halt ∷ log_of (resets es h w)) → WorksOn is (Wait on.Halt) it (record it { words = Both }) state es h w
-await_halt was is it left state es h w at free b port =
+pub await_halt : (was is : BoardLog → Type 0) (it : ResetWork) (left : ℕ) (blocks : ℕ) (state : State) (es : NewestFirst Closed) (h : Journal) (w : Work) → it.stage ≡ AwaitsHalt left → it.words ≡ None
+    → IsBetween was it blocks state es h w → is (found_no_halt ∷ log_of (resets es h w)) → WorksOn is (Wait on.Halt) it (record it { words = Both }) blocks state es h w
+await_halt was is it left blocks state es h w at free b port =
     let l = log_of (resets es h w) in
     let e = found_no_halt in
-    let number = last_line (opening_behind state es) h in
+    let number = last_line (opening_behind blocks state es) h in
     let before = log_behind (closed_log es) h in
     let i = b.working in
     let stage : stage_of before w ≡ awaits_halt left = i.stage_is ∙ ap stage_in at in
     let still : stage_of before (at_port e ∷ w) ≡ awaits_halt left = ap (stage_at l e) stage in
-    turned_by is (Wait on.Halt) it (record it { words = Both }) state es h w e port
-    (stepped state es h w e (Wait on.Halt) b.epochs (λ ends. absurd (let f = sym stage ∙ ends in cc)) (subst (MayWorkAt number l e) (sym stage) tt)
+    turned_by is (Wait on.Halt) it (record it { words = Both }) blocks state es h w e port
+    (stepped blocks state es h w e (Wait on.Halt) b.epochs (λ ends. absurd (let f = sym stage ∙ ends in cc)) (subst (MayWorkAt number l e) (sym stage) tt)
     (waits before w e on.Halt b.between refl refl refl (both_dropped it.words w free i.words_are) (subst (λ (s : WorkStage). NeedsAt on.Halt s (at_port e ∷ w)) (sym still) refl))
     (record { bytes = b.epochs.2.bytes; reports = b.epochs.2.reports }))
     (record {
@@ -98,20 +98,20 @@ published_then number before w works stage = ap ring.ticks_published (let s : Ho
 undone : (done halted ticks : ℕ) → ticks ≡ halted + 1 → done ≤ halted → nat_eq done ticks ≡ false
 undone done halted ticks is le = grind (arith, nat_tests)
 
-pub await_done : (was is : BoardLog → Type 0) (it : ResetWork) (done : ℕ) (state : State) (es : NewestFirst Closed) (h : Journal) (w : Work) → it.stage ≡ AwaitsDone → it.words ≡ None
-    → MayBeDone done (log_of (resets es h w)) → done ≤ it.halted → IsBetween was it state es h w → is (loaded done ∷ log_of (resets es h w)) → WorksOn is (Wait on.Motion) it (record it { words = Both }) state es h w
-await_done was is it done state es h w at free may below b port =
+pub await_done : (was is : BoardLog → Type 0) (it : ResetWork) (done : ℕ) (blocks : ℕ) (state : State) (es : NewestFirst Closed) (h : Journal) (w : Work) → it.stage ≡ AwaitsDone → it.words ≡ None
+    → MayBeDone done (log_of (resets es h w)) → done ≤ it.halted → IsBetween was it blocks state es h w → is (loaded done ∷ log_of (resets es h w)) → WorksOn is (Wait on.Motion) it (record it { words = Both }) blocks state es h w
+await_done was is it done blocks state es h w at free may below b port =
     let l = log_of (resets es h w) in
     let e = loaded done in
-    let number = last_line (opening_behind state es) h in
+    let number = last_line (opening_behind blocks state es) h in
     let before = log_behind (closed_log es) h in
     let i = b.working in
     let stage : stage_of before w ≡ awaits_done = i.stage_is ∙ ap stage_in at in
     let ticks = published_then number before w b.epochs.1.works stage in
     let still : stage_of before (at_port e ∷ w) ≡ awaits_done =
     ap (stage_at l e) stage ∙ ap by_load (undone done (halted_in w) (ring.ticks_published (sent_in l)) ticks (subst (λ (n : ℕ). done ≤ n) i.halted_is below)) in
-    turned_by is (Wait on.Motion) it (record it { words = Both }) state es h w e port
-    (stepped state es h w e (Wait on.Motion) b.epochs (λ ends. absurd (let f = sym stage ∙ ends in cc)) (subst (MayWorkAt number l e) (sym stage) may)
+    turned_by is (Wait on.Motion) it (record it { words = Both }) blocks state es h w e port
+    (stepped blocks state es h w e (Wait on.Motion) b.epochs (λ ends. absurd (let f = sym stage ∙ ends in cc)) (subst (MayWorkAt number l e) (sym stage) may)
     (waits before w e on.Motion b.between refl refl refl (both_dropped it.words w free i.words_are) (subst (λ (s : WorkStage). NeedsAt on.Motion s (at_port e ∷ w)) (sym still) refl))
     (record { bytes = b.epochs.2.bytes; reports = b.epochs.2.reports }))
     (record {

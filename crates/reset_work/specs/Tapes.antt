@@ -24,4 +24,4 @@ pub record IsTape (stored left ticks done : ℕ) (l : BoardLog) : Type 0 where
 
 -- a reset is worked on one with three bytes, between two turns
 abbrev pub IsWorkedOn : (left ticks done : ℕ) → ResetWork → Type 0
-IsWorkedOn left ticks done it = (state : State) × (es : NewestFirst Closed) × (h : Journal) × (w : Work) × IsBetween (IsTape 3 left ticks done) it state es h w
+IsWorkedOn left ticks done it = (blocks : ℕ) × (state : State) × (es : NewestFirst Closed) × (h : Journal) × (w : Work) × IsBetween (IsTape 3 left ticks done) it blocks state es h w

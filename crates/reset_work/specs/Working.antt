@@ -84,10 +84,10 @@ pub record IsWorking (it : ResetWork) (number : ℕ) (before : BoardLog) (w : Wo
   pub made_are : AreMade (port_log w ++ before) it.stage it.ticks
 
 -- A reset is worked between two turns behind these epochs: the port stands for all that was done, which the rules allow.
-pub record IsBetween (stands : BoardLog → Type 0) (it : ResetWork) (state : State) (es : NewestFirst Closed) (h : Journal) (w : Work) : Type 0 where
+pub record IsBetween (stands : BoardLog → Type 0) (it : ResetWork) (blocks : ℕ) (state : State) (es : NewestFirst Closed) (h : Journal) (w : Work) : Type 0 where
   pub port : stands (log_of (resets es h w))
-  pub epochs : AreEpochs state (resets es h w)
-  pub working : IsWorking it (last_line (opening_behind state es) h) (log_behind (closed_log es) h) w
+  pub epochs : AreEpochs blocks state (resets es h w)
+  pub working : IsWorking it (last_line (opening_behind blocks state es) h) (log_behind (closed_log es) h) w
   pub between : this_turn w ≡ []
 
 -- ---- a turn
@@ -124,8 +124,8 @@ pub record WorkTurned (before : BoardLog) (t : Turn) (was is : ResetWork) (w nex
   pub ends : IsWorked before next → number_left < number_of was
 
 -- what a turn leaves: a longer work, and the port stands for it
-abbrev pub WorksOn : (stands : BoardLog → Type 0) → Turn → (was is : ResetWork) → State → NewestFirst Closed → Journal → Work → Type 0
-WorksOn stands t was is state es h w = (next : Work) × IsBetween stands is state es h next × WorkTurned (log_behind (closed_log es) h) t was is w next
+abbrev pub WorksOn : (stands : BoardLog → Type 0) → Turn → (was is : ResetWork) → (blocks : ℕ) → State → NewestFirst Closed → Journal → Work → Type 0
+WorksOn stands t was is blocks state es h w = (next : Work) × IsBetween stands is blocks state es h next × WorkTurned (log_behind (closed_log es) h) t was is w next
 
 -- it did something, or waits for this
 abbrev pub IsAnswered : On → Turn → Type 0

@@ -56,10 +56,10 @@ impl Counts {
 
     /// The work of a reset behind an epoch, in which the last line begun has this number, and so many bytes were taken.
     pub fn reset(&self, line: u32, taken: u32) -> ResetWork
-        requires { (state : State) × (es : NewestFirst Closed) × (h : Journal) × AreEpochs state (goes es h) × IsCounted self.now es × (taken ≡ length (taken_of h)) }
-        ensures begins { (state : State) (es : NewestFirst Closed) (h : Journal) → AreEpochs state (goes es h) → MayReset (opening_behind state es) h → IsCounted self.now es
-            → line ≡ last_line (opening_behind state es) h → taken ≡ length (taken_of h)
-            → AreEpochs state (resets es h []) × IsWorking result (last_line (opening_behind state es) h) (log_behind (closed_log es) h) [] }
+        requires { (blocks : ℕ) × (state : State) × (es : NewestFirst Closed) × (h : Journal) × AreEpochs blocks state (goes es h) × IsCounted self.now es × (taken ≡ length (taken_of h)) }
+        ensures begins { (blocks : ℕ) (state : State) (es : NewestFirst Closed) (h : Journal) → AreEpochs blocks state (goes es h) → MayReset (opening_behind blocks state es) h → IsCounted self.now es
+            → line ≡ last_line (opening_behind blocks state es) h → taken ≡ length (taken_of h)
+            → AreEpochs blocks state (resets es h []) × IsWorking result (last_line (opening_behind blocks state es) h) (log_behind (closed_log es) h) [] }
         ensures few { number_of result < 15 }
     {
         ResetWork::begin(line, self.mark, self.bytes + taken)
@@ -67,10 +67,10 @@ impl Counts {
 
     /// How many ticks of its epoch were done when the pulse halted.
     pub fn halted(&self, work: &ResetWork) -> u64
-        requires { (state : State) × (es : NewestFirst Closed) × (h : Journal) × (w : Work) × AreEpochs state (resets es h w) × IsWorked (log_behind (closed_log es) h) w × IsCounted self.now es
-            × IsWorking work.now (last_line (opening_behind state es) h) (log_behind (closed_log es) h) w }
-        ensures { (state : State) (es : NewestFirst Closed) (h : Journal) (w : Work) → AreEpochs state (resets es h w) → IsWorked (log_behind (closed_log es) h) w → IsCounted self.now es
-            → IsWorking work.now (last_line (opening_behind state es) h) (log_behind (closed_log es) h) w → (halted_in w ≡ ticks_made es + result) × MayBeDone result (port_log h) }
+        requires { (blocks : ℕ) × (state : State) × (es : NewestFirst Closed) × (h : Journal) × (w : Work) × AreEpochs blocks state (resets es h w) × IsWorked (log_behind (closed_log es) h) w × IsCounted self.now es
+            × IsWorking work.now (last_line (opening_behind blocks state es) h) (log_behind (closed_log es) h) w }
+        ensures { (blocks : ℕ) (state : State) (es : NewestFirst Closed) (h : Journal) (w : Work) → AreEpochs blocks state (resets es h w) → IsWorked (log_behind (closed_log es) h) w → IsCounted self.now es
+            → IsWorking work.now (last_line (opening_behind blocks state es) h) (log_behind (closed_log es) h) w → (halted_in w ≡ ticks_made es + result) × MayBeDone result (port_log h) }
     {
         work.halted() - self.ticks
     }

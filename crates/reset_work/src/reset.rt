@@ -148,9 +148,9 @@ impl ResetWork {
     ///
     /// The rules are those of the work's journal: whatever was done before, it goes on as they allow.
     pub fn turn<P: BoardPort>(&mut self, port: &mut P) -> Turn
-        requires stands { (rest : P.Rest) × (state : State) × (es : NewestFirst Closed) × (h : Journal) × (w : Work) × IsBetween (P.stands port.old rest) self.old state es h w × (IsWorked (log_behind (closed_log es) h) w → ⊥) }
-        ensures goes_on { (rest : P.Rest) (state : State) (es : NewestFirst Closed) (h : Journal) (w : Work) → IsBetween (P.stands port.old rest) self.old state es h w → (IsWorked (log_behind (closed_log es) h) w → ⊥)
-            → WorksOn (P.stands port.new rest) result self.old self.new state es h w }
+        requires stands { (rest : P.Rest) × (blocks : ℕ) × (state : State) × (es : NewestFirst Closed) × (h : Journal) × (w : Work) × IsBetween (P.stands port.old rest) self.old blocks state es h w × (IsWorked (log_behind (closed_log es) h) w → ⊥) }
+        ensures goes_on { (rest : P.Rest) (blocks : ℕ) (state : State) (es : NewestFirst Closed) (h : Journal) (w : Work) → IsBetween (P.stands port.old rest) self.old blocks state es h w → (IsWorked (log_behind (closed_log es) h) w → ⊥)
+            → WorksOn (P.stands port.new rest) result self.old self.new blocks state es h w }
         ensures answers { IsAnsweredByWork result }
         ensures few { number_of self.old < 64 }
     {

@@ -1,6 +1,6 @@
 //! What a turn of a reset's work does at each stage.
 
-ghost use Rattle.std.specs.Prelude.{◌≡◌, ◌≢◌, ◌<◌, ◌∷◌, []};
+ghost use Rattle.std.specs.Prelude.{◌≡◌, ◌≢◌, ℕ, ◌<◌, ◌∷◌, []};
 ghost use Rattle.outside.specs.declared.On.TheVariants as on;
 ghost use Rattle.outside.specs.declared.Turn.TheVariants.{Done};
 ghost use Rattle.run_rules.specs.declared.State.{State};
@@ -27,10 +27,10 @@ fn ends(byte: u8) -> u32
 impl ResetWork {
     /// Drops the word of changes of overrides, behind a wait.
     pub(crate) fn drop_changes_again<P: BoardPort>(&mut self, port: &mut P) -> Turn
-        requires stands { (rest : P.Rest) × (state : State) × (es : NewestFirst Closed) × (h : Journal) × (w : Work) × IsBetween (P.stands port.old rest) self.old state es h w }
+        requires stands { (rest : P.Rest) × (blocks : ℕ) × (state : State) × (es : NewestFirst Closed) × (h : Journal) × (w : Work) × IsBetween (P.stands port.old rest) self.old blocks state es h w }
         requires words { self.old.words ≡ Words.Both }
-        ensures goes_on { (rest : P.Rest) (state : State) (es : NewestFirst Closed) (h : Journal) (w : Work) → IsBetween (P.stands port.old rest) self.old state es h w
-            → WorksOn (P.stands port.new rest) result self.old self.new state es h w }
+        ensures goes_on { (rest : P.Rest) (blocks : ℕ) (state : State) (es : NewestFirst Closed) (h : Journal) (w : Work) → IsBetween (P.stands port.old rest) self.old blocks state es h w
+            → WorksOn (P.stands port.new rest) result self.old self.new blocks state es h w }
         ensures answers { result ≡ Turn.Did }
     {
         port.take_override();
@@ -40,10 +40,10 @@ impl ResetWork {
 
     /// Drops the word of requests, behind a wait.
     pub(crate) fn drop_requests<P: BoardPort>(&mut self, port: &mut P) -> Turn
-        requires stands { (rest : P.Rest) × (state : State) × (es : NewestFirst Closed) × (h : Journal) × (w : Work) × IsBetween (P.stands port.old rest) self.old state es h w }
+        requires stands { (rest : P.Rest) × (blocks : ℕ) × (state : State) × (es : NewestFirst Closed) × (h : Journal) × (w : Work) × IsBetween (P.stands port.old rest) self.old blocks state es h w }
         requires words { self.old.words ≡ Words.Requests }
-        ensures goes_on { (rest : P.Rest) (state : State) (es : NewestFirst Closed) (h : Journal) (w : Work) → IsBetween (P.stands port.old rest) self.old state es h w
-            → WorksOn (P.stands port.new rest) result self.old self.new state es h w }
+        ensures goes_on { (rest : P.Rest) (blocks : ℕ) (state : State) (es : NewestFirst Closed) (h : Journal) (w : Work) → IsBetween (P.stands port.old rest) self.old blocks state es h w
+            → WorksOn (P.stands port.new rest) result self.old self.new blocks state es h w }
         ensures answers { result ≡ Turn.Did }
     {
         port.take_exec();
@@ -53,11 +53,11 @@ impl ResetWork {
 
     /// Drops the word of changes of overrides, with which the work begins.
     pub(crate) fn drop_changes<P: BoardPort>(&mut self, port: &mut P) -> Turn
-        requires stands { (rest : P.Rest) × (state : State) × (es : NewestFirst Closed) × (h : Journal) × (w : Work) × IsBetween (P.stands port.old rest) self.old state es h w }
+        requires stands { (rest : P.Rest) × (blocks : ℕ) × (state : State) × (es : NewestFirst Closed) × (h : Journal) × (w : Work) × IsBetween (P.stands port.old rest) self.old blocks state es h w }
         requires stage { self.old.stage ≡ Stage.DropsChanges }
         requires words { self.old.words ≡ Words.None }
-        ensures goes_on { (rest : P.Rest) (state : State) (es : NewestFirst Closed) (h : Journal) (w : Work) → IsBetween (P.stands port.old rest) self.old state es h w
-            → WorksOn (P.stands port.new rest) result self.old self.new state es h w }
+        ensures goes_on { (rest : P.Rest) (blocks : ℕ) (state : State) (es : NewestFirst Closed) (h : Journal) (w : Work) → IsBetween (P.stands port.old rest) self.old blocks state es h w
+            → WorksOn (P.stands port.new rest) result self.old self.new blocks state es h w }
         ensures answers { result ≡ Turn.Did }
     {
         port.take_override();
@@ -67,11 +67,11 @@ impl ResetWork {
 
     /// Waits until the host's mark is new: its number is above that of the mark that was worked last.
     pub(crate) fn await_mark<P: BoardPort>(&mut self, port: &mut P) -> Turn
-        requires stands { (rest : P.Rest) × (state : State) × (es : NewestFirst Closed) × (h : Journal) × (w : Work) × IsBetween (P.stands port.old rest) self.old state es h w }
+        requires stands { (rest : P.Rest) × (blocks : ℕ) × (state : State) × (es : NewestFirst Closed) × (h : Journal) × (w : Work) × IsBetween (P.stands port.old rest) self.old blocks state es h w }
         requires stage { self.old.stage ≡ Stage.AwaitsMark }
         requires words { self.old.words ≡ Words.None }
-        ensures goes_on { (rest : P.Rest) (state : State) (es : NewestFirst Closed) (h : Journal) (w : Work) → IsBetween (P.stands port.old rest) self.old state es h w
-            → WorksOn (P.stands port.new rest) result self.old self.new state es h w }
+        ensures goes_on { (rest : P.Rest) (blocks : ℕ) (state : State) (es : NewestFirst Closed) (h : Journal) (w : Work) → IsBetween (P.stands port.old rest) self.old blocks state es h w
+            → WorksOn (P.stands port.new rest) result self.old self.new blocks state es h w }
         ensures answers { IsAnswered On.Reset result }
     {
         let (mark, bytes) = port.marked();
@@ -85,11 +85,11 @@ impl ResetWork {
 
     /// Tells the pulse to stop.
     pub(crate) fn stop_pulse<P: BoardPort>(&mut self, port: &mut P, left: u32) -> Turn
-        requires stands { (rest : P.Rest) × (state : State) × (es : NewestFirst Closed) × (h : Journal) × (w : Work) × IsBetween (P.stands port.old rest) self.old state es h w }
+        requires stands { (rest : P.Rest) × (blocks : ℕ) × (state : State) × (es : NewestFirst Closed) × (h : Journal) × (w : Work) × IsBetween (P.stands port.old rest) self.old blocks state es h w }
         requires stage { self.old.stage ≡ Stage.Stops left }
         requires words { self.old.words ≡ Words.None }
-        ensures goes_on { (rest : P.Rest) (state : State) (es : NewestFirst Closed) (h : Journal) (w : Work) → IsBetween (P.stands port.old rest) self.old state es h w
-            → WorksOn (P.stands port.new rest) result self.old self.new state es h w }
+        ensures goes_on { (rest : P.Rest) (blocks : ℕ) (state : State) (es : NewestFirst Closed) (h : Journal) (w : Work) → IsBetween (P.stands port.old rest) self.old blocks state es h w
+            → WorksOn (P.stands port.new rest) result self.old self.new blocks state es h w }
         ensures answers { result ≡ Turn.Did }
     {
         port.stop();
@@ -99,11 +99,11 @@ impl ResetWork {
 
     /// Waits until the pulse has halted.
     pub(crate) fn await_halt<P: BoardPort>(&mut self, port: &mut P, left: u32) -> Turn
-        requires stands { (rest : P.Rest) × (state : State) × (es : NewestFirst Closed) × (h : Journal) × (w : Work) × IsBetween (P.stands port.old rest) self.old state es h w }
+        requires stands { (rest : P.Rest) × (blocks : ℕ) × (state : State) × (es : NewestFirst Closed) × (h : Journal) × (w : Work) × IsBetween (P.stands port.old rest) self.old blocks state es h w }
         requires stage { self.old.stage ≡ Stage.AwaitsHalt left }
         requires words { self.old.words ≡ Words.None }
-        ensures goes_on { (rest : P.Rest) (state : State) (es : NewestFirst Closed) (h : Journal) (w : Work) → IsBetween (P.stands port.old rest) self.old state es h w
-            → WorksOn (P.stands port.new rest) result self.old self.new state es h w }
+        ensures goes_on { (rest : P.Rest) (blocks : ℕ) (state : State) (es : NewestFirst Closed) (h : Journal) (w : Work) → IsBetween (P.stands port.old rest) self.old blocks state es h w
+            → WorksOn (P.stands port.new rest) result self.old self.new blocks state es h w }
         ensures answers { IsAnswered On.Halt result }
     {
         match port.halted() {
@@ -118,12 +118,12 @@ impl ResetWork {
 
     /// Takes and drops a byte before the mark.
     pub(crate) fn drop_byte<P: BoardPort>(&mut self, port: &mut P, left: u32) -> Turn
-        requires stands { (rest : P.Rest) × (state : State) × (es : NewestFirst Closed) × (h : Journal) × (w : Work) × IsBetween (P.stands port.old rest) self.old state es h w }
+        requires stands { (rest : P.Rest) × (blocks : ℕ) × (state : State) × (es : NewestFirst Closed) × (h : Journal) × (w : Work) × IsBetween (P.stands port.old rest) self.old blocks state es h w }
         requires stage { self.old.stage ≡ Stage.Drops left }
         requires some { 0 < left }
         requires words { self.old.words ≡ Words.None }
-        ensures goes_on { (rest : P.Rest) (state : State) (es : NewestFirst Closed) (h : Journal) (w : Work) → IsBetween (P.stands port.old rest) self.old state es h w
-            → WorksOn (P.stands port.new rest) result self.old self.new state es h w }
+        ensures goes_on { (rest : P.Rest) (blocks : ℕ) (state : State) (es : NewestFirst Closed) (h : Journal) (w : Work) → IsBetween (P.stands port.old rest) self.old blocks state es h w
+            → WorksOn (P.stands port.new rest) result self.old self.new blocks state es h w }
         ensures answers { result ≡ Turn.Did }
     {
         match port.byte() {
@@ -139,11 +139,11 @@ impl ResetWork {
 
     /// Publishes the mark of the reset, for which there is room.
     pub(crate) fn publish_mark<P: BoardPort>(&mut self, port: &mut P) -> Turn
-        requires stands { (rest : P.Rest) × (state : State) × (es : NewestFirst Closed) × (h : Journal) × (w : Work) × IsBetween (P.stands port.old rest) self.old state es h w }
+        requires stands { (rest : P.Rest) × (blocks : ℕ) × (state : State) × (es : NewestFirst Closed) × (h : Journal) × (w : Work) × IsBetween (P.stands port.old rest) self.old blocks state es h w }
         requires stage { self.old.stage ≡ Stage.Drops 0 }
         requires words { self.old.words ≡ Words.None }
-        ensures goes_on { (rest : P.Rest) (state : State) (es : NewestFirst Closed) (h : Journal) (w : Work) → IsBetween (P.stands port.old rest) self.old state es h w
-            → WorksOn (P.stands port.new rest) result self.old self.new state es h w }
+        ensures goes_on { (rest : P.Rest) (blocks : ℕ) (state : State) (es : NewestFirst Closed) (h : Journal) (w : Work) → IsBetween (P.stands port.old rest) self.old blocks state es h w
+            → WorksOn (P.stands port.new rest) result self.old self.new blocks state es h w }
         ensures answers { result ≡ Turn.Did }
     {
         match port.publish(Piece::Mark(Mark::Reset(self.number))) {
@@ -157,11 +157,11 @@ impl ResetWork {
 
     /// Waits until the mark of the reset is done.
     pub(crate) fn await_mark_done<P: BoardPort>(&mut self, port: &mut P) -> Turn
-        requires stands { (rest : P.Rest) × (state : State) × (es : NewestFirst Closed) × (h : Journal) × (w : Work) × IsBetween (P.stands port.old rest) self.old state es h w }
+        requires stands { (rest : P.Rest) × (blocks : ℕ) × (state : State) × (es : NewestFirst Closed) × (h : Journal) × (w : Work) × IsBetween (P.stands port.old rest) self.old blocks state es h w }
         requires stage { self.old.stage ≡ Stage.AwaitsDone }
         requires words { self.old.words ≡ Words.None }
-        ensures goes_on { (rest : P.Rest) (state : State) (es : NewestFirst Closed) (h : Journal) (w : Work) → IsBetween (P.stands port.old rest) self.old state es h w
-            → WorksOn (P.stands port.new rest) result self.old self.new state es h w }
+        ensures goes_on { (rest : P.Rest) (blocks : ℕ) (state : State) (es : NewestFirst Closed) (h : Journal) (w : Work) → IsBetween (P.stands port.old rest) self.old blocks state es h w
+            → WorksOn (P.stands port.new rest) result self.old self.new blocks state es h w }
         ensures answers { IsAnswered On.Motion result }
     {
         let done = port.done();

@@ -51,6 +51,8 @@ impl Tape {
 impl BoardPort for Tape {
     ghost Rest = { Unit {0} };
 
+    ghost room = { 128 };
+
     ghost stands = { λ tape rest l. IsTape 3 tape.left tape.ticks tape.done l };
 
     fn byte(&mut self) -> ByteIn {

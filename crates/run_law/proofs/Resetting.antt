@@ -12,12 +12,11 @@ use Rattle.realtime_flags.specs.Bytes.{flag_of_row, flag_of_byte}
 use Rattle.stream_host.specs.Jobs.{is_reset}
 use Rattle.stream_host.specs.Steps.{HostLog}
 use Rattle.stream_host.specs.Steps as hosts
-use Rattle.board_rules.specs.Ports.{BoardLog, asks_reset, has_held_in, has_slowed_in, has_changed_in, has_reset_in, reports_in}
+use Rattle.board_rules.specs.Ports.{BoardLog, asks_reset, has_reset_in}
 use Rattle.board_rules.specs.Ports.PortStep.{took_exec}
-use Rattle.run_law.specs.Flags.{is_hold, is_change, AreTaken}
+use Rattle.run_law.specs.Flags.{is_hold, is_change, AreTaken, words_taken}
 use Rattle.run_law.specs.Taking.{raises_in, takes_in}
 use Rattle.run_law.proofs.Querying.{asked_few}
-use Rattle.board_rules.specs.Cuts.{cancel_words_in}
 use Rattle.run_law.proofs.Cancelling.{slow_raised}
 use Rattle.run_law.proofs.Slowing.{cancels_few}
 use Rattle.run_law.proofs.Taking.{IsByteOf, change_bytes, change_taken, flag_was_raised, held_by_word, hold_bytes, hold_flag, hold_taken, taken_was_down}
@@ -65,7 +64,7 @@ reset_bytes : IsByteOf reset_flag is_reset
 unfolding is_reset_flag
 reset_bytes b is = only_reset b (ap is_reset_flag is)
 
-pub taken_were_raised : (words : List ℕ) (host : HostLog) (board : BoardLog) → IsBalanced words (raises_in host) (takes_in board) → AreTaken (hosts.bytes_raised_in host) (has_held_in board) (has_slowed_in board) (has_changed_in board) (has_reset_in board) (reports_in board) (cancel_words_in board)
+pub taken_were_raised : (words : List ℕ) (host : HostLog) (board : BoardLog) → IsBalanced words (raises_in host) (takes_in board) → AreTaken (hosts.bytes_raised_in host) (words_taken board)
 taken_were_raised words host board balance = record {
   held_by = λ held. flag_was_raised hold_flag is_hold hold_bytes host
       (taken_was_down (is_up hold_flag words) (raised_down hold_flag (raises_in host)) (takes_with hold_flag (takes_in board)) (balance hold_flag) (hold_taken board held));

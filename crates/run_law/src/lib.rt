@@ -6,12 +6,11 @@ ghost use Rattle.outside.specs.Causes.{SinkState};
 ghost use Rattle.step_record.specs.Taking.{Log, records};
 ghost use Rattle.step_record.specs.declared.forms.Form.{Form};
 ghost use Rattle.step_record.specs.Recording.{Recording, RecorderFits, Rests};
-ghost use Rattle.board_rules.specs.Ports.{BoardLog, has_held_in, has_slowed_in, has_changed_in, has_reset_in, reports_in};
+ghost use Rattle.board_rules.specs.Ports.{BoardLog};
 ghost use Rattle.realtime_flags.specs.Bits.{IsBalanced};
 ghost use Rattle.stream_host.specs.Steps.{HostLog, bytes_raised_in};
-ghost use Rattle.board_rules.specs.Cuts.{cancel_words_in};
 ghost use Rattle.run_law.specs.Changes.{AreAskedIn, words_in};
-ghost use Rattle.run_law.specs.Flags.{AreTaken};
+ghost use Rattle.run_law.specs.Flags.{AreTaken, words_taken};
 ghost use Rattle.run_law.specs.Taking.{raises_in, takes_in};
 ghost use Rattle.run_law.specs.Ran.{RecorderRan};
 ghost use Rattle.run_law.specs.SoFar.{RecorderRuns};
@@ -34,7 +33,7 @@ pub struct RunEnd {
 /// had it, and by one more if it is up.
 pub fn flags_that_are_taken_were_raised()
     ensures taken { (words : List ℕ) (host : HostLog) (board : BoardLog) → IsBalanced words (raises_in host) (takes_in board) →
-        AreTaken (bytes_raised_in host) (has_held_in board) (has_slowed_in board) (has_changed_in board) (has_reset_in board) (reports_in board) (cancel_words_in board) }
+        AreTaken (bytes_raised_in host) (words_taken board) }
     ensures changes { (words : List ℕ) (host : HostLog) (board : BoardLog) → IsBalanced words (raises_in host) (takes_in board) →
         AreAskedIn (bytes_raised_in host) (words_in board) }
 {}

@@ -15,7 +15,7 @@ use Rattle.settings.specs.Numbers.{values}
 use Rattle.jog.specs.declared.JogMove.{JogMove}
 use Rattle.system_lines.specs.declared.Command.{Command}
 use Rattle.status_report.specs.Answering.{is_answer, is_bye, is_banner, answers_in}
-use Rattle.status_report.proofs.Answered.{answers_first, answers_on}
+use Rattle.status_report.proofs.Answered.{answers_first}
 use Rattle.status_report.specs.Lists.{setting_replies, offset_replies, row_places}
 use Rattle.status_report.specs.declared.Reply.{Reply}
 use Rattle.status_report.specs.declared.Reply.TheVariants as replies
@@ -25,7 +25,7 @@ use Rattle.run_rules.specs.declared.State.{State}
 use Rattle.run_rules.specs.Outcomes.{Before, Becomes, ByCommand, Passed, Follows, after, at_place, became_of, executed, jogging, told, limited, refused}
 use Rattle.run_rules.specs.Outcomes.Passed.{a_line, a_cut}
 use Rattle.run_rules.specs.Asks.{work_of, move_asked, planned}
-use Rattle.run_rules.specs.Told.{is_error, replies_in, errors_in, errors_among, limits_in}
+use Rattle.run_rules.specs.Told.{replies_in, limits_in}
 use Rattle.run_rules.specs.Work.{Task, Outcome, is_limit, soft_limit, tells, told_by, telling, asking}
 use Rattle.run_rules.specs.Work.Kind.{of_none}
 use Rattle.run_rules.specs.Work.Task.{tell}
@@ -239,30 +239,6 @@ lines_answered runs b lines ps last f =
     let each = each_answered runs b lines ps last f in
     omega (arith, first, counted, each)
 
--- what is told in a whole run: the banner and Bye are no answers
-whole_counted : (p : Reply → Bool) → CountsAnswers p → (os : List Outcome) → count_by p (replies_in os ++ replies.Bye ∷ []) ≡ count_by p (flat_map (λ (o : Outcome). tells o.work) os)
-whole_counted p only os =
-    let a = sum_by-append (λ x. cond (p x) 1 0) (replies_in os) (replies.Bye ∷ []) in
-    let b = sum_by-cons (λ x. cond (p x) 1 0) replies.Banner (flat_map (λ (o : Outcome). tells o.work) os) in
-    let y = one_none (p replies.Banner) (only replies.Banner refl) in
-    let z = one_none (p replies.Bye) (only replies.Bye refl) in
-    omega arith
-
-errors_are_answers : CountsAnswers is_error
-errors_are_answers (replies.Error n) e = absurd cc
-errors_are_answers _ e = refl
-
--- and Bye is none
-pub answers_are : (runs : Bool) (b : Before) (lines : List (List ℕ)) (ps : List Passed) (last : Before) → Follows runs b lines ps last → answers_in (replies_in (became_of ps) ++ replies.Bye ∷ []) + limits_in (became_of ps) ≡ length lines
-answers_are runs b lines ps last f =
-    let on = answers_on (replies_in (became_of ps)) (replies.Bye ∷ []) in
-    let e = lines_answered runs b lines ps last f in
-    omega (arith, on, e)
-
--- and the errors are those of the lines
-pub errors_are : (runs : Bool) (b : Before) (lines : List (List ℕ)) (ps : List Passed) (last : Before) → Follows runs b lines ps last → errors_among (replies_in (became_of ps) ++ replies.Bye ∷ []) ≡ errors_in (became_of ps)
-errors_are runs b lines ps last f = whole_counted is_error errors_are_answers (became_of ps) ∙ all_counted is_error errors_are_answers runs b lines ps last f
-
 -- ---- Bye
 
 abbrev pub NoByes : List Reply → Type 0
@@ -289,17 +265,6 @@ pub begun_no_bye : (b : Before) (o : Outcome) → AnswersOrHalts b o → NoByes 
 begun_no_bye b o (inl once) = line_no_bye o once
 begun_no_bye b o (inr is) = subst (λ (x : Outcome). NoByes (tells x.work)) (sym is) ((λ e. absurd cc), ((λ e. absurd cc), tt))
 
-lines_no_bye : (runs : Bool) (b : Before) (lines : List (List ℕ)) (ps : List Passed) (last : Before) → Follows runs b lines ps last → NoByes (flat_map (λ (o : Outcome). tells o.work) (became_of ps))
-lines_no_bye runs b [] [] last f = tt
-lines_no_bye runs b (l ∷ ls) [] last f = tt
-lines_no_bye runs b [] (a_line o ∷ ps) last f = absurd f
-lines_no_bye runs b ls (a_cut k at ∷ ps) last f = lines_no_bye runs (at_place at b) ls ps last f.1
-lines_no_bye runs b (l ∷ ls) (a_line o ∷ ps) last f =
-    no_byes_on (tells o.work) (flat_map (λ (o : Outcome). tells o.work) (became_of ps)) (begun_no_bye b o (answers_or_halts runs b l o f.0.becomes)) (lines_no_bye runs (after b o) ls ps last f.1)
-
-pub none_is_bye : (runs : Bool) (b : Before) (lines : List (List ℕ)) (ps : List Passed) (last : Before) → Follows runs b lines ps last → NoByes (replies_in (became_of ps))
-none_is_bye runs b lines ps last f = ((λ e. absurd cc), lines_no_bye runs b lines ps last f)
-
 -- ---- the Banner
 
 no_answer_greets : (r : Reply) → is_answer r ≡ true → is_banner r ≡ false
@@ -317,19 +282,3 @@ begun_greets_none b o (inl once) =
     let a = sum_by-append (λ x. cond (is_banner x) 1 0) once.body (o.answer ∷ []) in
     let m = body_greets_none once.body once.none in let z = one_none (is_banner o.answer) (no_answer_greets o.answer once.one) in omega arith
 begun_greets_none b o (inr is) = subst (λ (x : Outcome). count_by is_banner (tells x.work) ≡ 0) (sym is) refl
-
--- no line tells a Banner
-pub line_greets_none : (runs : Bool) (b : Before) (kept : List ℕ) (o : Outcome) → Becomes runs b kept o → count_by is_banner (tells o.work) ≡ 0
-line_greets_none runs b kept o is = begun_greets_none b o (answers_or_halts runs b kept o is)
-
-pub lines_greet_none : (runs : Bool) (b : Before) (lines : List (List ℕ)) (ps : List Passed) (last : Before) → Follows runs b lines ps last
-    → count_by is_banner (flat_map (λ (o : Outcome). tells o.work) (became_of ps)) ≡ 0
-lines_greet_none runs b [] [] last f = refl
-lines_greet_none runs b (l ∷ ls) [] last f = refl
-lines_greet_none runs b [] (a_line o ∷ ps) last f = absurd f
-lines_greet_none runs b ls (a_cut k at ∷ ps) last f = lines_greet_none runs (at_place at b) ls ps last f.1
-lines_greet_none runs b (l ∷ ls) (a_line o ∷ ps) last f =
-    let a = sum_by-append (λ x. cond (is_banner x) 1 0) (tells o.work) (flat_map (λ (o : Outcome). tells o.work) (became_of ps)) in
-    let one = line_greets_none runs b l o f.0.becomes in
-    let m = lines_greet_none runs (after b o) ls ps last f.1 in
-    omega arith

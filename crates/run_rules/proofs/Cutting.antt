@@ -41,15 +41,16 @@ last_line [] h = refl
 last_line (c ∷ []) h = rw h.0 refl
 last_line (c ∷ d ∷ ds) h = rw h.0 (ap (onto_first c) (last_line (d ∷ ds) h.1 ∙ some_line d ds) ∙ sym (some_line c (d ∷ ds)))
 
-lines_first : (lines : List (List ℕ)) (xs : List ℕ) → AllByRecursion HasNoLf lines → HasNoLf xs → lines_of (ended lines ++ xs) ≡ lines ++ cond (nat_lt 0 (length xs)) (xs ∷ []) []
-lines_first [] xs h p = last_line xs p
-lines_first (l ∷ ls) xs h p =
+-- the lines of a text that begins with lines
+pub lines_on : (lines : List (List ℕ)) (xs : List ℕ) → AllByRecursion HasNoLf lines → lines_of (ended lines ++ xs) ≡ lines ++ lines_of xs
+lines_on [] xs h = refl
+lines_on (l ∷ ls) xs h =
     ap lines_of (append_assoc (l ++ 10 ∷ []) (ended ls) xs ∙ append_assoc l (10 ∷ []) (ended ls ++ xs))
-    ∙ line_first l (ended ls ++ xs) h.0 ∙ ap (λ r. l ∷ r) (lines_first ls xs h.1 p)
+    ∙ line_first l (ended ls ++ xs) h.0 ∙ ap (λ (r : List (List ℕ)). l ∷ r) (lines_on ls xs h.1)
 
 -- the lines of a text that is cut
 pub lines_are : (text : List ℕ) (lines : List (List ℕ)) (xs : List ℕ) → CutsInto text lines xs → lines_of text ≡ lines ++ cond (nat_lt 0 (length xs)) (xs ∷ []) []
-lines_are text lines xs is = ap lines_of is.whole ∙ lines_first lines xs is.each is.partial
+lines_are text lines xs is = ap lines_of is.whole ∙ lines_on lines xs is.each ∙ ap (λ (r : List (List ℕ)). lines ++ r) (last_line xs is.partial)
 
 -- the lines of a text whose last line is told
 pub lines_with : (text : List ℕ) (lines : List (List ℕ)) (xs : List ℕ) → CutsInto text lines xs → nat_lt 0 (length xs) ≡ true → lines_of text ≡ lines ++ xs ∷ []
@@ -66,15 +67,15 @@ no_whole : (xs : List ℕ) → HasNoLf xs → whole_lines xs ≡ []
 no_whole [] h = refl
 no_whole (c ∷ cs) h = rw h.0 (ap (onto_line c) (no_whole cs h.1))
 
-wholes_first : (lines : List (List ℕ)) (xs : List ℕ) → AllByRecursion HasNoLf lines → HasNoLf xs → whole_lines (ended lines ++ xs) ≡ lines
-wholes_first [] xs h p = no_whole xs p
-wholes_first (l ∷ ls) xs h p =
+pub wholes_on : (lines : List (List ℕ)) (xs : List ℕ) → AllByRecursion HasNoLf lines → whole_lines (ended lines ++ xs) ≡ lines ++ whole_lines xs
+wholes_on [] xs h = refl
+wholes_on (l ∷ ls) xs h =
     ap whole_lines (append_assoc (l ++ 10 ∷ []) (ended ls) xs ∙ append_assoc l (10 ∷ []) (ended ls ++ xs))
-    ∙ whole_first l (ended ls ++ xs) h.0 ∙ ap (λ r. l ∷ r) (wholes_first ls xs h.1 p)
+    ∙ whole_first l (ended ls ++ xs) h.0 ∙ ap (λ (r : List (List ℕ)). l ∷ r) (wholes_on ls xs h.1)
 
 -- the ended lines of a text that is cut
 pub wholes_are : (text : List ℕ) (lines : List (List ℕ)) (xs : List ℕ) → CutsInto text lines xs → whole_lines text ≡ lines
-wholes_are text lines xs is = ap whole_lines is.whole ∙ wholes_first lines xs is.each is.partial
+wholes_are text lines xs is = ap whole_lines is.whole ∙ wholes_on lines xs is.each ∙ ap (λ (r : List (List ℕ)). lines ++ r) (no_whole xs is.partial) ∙ append-nil lines
 
 pub some_bytes : (c : ℕ) (cs : List ℕ) → nat_lt 0 (length (c ∷ cs)) ≡ true
 some_bytes c cs = grind (arith, nat_tests)

@@ -26,10 +26,10 @@ use Rattle.run_rules.specs.Locking.{is_unlock, unlocked, ByLockedDollar, ByLocke
 use Rattle.run_rules.specs.Outcomes.{Before, refused, has_cause, begins_with_dollar, ByVerdict, ByWords, BySetting, ByCommand, ByJogMove, ByJog, ByServed, ByDollar, ByCode, ByKept, Becomes, either, most_kept}
 
 -- a line that is refused where the machine is found so has a cause
-abbrev HasCauses : Machine → Before → Type 0
-HasCauses m b = (kind : Kind) → refuses m kind ≡ true → has_cause b kind ≡ true
+abbrev RefusesWithCause : Machine → Before → Type 0
+RefusesWithCause m b = (kind : Kind) → refuses m kind ≡ true → has_cause b kind ≡ true
 
-runs_cause : (b : Before) → b.moved ≡ true → b.jogged ≡ false → HasCauses Runs b
+runs_cause : (b : Before) → b.moved ≡ true → b.jogged ≡ false → RefusesWithCause Runs b
 runs_cause b moved other kinds.ListOffsets e = rw moved refl
 runs_cause b moved other kinds.Setting e = rw moved refl
 runs_cause b moved other kinds.ListModes e = absurd cc
@@ -37,7 +37,7 @@ runs_cause b moved other kinds.Unlock e = absurd cc
 runs_cause b moved other kinds.Other e = absurd cc
 runs_cause b moved other _ e = rw moved (rw other refl)
 
-jogs_cause : (b : Before) → (b.moved || b.jog_moved) ≡ true → HasCauses Jogs b
+jogs_cause : (b : Before) → (b.moved || b.jog_moved) ≡ true → RefusesWithCause Jogs b
 jogs_cause b moved kinds.ListOffsets e = moved
 jogs_cause b moved kinds.Setting e = moved
 jogs_cause b moved _ e = absurd cc
@@ -67,12 +67,12 @@ kept_still b (c ∷ cs) o by = both_on (nat_eq c 36) _ _ _ _ (λ x. inr x) (λ x
 abbrev IsFree : Machine → Type 0
 IsFree m = (kind : Kind) → is_unlocked_by m kind ≡ false
 
-kept_on : (m : Machine) (b : Before) (kept : List ℕ) (o : Outcome) → IsFree m → HasCauses m b → (locks m ≡ true → b.jogged ≡ true) → ByKeptFound m b kept o → ByKept true b kept o
+kept_on : (m : Machine) (b : Before) (kept : List ℕ) (o : Outcome) → IsFree m → RefusesWithCause m b → (locks m ≡ true → b.jogged ≡ true) → ByKeptFound m b kept o → ByKept true b kept o
 kept_on m b [] o free causes jogged by = by
 kept_on m b (c ∷ cs) o free causes jogged by =
     both_on (nat_eq c 36) _ _ _ _ (dollar_on (refuses m (kind_of (c ∷ cs))) (is_unlocked_by m (kind_of (c ∷ cs))) b (c ∷ cs) o (free (kind_of (c ∷ cs))) (causes (kind_of (c ∷ cs)))) (code_on (locks m) b (c ∷ cs) o jogged) by
 
-found_on : (m : Machine) (b : Before) (kept : List ℕ) (o : Outcome) → IsFree m → HasCauses m b → (locks m ≡ true → b.jogged ≡ true) → Found m b kept o → Becomes true b kept o
+found_on : (m : Machine) (b : Before) (kept : List ℕ) (o : Outcome) → IsFree m → RefusesWithCause m b → (locks m ≡ true → b.jogged ≡ true) → Found m b kept o → Becomes true b kept o
 found_on m b kept o free causes jogged by = both_on (nat_lt most_kept (length kept)) _ _ _ _ (λ x. x) (kept_on m b kept o free causes jogged) by
 
 pub becomes_still : (b : Before) (kept : List ℕ) (o : Outcome) → Found Stands b kept o → Becomes false b kept o

@@ -1,5 +1,5 @@
 -- A run of lines goes on by one line, or by a cut.
-use Rattle.std.proofs.Common.{◌≡◌, ℕ, suc, ◌+◌, ◌≤◌, inl, inr, Bool, true, false, List, [], ◌∷◌, ◌++◌, length, map, nat_eq, nat_lt, refl, sym, ap, subst, arith}
+use Rattle.std.proofs.Common.{◌≡◌, ℕ, suc, ◌+◌, ◌≤◌, inl, inr, Bool, true, false, List, [], ◌∷◌, ◌++◌, length, nat_eq, nat_lt, refl, sym, ap, subst, arith}
 use Rattle.units.specs.declared.Steps3.{Steps3}
 use Rattle.run_rules.specs.declared.State.{State}
 use Rattle.run_rules.specs.Work.{Outcome}
@@ -69,11 +69,6 @@ pub cuts_from_start : (runs : Bool) (first : State) (last : Before) (ls : List (
 cuts_from_start runs first last ls ps run =
     let same : 0 + length ls ≡ length ls = omega arith in
     subst (λ (high : ℕ). NeverFall 0 (cuts_of ps) high) same (cuts_never_fall runs (start first) last ls ps 0 refl run)
-
--- lines alone are passed as lines
-pub became_lines : (os : List Outcome) → became_of (map a_line os) ≡ os
-became_lines [] = refl
-became_lines (o ∷ os) = ap (λ (xs : List Outcome). o ∷ xs) (became_lines os)
 
 pub became_on : (ps qs : List Passed) → became_of (ps ++ qs) ≡ became_of ps ++ became_of qs
 became_on [] qs = refl

@@ -1,6 +1,7 @@
 pub mod Lines
 pub mod Readings
 pub mod States
+pub mod Resets
 pub mod Work
 pub mod Asks
 pub mod Outcomes
@@ -10,6 +11,7 @@ pub mod Finding
 pub mod Cuts
 pub mod Told
 pub mod Reports
+pub mod Fronts
 pub use Rattle.gcode_words.specs.Stripping
 pub use Rattle.gcode_words.specs.Words
 pub use Rattle.gcode_check.specs.Items

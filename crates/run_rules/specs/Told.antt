@@ -1,9 +1,7 @@
 -- What a run tells, and what it asks of the machine.
 use Rattle.std.specs.Prelude.{ℕ, Bool, true, false, List, [], ◌∷◌, ◌++◌}
 use Rattle.std.specs.List.{flat_map, count_by}
-use Rattle.step_line.specs.declared.Record.{Record}
 use Rattle.step_line.specs.Asking.{Asked}
-use Rattle.step_record.specs.Texts.{record_text}
 use Rattle.status_report.specs.Replies.{reply_text}
 use Rattle.status_report.specs.declared.Reply.{Reply}
 use Rattle.status_report.specs.declared.Reply.TheVariants.{Banner, Error}
@@ -23,9 +21,6 @@ asked_in outcomes = flat_map (λ o. asks o.work) outcomes
 
 abbrev pub replies_text : List Reply → List ℕ
 replies_text replies = flat_map reply_text replies
-
-abbrev pub records_text : List Record → List ℕ
-records_text records = flat_map record_text records
 
 abbrev pub is_error : Reply → Bool
 is_error (Error n) = true

@@ -94,12 +94,6 @@ pauses [] = 0
 pauses (pause ∷ ts) = pauses ts + 1
 pauses (_ ∷ ts) = pauses ts
 
--- whether each override is set to 100 percent
-abbrev pub has_normal : List Task → Bool
-has_normal [] = false
-has_normal (normal ∷ ts) = true
-has_normal (_ ∷ ts) = has_normal ts
-
 -- whether a move is asked for
 abbrev pub asks_move : Task → Bool
 asks_move (ask (a_move m)) = true

@@ -40,11 +40,7 @@ locked_dollar : (b : Before) (kept : List ℕ) (kind : DollarKind) (o : Outcome)
 locked_dollar b kept kinds.Unlock o is = told_once b.state (replies.Message messages.Unlocked ∷ []) o ((refl, refl, refl), tt) is
 locked_dollar b kept kinds.Jog o is = refused_once b 8 o is
 locked_dollar b kept kinds.BareJog o is = refused_once b 8 o is
-locked_dollar b kept kinds.ListSettings o is = by_command b (command_of kept) o is
-locked_dollar b kept kinds.ListModes o is = by_command b (command_of kept) o is
-locked_dollar b kept kinds.ListOffsets o is = by_command b (command_of kept) o is
-locked_dollar b kept kinds.Setting o is = by_command b (command_of kept) o is
-locked_dollar b kept kinds.Other o is = by_command b (command_of kept) o is
+locked_dollar b kept _ o is = by_command b (command_of kept) o is
 
 locked_kept : (b : Before) (kept : List ℕ) (o : Outcome) → ByLockedKept b kept o → AnswersOnce o
 locked_kept b [] o is = told_once b.state [] o tt is

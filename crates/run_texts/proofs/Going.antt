@@ -18,17 +18,17 @@ has_on [] more e = absurd cc
 has_on (a_text line ∷ sent) more e = has_on sent more e
 has_on (a_stop ∷ sent) more e = refl
 
-waiting_on : (sent more : List Sent) → has_reset sent ≡ true → waiting_in (sent ++ more) ≡ waiting_in sent
+pub waiting_on : (sent more : List Sent) → has_reset sent ≡ true → waiting_in (sent ++ more) ≡ waiting_in sent
 waiting_on [] more e = absurd cc
 waiting_on (a_text line ∷ sent) more e = ap (λ (ls : List (List ℕ)). line ∷ ls) (waiting_on sent more e)
 waiting_on (a_stop ∷ sent) more e = refl
 
-behind_on : (sent more : List Sent) → has_reset sent ≡ true → behind_reset (sent ++ more) ≡ behind_reset sent ++ more
+pub behind_on : (sent more : List Sent) → has_reset sent ≡ true → behind_reset (sent ++ more) ≡ behind_reset sent ++ more
 behind_on [] more e = absurd cc
 behind_on (a_text line ∷ sent) more e = behind_on sent more e
 behind_on (a_stop ∷ sent) more e = refl
 
-reset_on : (p : Point) (sent more : List Sent) (r : Reset) → IsReset p sent r → IsReset p (sent ++ more) r
+pub reset_on : (p : Point) (sent more : List Sent) (r : Reset) → IsReset p sent r → IsReset p (sent ++ more) r
 reset_on p sent more r is =
     let same = waiting_on sent more is.comes in
     record {
@@ -77,7 +77,7 @@ idle_there p last [] (a_broken o ∷ ps) f = absurd f
 idle_there p last (a_stop ∷ sent) (a_broken o ∷ ps) f = absurd f
 idle_there p last (a_text line ∷ sent) (a_broken o ∷ ps) f = idle_there (behind_broken p o) last sent ps f.1
 
-still_left : (p : Point) → p.unanswered ≡ false → IsLeft p []
+pub still_left : (p : Point) → p.unanswered ≡ false → IsLeft p []
 still_left p answered = record { answered = answered; rest = go p.before.alarmed } where
   go : (alarmed : Bool) → either alarmed (behind_reset [] ≡ []) (◌≡◌ {A = List Sent} [] [])
   go true = refl

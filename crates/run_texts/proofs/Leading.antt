@@ -37,10 +37,8 @@ use Rattle.run_texts.proofs.Joining.{join_on, line_leads}
 
 pub heads_stay : (rs : List Record) (p : Steps3) → moved_by p (ticks_among rs) ≡ moved_by p rs
 heads_stay [] p = refl
-heads_stay (kinds.Head h ∷ rs) p = heads_stay rs p
 heads_stay (kinds.Event b ∷ rs) p = heads_stay rs (stepped p b)
-heads_stay (kinds.Mark m ∷ rs) p = heads_stay rs p
-heads_stay (kinds.End ∷ rs) p = heads_stay rs p
+heads_stay (_ ∷ rs) p = heads_stay rs p
 
 move_leads : (m : PlannedMove) → moved_by m.mv.from (map kinds.Event (line_events m.mv)) ≡ m.mv.to
 move_leads m =

@@ -334,18 +334,6 @@ waiting_fits = record {
 
 -- ---- a line of the locked machine, and what comes behind a limit
 
-abbrev one_reset : Reset
-one_reset = record { number = 1; dropped = 0; alarm = true; locked = true; at = at_x 3 }
-
-abbrev behind_one_cut : Point
-behind_one_cut = behind_cut (at_x 3) (behind_broken (opening first) jog_1)
-
-abbrev behind_one_reset : Point
-behind_one_reset = behind_the_reset one_reset behind_one_cut
-
-abbrev begun_cut : Part
-begun_cut = record { lines = []; begun = jog_1 ∷ []; ending = by_cut 1 (at_x 3) }
-
 -- line 3 to 7 of a locked machine, and a reset in Alarm
 abbrev l3 : Point
 l3 = behind_locked_empty

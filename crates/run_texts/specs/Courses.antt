@@ -1,12 +1,9 @@
 -- The course of a run: what becomes of its lines, where jogs are cut, and where resets end an epoch.
 use Rattle.std.specs.Prelude.{◌≡◌, ℕ, ◌+◌, Bool, true, false, ◌||◌, List, [], ◌∷◌, length}
-use Rattle.units.specs.declared.Per3.{Per3}
 use Rattle.units.specs.declared.Steps3.{Steps3}
-use Rattle.modal_state.specs.Modes.{opening_parser, rebased, origin_nm}
-use Rattle.modal_state.specs.declared.Parser.{Parser}
-use Rattle.run_rules.specs.declared.State.{State}
 use Rattle.run_rules.specs.Work.{Outcome}
 use Rattle.run_rules.specs.Outcomes.{Before, start, at_place, either}
+pub use Rattle.run_rules.specs.Resets.{reset_state}
 use Rattle.run_texts.specs.Sent.{Sent, waiting_in, has_reset, behind_reset}
 use Rattle.run_texts.specs.Sent.Sent.{a_text, a_stop}
 use Rattle.run_texts.specs.Points.{Point, IsPassed, IsBroken, behind_line, behind_broken}
@@ -55,13 +52,6 @@ pub record IsReset (p : Point) (sent : List Sent) (r : Reset) : Type 0 where
   pub cause : r.alarm ≡ true → (p.before.moved || p.before.jog_moved) ≡ true
   pub locked : r.locked ≡ (r.alarm || p.locked)
 
--- The opening modes, feed, speed and tool, and a zero G92 offset; the other offsets stay, and the position is a place.
-abbrev pub reset_parser : Steps3 → Parser → Per3 → Parser
-reset_parser at p per_mm = rebased (record opening_parser { offsets = record p.offsets { g92 = origin_nm } }) at per_mm
-
-abbrev pub reset_state : Steps3 → State → State
-reset_state at s = record { parser = reset_parser at s.parser s.settings.limits.per_mm; settings = s.settings }
-
 -- A new epoch begins behind the lines that were dropped: nothing has moved in it.
 abbrev pub behind_the_reset : Reset → Point → Point
 behind_the_reset r p = record {
@@ -94,15 +84,11 @@ Follows p [] (a_broken o ∷ ps) last = ⊥
 -- how many cuts a course has
 abbrev pub cuts_in : List Passed → ℕ
 cuts_in [] = 0
-cuts_in (a_line o ∷ ps) = cuts_in ps
-cuts_in (a_broken o ∷ ps) = cuts_in ps
 cuts_in (a_cut k at ∷ ps) = cuts_in ps + 1
-cuts_in (a_reset r ∷ ps) = cuts_in ps
+cuts_in (_ ∷ ps) = cuts_in ps
 
 -- what became of the lines that are answered, or raise an alarm
 abbrev pub lines_in : List Passed → List Outcome
 lines_in [] = []
 lines_in (a_line o ∷ ps) = o ∷ lines_in ps
-lines_in (a_broken o ∷ ps) = lines_in ps
-lines_in (a_cut k at ∷ ps) = lines_in ps
-lines_in (a_reset r ∷ ps) = lines_in ps
+lines_in (_ ∷ ps) = lines_in ps

@@ -4,7 +4,7 @@ use Rattle.board_epochs.proofs.Onto.{goes_there}
 use Rattle.board_epochs.proofs.laws.ports_count_on_over_epochs.Goals as goal
 
 pub returns-clause-begins : goal.returns-clause-begins
-returns-clause-begins c = λ state es closed. (all_done state es closed, goes_there (closed_log es) (begins_behind state es closed))
+returns-clause-begins c = λ blocks state es closed. (all_done blocks state es closed, goes_there (closed_log es) (begins_behind blocks state es closed))
 
 pub returns-clause-known : goal.returns-clause-known
 returns-clause-known c = known_there

@@ -9,7 +9,7 @@ pub returns-clause-point : goal.returns-clause-point
 returns-clause-point c = point_there
 
 pub returns-clause-begins : goal.returns-clause-begins
-returns-clause-begins c = λ state. refl
+returns-clause-begins c = λ blocks state. refl
 
 pub returns-clause-number : goal.returns-clause-number
 returns-clause-number c = number_is_last

@@ -1,3 +1,7 @@
+use Rattle.std.proofs.Common.{arith}
+use Rattle.planner_runs.specs.Runs.{fresh_plan}
+use Rattle.planner_runs.proofs.Runs.{few_blocks}
+use Rattle.board_rules.specs.Steps.{actions_of, plan_of, planned_of}
 use Rattle.board_rules.proofs.Keeping.{run_is, disturbed_is, overrides_are, held_by_word, cancelled_by_word, hand_is}
 use Rattle.board_rules.proofs.Motions.{slows_for}
 use Rattle.board_rules.proofs.Slowing.{slowed_is}
@@ -8,6 +12,9 @@ use Rattle.board_rules.proofs.laws.boards_run_their_plan.Goals as goal
 
 pub returns-clause-run : goal.returns-clause-run
 returns-clause-run c = run_is
+
+pub returns-clause-sized : goal.returns-clause-sized
+returns-clause-sized c = λ first h conducted. few_blocks first.blocks fresh_plan (plan_of h) (actions_of h) (planned_of h) (omega arith) (run_is first h conducted)
 
 pub returns-clause-part : goal.returns-clause-part
 returns-clause-part c = λ first h conducted. let p = open_part first h conducted in (p.starts, p.run)

@@ -3,4 +3,4 @@ use Rattle.units.proofs.Places.{one_root}
 use Rattle.board_turns.proofs.reports.feed.Goals as goal
 
 pub returns-then-known-machine : goal.returns-then-known-machine
-returns-then-known-machine c = let e = one_root _ _ c.isqrt.ensures in search (rules, e)
+returns-then-known-machine g c = let e = one_root _ _ c.isqrt.ensures in search (rules, e)

@@ -1,4 +1,4 @@
-use Rattle.std.proofs.Common.{[], ◌∷◌, ap, sym, ◌∙◌}
+use Rattle.std.proofs.Common.{arith, rules, [], ◌∷◌, ap, sym, ◌∙◌}
 use Rattle.planner_runs.specs.declared.Action.TheVariants.{Add}
 use Rattle.board_rules.specs.Steps.{hand_of, given_of, motion_of, plan_of}
 use Rattle.board_rules.specs.Steps.Step.{did}
@@ -8,18 +8,27 @@ use Rattle.board_turns.proofs.Adding.{adds_one, has_added, none_fits_full, none_
 use Rattle.board_turns.proofs.board.Board.add_moves.Goals as goal
 
 pub returns-then-is_full-clause-added : goal.returns-then-is_full-clause-added
-returns-then-is_full-clause-added c first h k =
+returns-then-is_full-clause-added g c first h k =
     let n = c.loop-self.invariant.0 first h k in
     (n.0, n.1, has_added first h n.0 n.2 (none_fits_full first c.loop-self.self n.0 n.1 (sym c.is_full.ensures ∙ c.if-is_full.true)))
 
-pub add-requires-clause-range : goal.add-requires-clause-range
-add-requires-clause-range c = let r = c.requires in let first = r.0 in let n = c.loop-self.invariant.0 first r.1 r.2 in in_range first c.loop-self.self n.0 n.1
-
-pub add-requires-clause-same : goal.add-requires-clause-same
-add-requires-clause-same c = let r = c.requires in let first = r.0 in let n = c.loop-self.invariant.0 first r.1 r.2 in same_overrides first c.loop-self.self n.0 n.1
+pub add-requires : goal.add-requires
+add-requires g c = (
+  omega arith,
+  (
+    search rules,
+    (
+      search rules,
+      (
+        let r = c.requires in let first = r.0 in let n = c.loop-self.invariant.0 first r.1 r.2 in in_range first c.loop-self.self n.0 n.1,
+        let r = c.requires in let first = r.0 in let n = c.loop-self.invariant.0 first r.1 r.2 in same_overrides first c.loop-self.self n.0 n.1,
+      ),
+    ),
+  ),
+)
 
 pub loop-self-preserved : goal.loop-self-preserved
-loop-self-preserved c = (
+loop-self-preserved g c = (
   λ first h k.
       let n = c.loop-self.invariant.0 first h k in let m = c.planned_move.result in let s = c.loop-self.self in
       let next = is_next first s n.0 _ n.1 c.planned_move.ensures.next in (
@@ -28,11 +37,11 @@ loop-self-preserved c = (
             (c.add.ensures (plan_of n.0) (motion_of first n.0) (hand_of n.0) (given_of n.0) n.1.machine) c.done.ensures,
         adds_one first m h n.0 n.2 next,
       ),
-  ap (λ (x : Board). record x { machine = c.add.new.self; lines = c.done.new.self }) c.loop-self.invariant.1,
+  ap (λ (x : Board _). record x { machine = c.add.new.self; lines = c.done.new.self }) c.loop-self.invariant.1,
 )
 
 pub returns : goal.returns
-returns c = record {
+returns g c = record {
   added = λ first h k. let n = c.loop-self.invariant.0 first h k in (n.0, n.1, has_added first h n.0 n.2 (none_fits_other first c.loop-self.self n.0 c.todo.result n.1 c.todo.ensures c.in_default.not-Move));
   same = c.loop-self.invariant.1;
 }

@@ -1,4 +1,4 @@
-use Rattle.std.proofs.Common.{◌∷◌, sym, refl, ◌∙◌}
+use Rattle.std.proofs.Common.{arith, rules, ◌∷◌, sym, refl, ◌∙◌}
 use Rattle.feed_hold.specs.declared.Motion.TheVariants as motions
 use Rattle.feed_hold.specs.Motions.Call.{on_drained}
 use Rattle.board_rules.specs.Ports.PortStep.{loaded}
@@ -9,21 +9,29 @@ use Rattle.board_turns.proofs.board.Board.await_motion.Goals.{then-is_some-via-t
 use Rattle.board_turns.proofs.board.Board.await_motion.Goals as goal
 
 -- src/board.rt:269:25
-pub run-requires-clause-stands : goal.run-requires-clause-stands
-run-requires-clause-stands g c =
+pub run-requires : goal.run-requires
+run-requires g c = (
+  omega arith,
+  (
     let r = c.requires.stands in let first = r.1 in
-    let s = c.args.self.now in (
-      r.0,
-      first,
-      r.2,
-      r.3,
-      r.4,
-      r.5.run,
-      elim c.then-is_some.branch [
-        | then-is_some-via-then-is_some w ↦ has_piece_by_hand first s r.2 r.4 (sym c.is_some.ensures ∙ w.if-is_some.true)
-        | then-is_some-via-else-is_some+then-has_blocks w ↦ has_piece_by_blocks first s r.2 r.4 r.5 (blocks_are first s r.2 w.has_blocks.result r.4 w.has_blocks.ensures ∙ w.if-has_blocks.true)
-      ],
-    )
+        let s = c.args.self.now in (
+          r.0,
+          first,
+          r.2,
+          r.3,
+          r.4,
+          r.5.run,
+          elim c.then-is_some.branch [
+            | then-is_some-via-then-is_some w ↦ has_piece_by_hand first s r.2 r.4 (sym c.is_some.ensures ∙ w.if-is_some.true)
+            | then-is_some-via-else-is_some+then-has_blocks w ↦ has_piece_by_blocks first s r.2 r.4 r.5 (blocks_are first s r.2 w.has_blocks.result r.4 w.has_blocks.ensures ∙ w.if-has_blocks.true)
+          ],
+        ),
+    (
+      search rules,
+      search rules,
+    ),
+  ),
+)
 
 -- src/board.rt:269:13
 pub returns-then-is_some-clause-waits : goal.returns-then-is_some-clause-waits
@@ -48,7 +56,7 @@ returns-then-done-self-clause-waits g c = λ rest first h stands k may.
 
 -- src/board.rt:274:9
 pub drain-requires : goal.drain-requires
-drain-requires g c = let r = c.requires.stands in let first = r.1 in may_drain first c.args.self.now r.2 r.4 r.5.going
+drain-requires g c = (omega arith, let r = c.requires.stands in let first = r.1 in may_drain first c.args.self.now r.2 r.4 r.5.going)
 
 -- src/board.rt:258:5
 pub returns-clause-over : goal.returns-clause-over

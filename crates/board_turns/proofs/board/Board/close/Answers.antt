@@ -1,4 +1,4 @@
-use Rattle.std.proofs.Common.{◌∷◌, sym, ◌∙◌}
+use Rattle.std.proofs.Common.{arith, ◌∷◌, sym, ◌∙◌}
 use Rattle.board_rules.specs.Steps.Step.{closing}
 use Rattle.board_turns.proofs.Steps.{closes}
 use Rattle.board_turns.proofs.Nexts.{none_waiting, may_close, closes_worked}
@@ -13,8 +13,22 @@ returns-clause-goes_on g c = λ rest first h stands keeps polled closed.
 pub run_waiting-requires : goal.run_waiting-requires
 run_waiting-requires g c =
     let r = c.requires.stands in let first = r.1 in
-    let waits = c.is_waiting.ensures.yes c.if-is_waiting.true in
-    record { stands = (r.0, first, r.2, r.3, r.4, r.5); idle = waits.0; blocks = waits.1; beat = c.requires.beat; flags = c.requires.flags }
+    let waits = c.is_waiting.ensures.yes c.if-is_waiting.true in (
+      omega arith,
+      (
+        (r.0, first, r.2, r.3, r.4, r.5),
+        (
+          waits.0,
+          (
+            waits.1,
+            (
+              c.requires.beat,
+              c.requires.flags,
+            ),
+          ),
+        ),
+      ),
+    )
 
 pub returns-then-is_waiting-clause-goes_on : goal.returns-then-is_waiting-clause-goes_on
 returns-then-is_waiting-clause-goes_on g c = λ rest first h stands keeps polled closed. c.run_waiting.ensures.goes_on rest first h stands keeps polled

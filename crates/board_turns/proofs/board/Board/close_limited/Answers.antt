@@ -6,7 +6,7 @@ use Rattle.board_turns.proofs.Steps.{closes}
 use Rattle.board_turns.proofs.board.Board.close_limited.Goals as goal
 
 pub returns-clause-goes_on : goal.returns-clause-goes_on
-returns-clause-goes_on c = λ first h k ready none.
+returns-clause-goes_on g c = λ first h k ready none.
     let s = c.args.self.now in
     let is = sym k.alarmed_is ∙ c.requires.alarmed in
     let now = closes first s _ h k (unreset_limited first s h k is) (may_close first s h k is none c.requires.«open») c.close.ensures in

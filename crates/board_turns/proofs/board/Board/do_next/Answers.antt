@@ -3,31 +3,84 @@ use Rattle.board_turns.proofs.Nexts.{finish_next, lets_lines, some_next}
 use Rattle.run_rules.specs.Work.Task.{finish, ask, pause}
 use Rattle.step_line.specs.Asking.Asked.{a_move}
 use Rattle.board_rules.specs.Turns.{awaits_motion}
-use Rattle.std.proofs.Common.{ap, sym, subst}
+use Rattle.std.proofs.Common.{arith, rules, ap, sym, subst}
 use Rattle.board_turns.specs.declared.board.Flags.{Flags}
 use Rattle.board_turns.specs.Turning.{BoardWorked}
 use Rattle.board_turns.proofs.Steps.{is_next}
 use Rattle.board_turns.proofs.board.Board.do_next.Goals as goal
 
-pub finish-requires-clause-stands : goal.finish-requires-clause-stands
-finish-requires-clause-stands g c =
+pub finish-requires : goal.finish-requires
+finish-requires g c = (
+  omega arith,
+  (
     let r = c.requires.stands in let first = r.1 in
-    let next = finish_next first c.args.self.now r.2 r.4 r.7 c.in-Finish.ensures in
-    (r.0, first, r.2, r.3, r.4, may_run first r.2 r.4.conducted r.5 (some_next first r.2 finish next.1), next.0, next.1)
+        let next = finish_next first c.args.self.now r.2 r.4 r.7 c.in-Finish.ensures in
+        (r.0, first, r.2, r.3, r.4, may_run first r.2 r.4.conducted r.5 (some_next first r.2 finish next.1), next.0, next.1),
+    (
+      search rules,
+      search rules,
+    ),
+  ),
+)
 
 pub returns-in-Finish-clause-goes_on : goal.returns-in-Finish-clause-goes_on
 returns-in-Finish-clause-goes_on g c = λ rest first h stands keeps ready goes needs.
     let next = finish_next first c.args.self.now h keeps needs c.in-Finish.ensures in
     c.finish.ensures.goes_on rest first h stands keeps (may_run first h keeps.conducted ready (some_next first h finish next.1)) next.0 next.1
 
-pub next_line-requires-clause-stands : goal.next_line-requires-clause-stands
-next_line-requires-clause-stands g c = let r = c.requires.stands in let first = r.1 in (r.0, first, r.2, r.3, r.4, r.5, lets_lines first c.args.self.now r.2 r.4 r.6)
+pub next_line-requires : goal.next_line-requires
+next_line-requires g c = (
+  omega arith,
+  (
+    let r = c.requires.stands in let first = r.1 in (r.0, first, r.2, r.3, r.4, r.5, lets_lines first c.args.self.now r.2 r.4 r.6),
+    (
+      search rules,
+      (
+        search rules,
+        (
+          search rules,
+          (
+            search rules,
+            search rules,
+          ),
+        ),
+      ),
+    ),
+  ),
+)
 
-pub tell-requires-clause-stands : goal.tell-requires-clause-stands
-tell-requires-clause-stands g c = let r = c.requires.stands in let first = r.1 in (r.0, first, r.2, r.3, r.4, r.5)
+pub tell-requires : goal.tell-requires
+tell-requires g c = (
+  omega arith,
+  (
+    let r = c.requires.stands in let first = r.1 in (r.0, first, r.2, r.3, r.4, r.5),
+    (
+      search rules,
+      (
+        search rules,
+        search rules,
+      ),
+    ),
+  ),
+)
 
-pub mark-requires-clause-stands : goal.mark-requires-clause-stands
-mark-requires-clause-stands g c = let r = c.requires.stands in let first = r.1 in (r.0, first, r.2, r.3, r.4, r.5)
+pub mark-requires : goal.mark-requires
+mark-requires g c = (
+  omega arith,
+  (
+    let r = c.requires.stands in let first = r.1 in (r.0, first, r.2, r.3, r.4, r.5),
+    (
+      search rules,
+      (
+        search rules,
+        (
+          search rules,
+          search rules,
+        ),
+      ),
+    ),
+  ),
+)
 
 pub returns-in-Nothing-clause-goes_on : goal.returns-in-Nothing-clause-goes_on
 returns-in-Nothing-clause-goes_on g c = λ rest first h stands keeps ready goes needs. c.next_line.ensures.goes_on rest first h stands keeps ready (lets_lines first c.args.self.now h keeps goes)
@@ -38,22 +91,38 @@ returns-in-Tell-clause-goes_on g c = λ rest first h stands keeps ready goes nee
 pub returns-in-Mark-clause-goes_on : goal.returns-in-Mark-clause-goes_on
 returns-in-Mark-clause-goes_on g c = λ rest first h stands keeps ready goes needs. c.mark.ensures.goes_on rest first h stands keeps ready
 
-pub go-requires-clause-stands : goal.go-requires-clause-stands
-go-requires-clause-stands g c =
+pub go-requires : goal.go-requires
+go-requires g c = (
+  omega arith,
+  (
     let r = c.requires.stands in let first = r.1 in
-    let m = c.in-Move.ensures in
-    (r.0, first, r.2, r.3, r.4, r.5, r.6, (m.0, is_next first c.args.self.now r.2 (ask (a_move m.0)) r.4 m.1))
+        let m = c.in-Move.ensures in
+        (r.0, first, r.2, r.3, r.4, r.5, r.6, (m.0, is_next first c.args.self.now r.2 (ask (a_move m.0)) r.4 m.1)),
+    (
+      search rules,
+      search rules,
+    ),
+  ),
+)
 
 pub returns-in-Move-clause-goes_on : goal.returns-in-Move-clause-goes_on
 returns-in-Move-clause-goes_on g c = λ rest first h stands keeps ready goes needs.
     let m = c.in-Move.ensures in
     c.go.ensures.goes_on rest first h stands keeps ready goes (m.0, is_next first c.args.self.now h (ask (a_move m.0)) keeps m.1)
 
-pub pause-requires-clause-stands : goal.pause-requires-clause-stands
-pause-requires-clause-stands g c =
+pub pause-requires : goal.pause-requires
+pause-requires g c = (
+  omega arith,
+  (
     let r = c.requires.stands in let first = r.1 in
-    let next = is_next first c.args.self.now r.2 pause r.4 c.in-Pause.ensures in
-    (first, r.2, r.4, r.5, (r.7 (ap awaits_motion next)).0, next)
+        let next = is_next first c.args.self.now r.2 pause r.4 c.in-Pause.ensures in
+        (first, r.2, r.4, r.5, (r.7 (ap awaits_motion next)).0, next),
+    (
+      search rules,
+      search rules,
+    ),
+  ),
+)
 
 pub returns-in-Pause-clause-goes_on : goal.returns-in-Pause-clause-goes_on
 returns-in-Pause-clause-goes_on g c = λ rest first h stands keeps ready goes needs.

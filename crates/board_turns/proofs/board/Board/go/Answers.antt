@@ -1,28 +1,36 @@
-use Rattle.std.proofs.Common.{[], inl, refl, sym, ap, ◌∙◌, arith}
+use Rattle.std.proofs.Common.{rules, [], inl, refl, sym, ap, ◌∙◌, arith}
 use Rattle.run_rules.specs.Work.Task.{ask}
 use Rattle.step_line.specs.Asking.Asked.{a_move}
-use Rattle.board_rules.specs.Turns.{is_full}
 use Rattle.board_turns.specs.declared.board.Board.{Board}
 use Rattle.board_turns.proofs.Ends.{did_filled, may_run, takes_none, free_of, free_passed}
 use Rattle.board_turns.proofs.Nexts.{few_working, full_piece, some_next}
 use Rattle.board_turns.proofs.board.Board.go.Goals as goal
+use Rattle.board_turns.proofs.Starting.{full_is}
 
-pub run-requires-clause-stands : goal.run-requires-clause-stands
-run-requires-clause-stands g c =
+pub run-requires : goal.run-requires
+run-requires g c = (
+  omega arith,
+  (
     let r = c.requires.stands in let first = r.1 in
-    let full = sym (c.if-is_full.ensures ∙ ap is_full r.4.machine.plan_is) in (
-      r.0,
-      first,
-      r.2,
-      r.3,
-      r.4,
-      may_run first r.2 r.4.conducted r.5 (some_next first r.2 (ask (a_move r.7.0)) r.7.1),
-      full_piece first r.2 r.4.conducted r.5.none_waits r.6 r.7 full,
-    )
+        let full = sym (c.if-is_full.ensures ∙ full_is first c.args.self.now r.2 r.4) in (
+          r.0,
+          first,
+          r.2,
+          r.3,
+          r.4,
+          may_run first r.2 r.4.conducted r.5 (some_next first r.2 (ask (a_move r.7.0)) r.7.1),
+          full_piece first r.2 r.4.conducted r.5.none_waits r.6 r.7 full,
+        ),
+    (
+      search rules,
+      search rules,
+    ),
+  ),
+)
 
 pub returns-then-is_full-clause-goes_on : goal.returns-then-is_full-clause-goes_on
 returns-then-is_full-clause-goes_on g c = λ rest first h stands keeps ready goes move.
-    let full = sym (c.if-is_full.ensures ∙ ap is_full keeps.machine.plan_is) in
+    let full = sym (c.if-is_full.ensures ∙ full_is first c.args.self.now h keeps) in
     c.run.ensures.goes_on rest first h stands keeps (may_run first h keeps.conducted ready (some_next first h (ask (a_move move.0)) move.1))
     (full_piece first h keeps.conducted ready.none_waits goes move full)
 
@@ -31,8 +39,8 @@ returns-clause-goes_on g c = λ rest first h stands keeps ready goes move.
     let n = c.fill.ensures.filled first h keeps in
     let few = few_working first h keeps.conducted ready (some_next first h (ask (a_move move.0)) move.1) in
     let quiet = ready.quiet.quiet in
-    let room = sym (c.if-is_full.ensures ∙ ap is_full keeps.machine.plan_is) in
-    let beat = ap (λ (b : Board). b.beat) c.fill.ensures.same ∙ c.requires.beat in
-    let none = ap (λ (b : Board). b.flags) c.fill.ensures.same ∙ c.requires.flags in
+    let room = sym (c.if-is_full.ensures ∙ full_is first c.args.self.now h keeps) in
+    let beat = ap (λ (b : Board _). b.beat) c.fill.ensures.same ∙ c.requires.beat in
+    let none = ap (λ (b : Board _). b.flags) c.fill.ensures.same ∙ c.requires.flags in
     let taken = takes_none c.fill.new.self n.0 none (free_passed first h n.0 n.2.alone.passes (free_of h ready.quiet)) in
     (n.0, rw n.2.alone.port stands, did_filled first _ _ h h n.0 [] refl n.1 beat taken n.2 ready.quiet.worked (omega arith) ready.unpolled few (inl (n.2.moved move room)))

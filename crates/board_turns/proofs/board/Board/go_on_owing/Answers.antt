@@ -1,4 +1,4 @@
-use Rattle.std.proofs.Common.{sym, ap, ◌∙◌, subst}
+use Rattle.std.proofs.Common.{arith, sym, ap, ◌∙◌, subst}
 use Rattle.board_turns.specs.declared.board.Board.{Board}
 use Rattle.board_turns.specs.declared.board.Flags.TheVariants.{Both}
 use Rattle.board_turns.specs.Turning.{HasTried}
@@ -19,16 +19,20 @@ returns-then-not-has_piece-clause-goes_on g c rest first h was stands k l =
 pub publish_next-published-requires : goal.publish_next-published-requires
 publish_next-published-requires g c =
     let r = c.requires.stands in let first = r.1 in
-    let k = other_flags first c.args.self.now Both r.2 r.4 in
-    record { stands = (r.0, first, r.2, r.3, k, (c.has_piece.ensures first r.2 k).0 c.if-not-has_piece.false) }
+    let k = other_flags first c.args.self.now Both r.2 r.4 in (
+      omega arith,
+      (r.0, first, r.2, r.3, k, (c.has_piece.ensures first r.2 k).0 c.if-not-has_piece.false),
+    )
 
 -- src/reports.rt:111:9
 pub fill-requires : goal.fill-requires
-fill-requires g c =
-    let r = c.requires.stands in let first = r.1 in
-    let k = other_flags first c.args.self.now Both r.2 r.4 in
-    let n = c.publish_next-published.ensures.goes_on r.0 first r.2 r.3 k ((c.has_piece.ensures first r.2 k).0 c.if-not-has_piece.false) in
-    (first, n.0, n.2)
+fill-requires g c = (
+  omega arith,
+  let r = c.requires.stands in let first = r.1 in
+      let k = other_flags first c.args.self.now Both r.2 r.4 in
+      let n = c.publish_next-published.ensures.goes_on r.0 first r.2 r.3 k ((c.has_piece.ensures first r.2 k).0 c.if-not-has_piece.false) in
+      (first, n.0, n.2),
+)
 
 -- src/reports.rt:113:13
 pub returns-then-not-published-clause-goes_on : goal.returns-then-not-published-clause-goes_on
@@ -36,8 +40,8 @@ returns-then-not-published-clause-goes_on g c rest first h was stands k l =
     let both = other_flags first c.args.self.now Both h k in
     let n = c.publish_next-published.ensures.goes_on rest first h stands both ((c.has_piece.ensures first h both).0 c.if-not-has_piece.false) in
     let f = c.fill.ensures.filled first n.0 n.2 in
-    let beat = ap (λ (b : Board). b.beat) c.fill.ensures.same ∙ (ap (λ (b : Board). b.beat) c.publish_next-published.ensures.same ∙ c.requires.beat) in
-    let flags = ap (λ (b : Board). b.flags) c.fill.ensures.same ∙ ap (λ (b : Board). b.flags) c.publish_next-published.ensures.same in
+    let beat = ap (λ (b : Board _). b.beat) c.fill.ensures.same ∙ (ap (λ (b : Board _). b.beat) c.publish_next-published.ensures.same ∙ c.requires.beat) in
+    let flags = ap (λ (b : Board _). b.flags) c.fill.ensures.same ∙ ap (λ (b : Board _). b.flags) c.publish_next-published.ensures.same in
     let tried = subst (λ b. (HasTried first) b h n.0) c.if-not-published.true n.3 in
     (f.0, rw f.2.alone.port n.1, waits_handed first c.fill.new.self was h n.0 f.0 f.1 l tried f.2 beat flags, λ e. absurd cc)
 

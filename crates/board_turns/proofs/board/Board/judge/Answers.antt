@@ -1,4 +1,4 @@
-use Rattle.std.proofs.Common.{rules, ◌≡◌, ◌∷◌, ◌∙◌, inl, inr, refl, subst}
+use Rattle.std.proofs.Common.{arith, rules, ◌≡◌, ◌∷◌, ◌∙◌, inl, inr, refl, subst}
 use Rattle.feed_hold.specs.declared.Motion.TheVariants as motions
 use Rattle.line_interpreter.specs.Lefts.{IsTodo}
 use Rattle.line_interpreter.specs.declared.tasks.Todo.{Todo}
@@ -11,14 +11,16 @@ use Rattle.board_turns.proofs.Begins.{begun, begun_limited, begun_unlocked, mach
 use Rattle.board_turns.proofs.board.Board.judge.Goals as goal
 
 pub limit-requires : goal.limit-requires
-limit-requires c =
-    let r = c.requires.may in let first = r.0 in
-    let o = c.judge_line.ensures.judged first r.1 r.2 r.3 in
-    let e : c.todo.result ≡ todo.Halt = search rules in
-    may_limit first c.args.self.now c.judge_line.new.self r.1 o.0 o.1 (subst (λ (t : Todo). IsTodo t c.judge_line.new.self.lines.left) e c.todo.ensures)
+limit-requires g c = (
+  omega arith,
+  let r = c.requires.may in let first = r.0 in
+      let o = c.judge_line.ensures.judged first r.1 r.2 r.3 in
+      let e : c.todo.result ≡ todo.Halt = search rules in
+      may_limit first c.args.self.now c.judge_line.new.self r.1 o.0 o.1 (subst (λ (t : Todo). IsTodo t c.judge_line.new.self.lines.left) e c.todo.ensures),
+)
 
 pub returns-then-eq-clause-begun : goal.returns-then-eq-clause-begun
-returns-then-eq-clause-begun c = λ first h k may.
+returns-then-eq-clause-begun g c = λ first h k may.
     let s = c.args.self.now in
     let d = c.judge_line.new.self in
     let o = c.judge_line.ensures.judged first h k may in
@@ -31,13 +33,15 @@ returns-then-eq-clause-begun c = λ first h k may.
     )
 
 pub unlock-requires : goal.unlock-requires
-unlock-requires c =
-    let r = c.requires.may in let first = r.0 in
-    let o = c.judge_line.ensures.judged first r.1 r.2 r.3 in
-    (machine_judged first c.args.self.now c.judge_line.new.self r.1 o.0 o.1).motion_is ∙ (c.is_unlocked-unlocks.ensures.yes first r.1 r.2 c.if-unlocks.true).0
+unlock-requires g c = (
+  omega arith,
+  let r = c.requires.may in let first = r.0 in
+      let o = c.judge_line.ensures.judged first r.1 r.2 r.3 in
+      (machine_judged first c.args.self.now c.judge_line.new.self r.1 o.0 o.1).motion_is ∙ (c.is_unlocked-unlocks.ensures.yes first r.1 r.2 c.if-unlocks.true).0,
+)
 
 pub returns-then-unlocks-clause-begun : goal.returns-then-unlocks-clause-begun
-returns-then-unlocks-clause-begun c = λ first h k may.
+returns-then-unlocks-clause-begun g c = λ first h k may.
     let s = c.args.self.now in
     let d = c.judge_line.new.self in
     let o = c.judge_line.ensures.judged first h k may in
@@ -49,7 +53,7 @@ returns-then-unlocks-clause-begun c = λ first h k may.
     )
 
 pub returns-else-unlocks-clause-begun : goal.returns-else-unlocks-clause-begun
-returns-else-unlocks-clause-begun c = λ first h k may.
+returns-else-unlocks-clause-begun g c = λ first h k may.
     let s = c.args.self.now in
     let d = c.judge_line.new.self in
     let o = c.judge_line.ensures.judged first h k may in

@@ -13,7 +13,7 @@ use Rattle.board_rules.proofs.Facts.{number_is}
 use Rattle.board_turns.proofs.board.Board.judge_line.Goals as goal
 
 pub judge-accepted-requires : goal.judge-accepted-requires
-judge-accepted-requires c =
+judge-accepted-requires g c =
     let first = c.requires.0 in
     let h = c.requires.1 in
     let k = c.requires.2 in
@@ -24,7 +24,7 @@ judge-accepted-requires c =
     record { few = omega (arith, l, n, few, short) }
 
 pub returns-clause-judged : goal.returns-clause-judged
-returns-clause-judged c = λ first h k may.
+returns-clause-judged g c = λ first h k may.
     let b = before_of first h in
     let since : Since = record { moved = b.moved; jog_moved = b.jog_moved; jogged = b.jogged; alarmed = b.alarmed } in
     let j = c.judge-accepted.ensures.becomes since (open_of h) k.input.kept_is in

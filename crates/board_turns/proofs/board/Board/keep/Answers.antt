@@ -16,8 +16,9 @@ other : (b : ℕ) → (b ≡ 10 → ⊥) → nat_eq b 10 ≡ false
 other b differs = grind (arith, nat_tests, differs)
 
 pub returns-then-byte-eq10-clause-kept : goal.returns-then-byte-eq10-clause-kept
-returns-then-byte-eq10-clause-kept c = λ first h k may room. record {
+returns-then-byte-eq10-clause-kept g c = λ first h k may room. record {
   placed = k.placed;
+  sized = k.sized;
   short = few_more first.lines c.args.byte h room;
   conducted = (may, k.conducted);
   machine = k.machine;
@@ -42,8 +43,9 @@ returns-then-byte-eq10-clause-kept c = λ first h k may room. record {
 }
 
 pub returns-else-byte-eq10-clause-kept : goal.returns-else-byte-eq10-clause-kept
-returns-else-byte-eq10-clause-kept c = λ first h k may room. record {
+returns-else-byte-eq10-clause-kept g c = λ first h k may room. record {
   placed = k.placed;
+  sized = k.sized;
   short = few_more first.lines c.args.byte h room;
   conducted = (may, k.conducted);
   machine = k.machine;

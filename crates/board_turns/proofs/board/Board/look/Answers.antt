@@ -1,4 +1,4 @@
-use Rattle.std.proofs.Common.{◌∷◌, not, inr, sym, ap, ◌∙◌}
+use Rattle.std.proofs.Common.{arith, ◌∷◌, not, inr, sym, ap, ◌∙◌}
 use Rattle.feed_hold.specs.declared.Motion.TheVariants as motions
 use Rattle.feed_hold.specs.Motions.Call.{on_drained}
 use Rattle.board_rules.specs.Ports.PortStep.{loaded}
@@ -16,7 +16,7 @@ use Rattle.board_turns.proofs.board.Board.look.Goals.{
 use Rattle.board_turns.proofs.board.Board.look.Goals as goal
 
 pub drain-requires : goal.drain-requires
-drain-requires g c = inr (sym c.is_going.ensures ∙ c.if-is_going.true)
+drain-requires g c = (omega arith, inr (sym c.is_going.ensures ∙ c.if-is_going.true))
 
 pub returns-then-done-self-clause-goes_on : goal.returns-then-done-self-clause-goes_on
 returns-then-done-self-clause-goes_on g c = λ rest first h stands k going.

@@ -1,19 +1,42 @@
+use Rattle.std.proofs.Common.{arith, rules}
 use Rattle.board_turns.proofs.Nexts.{may_poll, whole_line}
 use Rattle.board_turns.proofs.board.Board.next_line.Goals as goal
 
-pub poll-requires-clause-stands : goal.poll-requires-clause-stands
-poll-requires-clause-stands g c =
+pub poll-requires : goal.poll-requires
+poll-requires g c = (
+  omega arith,
+  (
     let r = c.requires.stands in let first = r.1 in
-    (r.0, first, r.2, r.3, r.4, r.5, may_poll first c.args.self.now r.2 r.4 r.6 c.requires.none c.requires.«open» c.if-self.false)
+        (r.0, first, r.2, r.3, r.4, r.5, may_poll first c.args.self.now r.2 r.4 r.6 c.requires.none c.requires.«open» c.if-self.false),
+    (
+      search rules,
+      (
+        search rules,
+        search rules,
+      ),
+    ),
+  ),
+)
 
 pub returns-clause-goes_on : goal.returns-clause-goes_on
 returns-clause-goes_on g c = λ rest first h stands k ready goes.
     c.poll.ensures.goes_on rest first h stands k ready (may_poll first c.args.self.now h k goes c.requires.none c.requires.«open» c.if-self.false)
 
-pub begin-requires-clause-stands : goal.begin-requires-clause-stands
-begin-requires-clause-stands g c =
+pub begin-requires : goal.begin-requires
+begin-requires g c = (
+  omega arith,
+  (
     let r = c.requires.stands in let first = r.1 in
-    (r.0, first, r.2, r.3, r.4, r.5, whole_line first c.args.self.now r.2 r.4 r.6 c.requires.none c.requires.«open» c.if-self.true)
+        (r.0, first, r.2, r.3, r.4, r.5, whole_line first c.args.self.now r.2 r.4 r.6 c.requires.none c.requires.«open» c.if-self.true),
+    (
+      search rules,
+      (
+        search rules,
+        search rules,
+      ),
+    ),
+  ),
+)
 
 pub returns-then-self-clause-goes_on : goal.returns-then-self-clause-goes_on
 returns-then-self-clause-goes_on g c = λ rest first h stands k ready goes.

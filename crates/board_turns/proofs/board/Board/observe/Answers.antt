@@ -1,4 +1,4 @@
-use Rattle.std.proofs.Common.{◌∷◌, sym, ap, ◌∙◌, subst}
+use Rattle.std.proofs.Common.{arith, ◌∷◌, sym, ap, ◌∙◌, subst}
 use Rattle.board_rules.specs.Ports.PortStep.{loaded}
 use Rattle.board_rules.specs.Steps.{hand_of, given_of, plan_of, motion_of}
 use Rattle.board_rules.specs.Steps.Step.{at_port}
@@ -9,18 +9,20 @@ use Rattle.board_turns.proofs.Telling.{looks, looks_stopped}
 use Rattle.board_turns.proofs.board.Board.observe.Goals as goal
 
 pub come_to_rest-requires : goal.come_to_rest-requires
-come_to_rest-requires g c =
-    let r = c.requires.stands in let first = r.1 in
-    let s = c.args.self.now in
-    let done = c.done-done.result in
-    let may = c.done-done.ensures.known r.0 first r.2 r.3 r.4.conducted in
-    let stopped = c.has_stopped.ensures.0 c.if-has_stopped.true in
-    let slowed = slowed_is first s r.2 r.4 (stopped.0, stopped.1, stopped.2) in (
-      first,
-      at_port (loaded done) ∷ r.2,
-      looked_learned first s c.learn.new.self done r.2 r.4 may (c.learn.ensures.flies first.place),
-      found_stopped first s c.learn.new.self done r.2 r.4 slowed may stopped.3 (c.learn.ensures.flies first.place),
-    )
+come_to_rest-requires g c = (
+  omega arith,
+  let r = c.requires.stands in let first = r.1 in
+      let s = c.args.self.now in
+      let done = c.done-done.result in
+      let may = c.done-done.ensures.known r.0 first r.2 r.3 r.4.conducted in
+      let stopped = c.has_stopped.ensures.0 c.if-has_stopped.true in
+      let slowed = slowed_is first s r.2 r.4 (stopped.0, stopped.1, stopped.2) in (
+        first,
+        at_port (loaded done) ∷ r.2,
+        looked_learned first s c.learn.new.self done r.2 r.4 may (c.learn.ensures.flies first.place),
+        found_stopped first s c.learn.new.self done r.2 r.4 slowed may stopped.3 (c.learn.ensures.flies first.place),
+      ),
+)
 
 pub returns-then-has_stopped-clause-goes_on : goal.returns-then-has_stopped-clause-goes_on
 returns-then-has_stopped-clause-goes_on g c rest first h stands k =
@@ -31,7 +33,7 @@ returns-then-has_stopped-clause-goes_on g c rest first h stands k =
     let slowed = slowed_is first s h k (stopped.0, stopped.1, stopped.2) in
     let keeps = looked_learned first s c.learn.new.self done h k may (c.learn.ensures.flies first.place) in
     let n = c.come_to_rest.ensures.comes first (at_port (loaded done) ∷ h) keeps (found_stopped first s c.learn.new.self done h k slowed may stopped.3 (c.learn.ensures.flies first.place)) in
-    let same = ap (λ (b : Board). b.flight) c.come_to_rest.ensures.same in
+    let same = ap (λ (b : Board _). b.flight) c.come_to_rest.ensures.same in
     let o = looks_stopped first s c.learn.new.self c.come_to_rest.new.self done h n.0 k slowed same (learned_all first s.flight c.learn.new.self done h k.conducted k.flight may (c.learn.ensures.flies first.place)) n.2 n.1 in
     (n.0, subst (λ l. g.P.EpochPort.stands c.done-done.new.self rest first l) (sym o.0) (c.done-done.ensures.done rest first h stands k.conducted), n.1, o.1, o.2)
 

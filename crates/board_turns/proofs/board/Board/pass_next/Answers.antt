@@ -7,7 +7,7 @@ use Rattle.board_turns.proofs.board.Board.pass_next.Goals.{then-eq, else-eq}
 use Rattle.board_turns.proofs.board.Board.pass_next.Goals as goal
 
 pub returns-clause-passed : goal.returns-clause-passed
-returns-clause-passed c first h k stopped =
+returns-clause-passed g c first h k stopped =
     let s = c.args.self.now in elim c.if-eq.branch [
       | then-eq w ↦
           let e : c.todo.result ≡ todo.Normal = search rules in

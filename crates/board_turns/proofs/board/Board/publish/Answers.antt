@@ -1,4 +1,4 @@
-use Rattle.std.proofs.Common.{◌∷◌, refl, ap, ◌∙◌, subst}
+use Rattle.std.proofs.Common.{arith, ◌∷◌, refl, ap, ◌∙◌, subst}
 use Rattle.board_rules.specs.Steps.{published_of, plan_of, motion_of, given_of}
 use Rattle.board_rules.specs.Ports.PortStep.{published, no_piece_room}
 use Rattle.board_rules.specs.Steps.Step.{at_port}
@@ -13,14 +13,14 @@ pub publish-requires : goal.publish-requires
 publish-requires g c =
     let r = c.requires.stands in let first = r.1 in let s = c.look_before.new.self in let p = c.in-Some.piece in
     let m = c.look_before.ensures.goes_on r.0 first r.2 r.3 r.4 in
-    let hand = ap (λ (b : Board). b.machine.hand) c.look_before.ensures.same ∙ c.in-Some.is in
+    let hand = ap (λ (b : Board _). b.machine.hand) c.look_before.ensures.same ∙ c.in-Some.is in
     (r.0, first, m.0, m.1, may_publish_now first s m.0 p m.2 (in_hand first s m.0 p m.2 hand))
 
 pub returns-in_default-publish-clause-goes_on : goal.returns-in_default-publish-clause-goes_on
 returns-in_default-publish-clause-goes_on g c = λ rest first h stands k.
     let s = c.look_before.new.self in
     let m = c.look_before.ensures.goes_on rest first h stands k in
-    let hand = ap (λ (b : Board). b.machine.hand) c.look_before.ensures.same ∙ c.in-Some.is in
+    let hand = ap (λ (b : Board _). b.machine.hand) c.look_before.ensures.same ∙ c.in-Some.is in
     let full = c.in_default-publish.ensures.full rest first m.0 m.1 m.2.conducted in
     (at_port (no_piece_room full.0) ∷ m.0, full.1, not_sent first s full.0 m.0 m.2 (some_in_hand first s m.0 c.in-Some.piece m.2 hand) full.2, (full.0, m.0, m.3, refl))
 
@@ -28,14 +28,14 @@ pub push-requires-clause-fits : goal.push-requires-clause-fits
 push-requires-clause-fits g c =
     let r = c.requires.stands in let first = r.1 in let s = c.look_before.new.self in let p = c.in-Some.piece in
     let m = c.look_before.ensures.goes_on r.0 first r.2 r.3 r.4 in
-    let hand = ap (λ (b : Board). b.machine.hand) c.look_before.ensures.same ∙ c.in-Some.is in
+    let hand = ap (λ (b : Board _). b.machine.hand) c.look_before.ensures.same ∙ c.in-Some.is in
     fits_next p m.0 (may_publish first s m.0 p m.2 (in_hand first s m.0 p m.2 hand))
 
 pub returns-clause-goes_on : goal.returns-clause-goes_on
 returns-clause-goes_on g c = λ rest first h stands k.
     let s = c.look_before.new.self in let p = c.in-Some.piece in
     let m = c.look_before.ensures.goes_on rest first h stands k in
-    let hand = ap (λ (b : Board). b.machine.hand) c.look_before.ensures.same ∙ c.in-Some.is in
+    let hand = ap (λ (b : Board _). b.machine.hand) c.look_before.ensures.same ∙ c.in-Some.is in
     let is = in_hand first s m.0 p m.2 hand in
     let runs = c.drop_hand.ensures (plan_of m.0) (motion_of first m.0) p (given_of m.0) (subst (λ ps. Runs s.machine (plan_of m.0) (motion_of first m.0) ps (given_of m.0)) is m.2.machine) in (
       at_port (published p) ∷ m.0,
@@ -45,7 +45,13 @@ returns-clause-goes_on g c = λ rest first h stands k.
     )
 
 pub look_before-requires : goal.look_before-requires
-look_before-requires g c = record { stands = c.requires.stands; hand = c.in-Some.is }
+look_before-requires g c = (
+  omega arith,
+  (
+    c.requires.stands,
+    c.in-Some.is,
+  ),
+)
 
 pub push-requires-clause-room : goal.push-requires-clause-room
 push-requires-clause-room g c = c.look_before.ensures.room

@@ -1,4 +1,4 @@
-use Rattle.std.proofs.Common.{◌≡◌, true, false, [], sym, subst, ap, ◌∙◌}
+use Rattle.std.proofs.Common.{arith, ◌≡◌, true, false, [], sym, subst, ap, ◌∙◌}
 use Rattle.board_turns.specs.declared.board.Board.{Board}
 use Rattle.board_turns.specs.Boards.{Rounds, TakesFlags, takes_no_word}
 use Rattle.board_turns.specs.Turning.{HasTried, WorksOn}
@@ -9,13 +9,19 @@ use Rattle.board_turns.proofs.Resetting.{unreset_between}
 use Rattle.board_turns.proofs.board.Board.publish_first.Goals as goal
 
 pub publish_next-published-requires : goal.publish_next-published-requires
-publish_next-published-requires g c = let r = c.requires.stands in let first = r.1 in record { stands = (r.0, first, r.2, r.3, r.4.keeps, r.6) }
+publish_next-published-requires g c =
+    let r = c.requires.stands in let first = r.1 in (
+      omega arith,
+      (r.0, first, r.2, r.3, r.4.keeps, r.6),
+    )
 
 pub fill-requires : goal.fill-requires
-fill-requires g c =
-    let r = c.requires.stands in let first = r.1 in
-    let n = c.publish_next-published.ensures.goes_on r.0 first r.2 r.3 r.4.keeps r.6 in
-    (first, n.0, n.2)
+fill-requires g c = (
+  omega arith,
+  let r = c.requires.stands in let first = r.1 in
+      let n = c.publish_next-published.ensures.goes_on r.0 first r.2 r.3 r.4.keeps r.6 in
+      (first, n.0, n.2),
+)
 
 pub returns-then-published-clause-goes_on : goal.returns-then-published-clause-goes_on
 returns-then-published-clause-goes_on g c = λ rest first h stands f between piece.
@@ -24,7 +30,7 @@ returns-then-published-clause-goes_on g c = λ rest first h stands f between pie
     let m = c.fill.ensures.filled first n.0 n.2 in
     let tried = subst (λ b. (HasTried first) b h n.0) c.if-published.true n.3 in
     let may = may_try_first first s.flags h (subst (λ b. (Rounds first) b h) c.requires.beat f.rounds) between c.requires.flags f.flags in
-    let same = ap (λ (b : Board). b.flags) c.fill.ensures.same ∙ ap (λ (b : Board). b.flags) c.publish_next-published.ensures.same in
+    let same = ap (λ (b : Board _). b.flags) c.fill.ensures.same ∙ ap (λ (b : Board _). b.flags) c.publish_next-published.ensures.same in
     let takes = flags_passed first s.flags n.0 m.0 c.requires.flags m.2.alone.passes (flags_tried first true s.flags h n.0 c.requires.flags tried f.flags) in (
       m.0,
       rw m.2.alone.port n.1,
@@ -35,20 +41,21 @@ pub fill-requires-in-Report : goal.fill-requires-in-Report
 fill-requires-in-Report g c =
     let r = c.requires.stands in let first = r.1 in
     let n = c.publish_next-published.ensures.goes_on r.0 first r.2 r.3 r.4.keeps r.6 in
-    (first, n.0, n.2)
+    (omega arith, (first, n.0, n.2))
 
-pub report-requires-clause-stands : goal.report-requires-clause-stands
-report-requires-clause-stands g c =
+pub report-requires : goal.report-requires
+report-requires g c = (
+  omega arith,
+  (
     let r = c.requires.stands in let first = r.1 in
-    let n = c.publish_next-published.ensures.goes_on r.0 first r.2 r.3 r.4.keeps r.6 in
-    let m = c.fill-in-Report.ensures.filled first n.0 n.2 in
-    let same = sym (ap (λ (b : Board). b.flags) c.publish_next-published.ensures.same) ∙ c.in-Report.is in
-    let asked = subst (λ x. TakesFlags x r.2) same r.4.flags in
-    (r.0, first, m.0, rw m.2.alone.port n.1, m.1, owing_tried first c.in-Report.word r.2 n.0 m.0 (subst (λ b. (Rounds first) b r.2) c.requires.beat r.4.rounds) r.5 asked (subst (λ b. (HasTried first) b r.2 n.0) c.if-published.false n.3) m.2)
-
-pub report-requires-clause-beat : goal.report-requires-clause-beat
-report-requires-clause-beat g c =
-    ap (λ (b : Board). b.beat) c.fill-in-Report.ensures.same ∙ ap (λ (b : Board). b.beat) c.publish_next-published.ensures.same ∙ c.requires.beat
+        let n = c.publish_next-published.ensures.goes_on r.0 first r.2 r.3 r.4.keeps r.6 in
+        let m = c.fill-in-Report.ensures.filled first n.0 n.2 in
+        let same = sym (ap (λ (b : Board _). b.flags) c.publish_next-published.ensures.same) ∙ c.in-Report.is in
+        let asked = subst (λ x. TakesFlags x r.2) same r.4.flags in
+        (r.0, first, m.0, rw m.2.alone.port n.1, m.1, owing_tried first c.in-Report.word r.2 n.0 m.0 (subst (λ b. (Rounds first) b r.2) c.requires.beat r.4.rounds) r.5 asked (subst (λ b. (HasTried first) b r.2 n.0) c.if-published.false n.3) m.2),
+    ap (λ (b : Board _). b.beat) c.fill-in-Report.ensures.same ∙ ap (λ (b : Board _). b.beat) c.publish_next-published.ensures.same ∙ c.requires.beat,
+  ),
+)
 
 pub returns-in-Report-clause-going : goal.returns-in-Report-clause-going
 returns-in-Report-clause-going g c = c.report.ensures.going
@@ -57,24 +64,32 @@ pub main-requires : goal.main-requires
 main-requires g c =
     let r = c.requires.stands in let first = r.1 in
     let n = c.publish_next-published.ensures.goes_on r.0 first r.2 r.3 r.4.keeps r.6 in
-    let same = ap (λ (b : Board). b.flags) c.publish_next-published.ensures.same in
+    let same = ap (λ (b : Board _). b.flags) c.publish_next-published.ensures.same in
     let none = none_left _ (ap takes_no_word same ∙ c.requires.flags) c.in_default.not-Report in
     let free = subst (λ x. TakesFlags x r.2) (sym same ∙ none) r.4.flags in
-    let tried = subst (λ b. (HasTried first) b r.2 n.0) c.if-published.false n.3 in
-    record {
-      stands = (r.0, first, n.0, n.1, n.2, ready_tried first r.2 n.0 (subst (λ b. (Rounds first) b r.2) c.requires.beat r.4.rounds) r.5 free tried);
-      «open» = subst (λ (b : Board). b.lines.left ≡ [] → b.closing ≡ false) (sym c.publish_next-published.ensures.same) c.requires.open;
-      unreset = subst (λ (b : Board). tells_next b.lines.left ≡ false → b.resetting ≡ false) (sym c.publish_next-published.ensures.same) (unreset_between first c.args.self.now r.2 r.4.keeps r.5 free.unowed);
-      beat = ap (λ (b : Board). b.beat) c.publish_next-published.ensures.same ∙ c.requires.beat;
-      flags = none;
-    }
+    let tried = subst (λ b. (HasTried first) b r.2 n.0) c.if-published.false n.3 in (
+      omega arith,
+      (
+        (r.0, first, n.0, n.1, n.2, ready_tried first r.2 n.0 (subst (λ b. (Rounds first) b r.2) c.requires.beat r.4.rounds) r.5 free tried),
+        (
+          subst (λ (b : Board _). b.lines.left ≡ [] → b.closing ≡ false) (sym c.publish_next-published.ensures.same) c.requires.open,
+          (
+            ap (λ (b : Board _). b.beat) c.publish_next-published.ensures.same ∙ c.requires.beat,
+            (
+              none,
+              subst (λ (b : Board _). tells_next b.lines.left ≡ false → b.resetting ≡ false) (sym c.publish_next-published.ensures.same) (unreset_between first c.args.self.now r.2 r.4.keeps r.5 free.unowed),
+            ),
+          ),
+        ),
+      ),
+    )
 
 pub returns-in-Report-clause-goes_on : goal.returns-in-Report-clause-goes_on
 returns-in-Report-clause-goes_on g c = λ rest first h stands f between piece.
     let s = c.args.self.now in
     let n = c.publish_next-published.ensures.goes_on rest first h stands f.keeps piece in
     let m = c.fill-in-Report.ensures.filled first n.0 n.2 in
-    let same = sym (ap (λ (b : Board). b.flags) c.publish_next-published.ensures.same) ∙ c.in-Report.is in
+    let same = sym (ap (λ (b : Board _). b.flags) c.publish_next-published.ensures.same) ∙ c.in-Report.is in
     let asked = subst (λ x. TakesFlags x h) same f.flags in
     let tried = subst (λ b. (HasTried first) b h n.0) c.if-published.false n.3 in
     let owing = owing_tried first c.in-Report.word h n.0 m.0 (subst (λ b. (Rounds first) b h) c.requires.beat f.rounds) between asked tried m.2 in
@@ -85,7 +100,7 @@ returns-in-Report-clause-goes_on g c = λ rest first h stands f between piece.
 pub returns : goal.returns
 returns g c =
     let s = c.args.self.now in
-    let same = ap (λ (b : Board). b.flags) c.publish_next-published.ensures.same in
+    let same = ap (λ (b : Board _). b.flags) c.publish_next-published.ensures.same in
     let none = none_left _ (ap takes_no_word same ∙ c.requires.flags) c.in_default.not-Report in
     record {
       goes_on = λ rest first h stands f between piece.

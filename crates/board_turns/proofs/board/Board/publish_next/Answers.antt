@@ -1,4 +1,4 @@
-use Rattle.std.proofs.Common.{[], ◌∷◌, ◌++◌, ◌∙◌, sym, ap}
+use Rattle.std.proofs.Common.{arith, rules, [], ◌∷◌, ◌++◌, ◌∙◌, sym, ap}
 use Rattle.planner_runs.specs.declared.Action.TheVariants.{Take}
 use Rattle.step_line.specs.declared.Piece.TheVariants as pieces
 use Rattle.board_rules.specs.Steps.{motion_of}
@@ -13,20 +13,30 @@ returns-then-is_some-clause-goes_on g c rest first h stands k has =
     let n = c.publish.ensures.goes_on rest first h stands k in
     (n.0, n.1, n.2, tried first c.publish.result h n.0 (one_in_hand first c.args.self.now h k) n.3)
 
-pub take-requires-clause-few : goal.take-requires-clause-few
-take-requires-clause-few g c = let r = c.requires.stands in let first = r.1 in few_ticks first c.args.self.now r.2 r.4
+pub take-requires : goal.take-requires
+take-requires g c = (
+  omega arith,
+  (
+    search rules,
+    (
+      let r = c.requires.stands in let first = r.1 in few_ticks first c.args.self.now r.2 r.4,
+      search rules,
+    ),
+  ),
+)
 
-pub publish-requires-2-clause-stands : goal.publish-requires-2-clause-stands
-publish-requires-2-clause-stands g c =
+pub publish-requires-2 : goal.publish-requires-2
+publish-requires-2 g c = (
+  omega arith,
+  (
     let r = c.requires.stands in let first = r.1 in let s = c.args.self.now in
-    let t = took_next first s _ r.2 r.4 r.5 (none_by_test _ (sym c.is_some.ensures ∙ c.if-is_some.false)) c.take.ensures in
-    (r.0, first, did (Take (mode_in (motion_of first r.2))) (pieces.Segment t.0 ∷ []) ∷ r.2, r.3, t.1)
-
-pub publish-requires-2-clause-some : goal.publish-requires-2-clause-some
-publish-requires-2-clause-some g c =
+        let t = took_next first s _ r.2 r.4 r.5 (none_by_test _ (sym c.is_some.ensures ∙ c.if-is_some.false)) c.take.ensures in
+        (r.0, first, did (Take (mode_in (motion_of first r.2))) (pieces.Segment t.0 ∷ []) ∷ r.2, r.3, t.1),
     let r = c.requires.stands in let first = r.1 in let s = c.args.self.now in
-    let t = took_next first s _ r.2 r.4 r.5 (none_by_test _ (sym c.is_some.ensures ∙ c.if-is_some.false)) c.take.ensures in
-    hand_of_one first _ (did (Take (mode_in (motion_of first r.2))) (pieces.Segment t.0 ∷ []) ∷ r.2) (pieces.Segment t.0) t.1 (ap (λ ps. ps ++ pieces.Segment t.0 ∷ []) t.3)
+        let t = took_next first s _ r.2 r.4 r.5 (none_by_test _ (sym c.is_some.ensures ∙ c.if-is_some.false)) c.take.ensures in
+        hand_of_one first _ (did (Take (mode_in (motion_of first r.2))) (pieces.Segment t.0 ∷ []) ∷ r.2) (pieces.Segment t.0) t.1 (ap (λ ps. ps ++ pieces.Segment t.0 ∷ []) t.3),
+  ),
+)
 
 pub returns-clause-goes_on : goal.returns-clause-goes_on
 returns-clause-goes_on g c rest first h stands k has =

@@ -1,4 +1,4 @@
-use Rattle.std.proofs.Common.{ap, ◌∙◌, subst}
+use Rattle.std.proofs.Common.{arith, rules, ap, ◌∙◌, subst}
 use Rattle.board_turns.specs.declared.board.Board.{Board}
 use Rattle.board_turns.specs.Reporting.{IsReported, obeying}
 use Rattle.board_turns.proofs.Telling.{may_obey_now}
@@ -6,18 +6,23 @@ use Rattle.board_turns.proofs.Owed.{lacks_room, stands_behind, behind_word, did_
 use Rattle.board_turns.proofs.board.Board.report.Goals as goal
 
 -- src/reports.rt:132:13
-pub go_on_owing-requires-clause-stands : goal.go_on_owing-requires-clause-stands
-go_on_owing-requires-clause-stands g c =
+pub go_on_owing-requires : goal.go_on_owing-requires
+go_on_owing-requires g c = (
+  omega arith,
+  (
     let r = c.requires.stands in let first = r.1 in
-    let word = c.args.word in
-    let t = c.tell_report-told.ensures.goes_on r.0 first r.2 r.3 r.4 r.5 in (
-      r.0,
-      first,
-      obeying first word t.0,
-      stands_behind first (λ l. g.P.EpochPort.stands c.tell_report-told.new.port r.0 first l) word t.0 t.1,
-      c.obey_waiting.ensures.goes_on first t.0 t.2 (may_obey_now first c.tell_report-told.new.self c.tell_report-told.result word t.0 t.2 t.3),
-      lacks_room first word t.0 (subst (λ b. (IsReported first) b word t.0) c.if-not-told.true t.3),
-    )
+        let word = c.args.word in
+        let t = c.tell_report-told.ensures.goes_on r.0 first r.2 r.3 r.4 r.5 in (
+          r.0,
+          first,
+          obeying first word t.0,
+          stands_behind first (λ l. g.P.EpochPort.stands c.tell_report-told.new.port r.0 first l) word t.0 t.1,
+          c.obey_waiting.ensures.goes_on first t.0 t.2 (may_obey_now first c.tell_report-told.new.self c.tell_report-told.result word t.0 t.2 t.3),
+          lacks_room first word t.0 (subst (λ b. (IsReported first) b word t.0) c.if-not-told.true t.3),
+        ),
+    search rules,
+  ),
+)
 
 -- src/reports.rt:132:13
 pub returns-then-not-told-clause-goes_on : goal.returns-then-not-told-clause-goes_on
@@ -34,7 +39,7 @@ pub returns-clause-goes_on : goal.returns-clause-goes_on
 returns-clause-goes_on g c rest first h was stands k to =
     let word = c.args.word in
     let t = c.tell_report-told.ensures.goes_on rest first h stands k to in
-    let beat = ap (λ (b : Board). b.beat) c.obey_waiting.ensures.same ∙ (ap (λ (b : Board). b.beat) c.tell_report-told.ensures.same ∙ c.requires.beat) in (
+    let beat = ap (λ (b : Board _). b.beat) c.obey_waiting.ensures.same ∙ (ap (λ (b : Board _). b.beat) c.tell_report-told.ensures.same ∙ c.requires.beat) in (
       obeying first word t.0,
       stands_behind first (λ l. g.P.EpochPort.stands c.tell_report-told.new.port rest first l) word t.0 t.1,
       did_report first c.obey_waiting.new.self was word h t.0 (c.obey_waiting.ensures.goes_on first t.0 t.2 (may_obey_now first c.tell_report-told.new.self c.tell_report-told.result word t.0 t.2 t.3)) (subst (λ b. (IsReported first) b word t.0) c.if-not-told.false t.3) t.4 beat,

@@ -3,11 +3,8 @@ use Rattle.board_rules.specs.Ports.PortStep.{found_free}
 use Rattle.board_rules.specs.Steps.{port_log}
 use Rattle.board_rules.specs.Steps.Step.{at_port}
 use Rattle.board_turns.proofs.Steps.{room_found}
-use Rattle.board_turns.proofs.Telling.{few_blocks, asked_room}
+use Rattle.board_turns.proofs.Telling.{asked_room}
 use Rattle.board_turns.proofs.board.Board.room.Goals as goal
-
-pub free_blocks-requires : goal.free_blocks-requires
-free_blocks-requires g c = let r = c.requires.stands in let first = r.1 in few_blocks first c.args.self.now r.2 r.4
 
 pub returns-clause-goes_on : goal.returns-clause-goes_on
 returns-clause-goes_on g c rest first h stands k =

@@ -1,4 +1,4 @@
-use Rattle.std.proofs.Common.{ap, subst, ◌∙◌}
+use Rattle.std.proofs.Common.{arith, ap, subst, ◌∙◌}
 use Rattle.board_turns.specs.declared.board.Board.{Board}
 use Rattle.board_turns.specs.Turning.{HasTried}
 use Rattle.board_turns.proofs.Ends.{may_try, sent, handed_back, free_of}
@@ -8,8 +8,8 @@ pub returns-then-not-published-clause-goes_on : goal.returns-then-not-published-
 returns-then-not-published-clause-goes_on g c rest first h stands k may has =
     let m = c.publish_next-published.ensures.goes_on rest first h stands k has in
     let n = c.fill.ensures.filled first m.0 m.2 in
-    let beat = ap (λ (x : Board). x.beat) c.fill.ensures.same ∙ ap (λ (x : Board). x.beat) c.publish_next-published.ensures.same ∙ c.requires.beat in
-    let none = ap (λ (x : Board). x.flags) c.fill.ensures.same ∙ ap (λ (x : Board). x.flags) c.publish_next-published.ensures.same ∙ c.requires.flags in
+    let beat = ap (λ (x : Board _). x.beat) c.fill.ensures.same ∙ ap (λ (x : Board _). x.beat) c.publish_next-published.ensures.same ∙ c.requires.beat in
+    let none = ap (λ (x : Board _). x.flags) c.fill.ensures.same ∙ ap (λ (x : Board _). x.flags) c.publish_next-published.ensures.same ∙ c.requires.flags in
     let tried = subst (λ b. (HasTried first) b h m.0) c.if-not-published.true m.3 in
     (n.0, rw n.2.alone.port m.1, handed_back first _ _ h m.0 n.0 may tried n.2 n.1 beat none)
 
@@ -17,12 +17,14 @@ pub returns-clause-goes_on : goal.returns-clause-goes_on
 returns-clause-goes_on g c rest first h stands k may has =
     let m = c.publish_next-published.ensures.goes_on rest first h stands k has in
     let n = c.fill.ensures.filled first m.0 m.2 in
-    let none = ap (λ (x : Board). x.flags) c.fill.ensures.same ∙ ap (λ (x : Board). x.flags) c.publish_next-published.ensures.same ∙ c.requires.flags in
+    let none = ap (λ (x : Board _). x.flags) c.fill.ensures.same ∙ ap (λ (x : Board _). x.flags) c.publish_next-published.ensures.same ∙ c.requires.flags in
     let tried = subst (λ b. (HasTried first) b h m.0) c.if-not-published.false m.3 in
     (n.0, rw n.2.alone.port m.1, sent first _ _ h m.0 n.0 (may_try first h may) (free_of h may.quiet) tried n.2 n.1 none)
 
 pub fill-requires : goal.fill-requires
-fill-requires g c =
-    let r = c.requires.stands in let first = r.1 in
-    let m = c.publish_next-published.ensures.goes_on r.0 first r.2 r.3 r.4 r.6 in
-    (first, m.0, m.2)
+fill-requires g c = (
+  omega arith,
+  let r = c.requires.stands in let first = r.1 in
+      let m = c.publish_next-published.ensures.goes_on r.0 first r.2 r.3 r.4 r.6 in
+      (first, m.0, m.2),
+)

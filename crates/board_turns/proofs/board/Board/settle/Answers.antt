@@ -1,4 +1,4 @@
-use Rattle.std.proofs.Common.{◌∷◌, sym, ◌∙◌, subst}
+use Rattle.std.proofs.Common.{arith, ◌∷◌, sym, ◌∙◌, subst}
 use Rattle.board_rules.specs.Ports.PortStep.{loaded}
 use Rattle.board_rules.specs.Steps.Step.{at_port}
 use Rattle.board_turns.proofs.Settling.{slowed_now, slowed_is, found_stopped, looked_learned, came_of, port_came, settled_later, settled_none}
@@ -24,17 +24,19 @@ returns-then-done-self-clause-goes_on g c rest first h stands k =
     )
 
 pub come_to_rest-requires : goal.come_to_rest-requires
-come_to_rest-requires g c =
-    let r = c.requires.stands in let first = r.1 in
-    let s = c.args.self.now in
-    let done = c.done-done.result in
-    let may = c.done-done.ensures.known r.0 first r.2 r.3 r.4.conducted in
-    let slowed = slowed_is first s r.2 r.4 (c.has_slowed_down.ensures.0 c.if-not-has_slowed_down.false) in (
-      first,
-      at_port (loaded done) ∷ r.2,
-      looked_learned first s c.learn.new.self done r.2 r.4 may (c.learn.ensures.flies first.place),
-      found_stopped first s c.learn.new.self done r.2 r.4 slowed may c.if-done-self.false (c.learn.ensures.flies first.place),
-    )
+come_to_rest-requires g c = (
+  omega arith,
+  let r = c.requires.stands in let first = r.1 in
+      let s = c.args.self.now in
+      let done = c.done-done.result in
+      let may = c.done-done.ensures.known r.0 first r.2 r.3 r.4.conducted in
+      let slowed = slowed_is first s r.2 r.4 (c.has_slowed_down.ensures.0 c.if-not-has_slowed_down.false) in (
+        first,
+        at_port (loaded done) ∷ r.2,
+        looked_learned first s c.learn.new.self done r.2 r.4 may (c.learn.ensures.flies first.place),
+        found_stopped first s c.learn.new.self done r.2 r.4 slowed may c.if-done-self.false (c.learn.ensures.flies first.place),
+      ),
+)
 
 pub returns-clause-goes_on : goal.returns-clause-goes_on
 returns-clause-goes_on g c rest first h stands k =

@@ -12,7 +12,7 @@ use Rattle.board_turns.proofs.board.Board.start_before_line.Goals as goal
 
 -- src/board.rt:384:5
 pub returns-then-is_waiting-clause-started : goal.returns-then-is_waiting-clause-started
-returns-then-is_waiting-clause-started c = λ first h k looked.
+returns-then-is_waiting-clause-started g c = λ first h k looked.
     let waiting = c.is_waiting.ensures.yes c.if-is_waiting.true in
     let blocks = ap (λ p. has_blocks p.blocks) (sym k.machine.plan_is) ∙ waiting.1 in (
       starting c.args.self.now.jogged h,

@@ -1,4 +1,4 @@
-use Rattle.std.proofs.Common.{rules, ◌≡◌, true, false, sym, subst}
+use Rattle.std.proofs.Common.{arith, rules, ◌≡◌, true, false, sym, subst}
 use Rattle.board_rules.specs.Ports.{has_changes}
 use Rattle.board_rules.specs.Steps.{Journal, port_log, hand_of, given_of, plan_of, motion_of}
 use Rattle.board_turns.specs.Boards.{Keeps}
@@ -8,7 +8,11 @@ use Rattle.board_turns.proofs.Settling.{replanned_some, replanned_none}
 use Rattle.board_turns.proofs.board.Board.take_changes.Goals as goal
 
 pub change-requires : goal.change-requires
-change-requires g c = let r = c.requires.stands in let first = r.1 in record { range = in_range first c.args.self.now r.2 r.4 }
+change-requires g c =
+    let r = c.requires.stands in let first = r.1 in (
+      omega arith,
+      in_range first c.args.self.now r.2 r.4,
+    )
 
 pub returns-then-not-is_empty-clause-goes_on : goal.returns-then-not-is_empty-clause-goes_on
 returns-then-not-is_empty-clause-goes_on g c rest first h stands k greeted =

@@ -1,4 +1,4 @@
-use Rattle.std.proofs.Common.{refl, ap, subst}
+use Rattle.std.proofs.Common.{arith, rules, refl, ap, subst}
 use Rattle.board_rules.specs.Steps.{Journal}
 use Rattle.board_turns.specs.declared.board.Board.{Board}
 use Rattle.board_turns.specs.declared.board.Flags.TheVariants as words
@@ -19,27 +19,42 @@ returns-in-Both-clause-goes_on g c rest first h stands f between =
       next,
       n.1,
       took_changes first c.args.self.now (record c.take_changes.new.self { flags = words.Requests }) n.0 h f between c.in-Both.is (other_flags first c.take_changes.new.self words.Requests next n.2)
-          (ap (λ (b : Board). b.beat) c.take_changes.ensures.same) refl,
+          (ap (λ (b : Board _). b.beat) c.take_changes.ensures.same) refl,
     )
 
 pub take_requests-requires : goal.take_requests-requires
 take_requests-requires g c =
-    let r = c.requires.stands in let first = r.1 in
-    record { stands = (r.0, first, r.2, r.3, r.4.keeps, awaits_requests (subst (λ x. TakesFlags x r.2) c.in-Requests.is r.4.flags), no_jog_waits first r.2 r.4.keeps.conducted r.5) }
+    let r = c.requires.stands in let first = r.1 in (
+      omega arith,
+      (r.0, first, r.2, r.3, r.4.keeps, awaits_requests (subst (λ x. TakesFlags x r.2) c.in-Requests.is r.4.flags), no_jog_waits first r.2 r.4.keeps.conducted r.5),
+    )
 
 pub returns-in-Requests-clause-goes_on : goal.returns-in-Requests-clause-goes_on
 returns-in-Requests-clause-goes_on g c rest first h stands f between =
     let n = c.take_requests.ensures.goes_on rest first h stands f.keeps (awaits_requests (subst (λ x. TakesFlags x h) c.in-Requests.is f.flags)) (no_jog_waits first h f.keeps.conducted between) in (
       asked first n.0 n.1,
       n.3,
-      took_requests first c.args.self.now c.take_requests.new.self n.0 h n.1 f between c.in-Requests.is n.2 n.4 (ap (λ (b : Board). b.beat) c.take_requests.ensures.same) n.5,
+      took_requests first c.args.self.now c.take_requests.new.self n.0 h n.1 f between c.in-Requests.is n.2 n.4 (ap (λ (b : Board _). b.beat) c.take_requests.ensures.same) n.5,
     )
 
 pub take_changes-requires : goal.take_changes-requires
-take_changes-requires g c = let r = c.requires.stands in let first = r.1 in record { stands = (r.0, first, r.2, r.3, r.4.keeps, (subst (λ x. TakesFlags x r.2) c.in-Both.is r.4.flags).greeted) }
+take_changes-requires g c =
+    let r = c.requires.stands in let first = r.1 in (
+      omega arith,
+      (r.0, first, r.2, r.3, r.4.keeps, (subst (λ x. TakesFlags x r.2) c.in-Both.is r.4.flags).greeted),
+    )
 
-pub go_on-requires-clause-stands : goal.go_on-requires-clause-stands
-go_on-requires-clause-stands g c = c.requires.stands
+pub go_on-requires : goal.go_on-requires
+go_on-requires g c = (
+  omega arith,
+  (
+    c.requires.stands,
+    (
+      search rules,
+      search rules,
+    ),
+  ),
+)
 
 pub returns-in-Report-clause-goes_on : goal.returns-in-Report-clause-goes_on
 returns-in-Report-clause-goes_on g c = λ rest first h stands f between. c.go_on.ensures.goes_on rest first h stands f between

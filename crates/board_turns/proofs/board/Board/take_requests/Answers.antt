@@ -19,7 +19,7 @@ returns-then-self-clause-goes_on g c = λ rest first h stands k awaits no_jog.
     let n = c.settle.ensures.goes_on rest first h stands k in
     let j = n.0 in
     let word = c.take_exec-word.result in
-    let may : MayTakeRequests word j = record { greeted = still_greeted first c.args.self.now c.settle.new.self h j k n.2 (ap (λ (b : Board). b.greeted) c.settle.ensures.same) awaits.greeted; obeyed = n.3.passes.words ∙ awaits.obeyed; few = λ e. c.take_exec-word.ensures.few e rest first (port_log j) n.1 } in
+    let may : MayTakeRequests word j = record { greeted = still_greeted first c.args.self.now c.settle.new.self h j k n.2 (ap (λ (b : Board _). b.greeted) c.settle.ensures.same) awaits.greeted; obeyed = n.3.passes.words ∙ awaits.obeyed; few = λ e. c.take_exec-word.ensures.few e rest first (port_log j) n.1 } in
     let owes_is = ap (λ b. b || c.settle.new.self.owes) c.asks_report.ensures ∙ ap (λ b. asks_report word || b) n.2.owes_is in
     let owed : owes_report (taken word j) ≡ _ = sym owes_is ∙ c.if-self.true in
     let is = asked_owed first word j owed in
@@ -38,7 +38,7 @@ returns-clause-goes_on g c = λ rest first h stands k awaits no_jog.
     let j = n.0 in
     let word = c.take_exec-word.result in
     let left = n.3.passes.words ∙ awaits.obeyed in
-    let takes : MayTakeRequests word j = record { greeted = still_greeted first c.args.self.now c.settle.new.self h j k n.2 (ap (λ (b : Board). b.greeted) c.settle.ensures.same) awaits.greeted; obeyed = left; few = λ e. c.take_exec-word.ensures.few e rest first (port_log j) n.1 } in
+    let takes : MayTakeRequests word j = record { greeted = still_greeted first c.args.self.now c.settle.new.self h j k n.2 (ap (λ (b : Board _). b.greeted) c.settle.ensures.same) awaits.greeted; obeyed = left; few = λ e. c.take_exec-word.ensures.few e rest first (port_log j) n.1 } in
     let owes_is = ap (λ b. b || c.settle.new.self.owes) c.asks_report.ensures ∙ ap (λ b. asks_report word || b) n.2.owes_is in
     let unowed : owes_report (taken word j) ≡ _ = sym owes_is ∙ c.if-self.false in
     let is = asked_free first word j unowed in
@@ -51,5 +51,5 @@ returns-clause-goes_on g c = λ rest first h stands k awaits no_jog.
       n.3,
       subst (λ (x : Journal). g.P.EpochPort.stands c.take_exec-word.new.self rest first (port_log x)) (sym is) (port_stands first (λ l. g.P.EpochPort.stands c.take_exec-word.new.self rest first l) word j (c.take_exec-word.ensures.taken rest first (port_log j) n.1)),
       subst (λ (x : Journal). Keeps first c.obey_waiting.new.self x) (sym is) obeyed,
-      ap (λ (b : Board). b.flags) c.obey_waiting.ensures.same ∙ sym (ap (λ b. flags_behind b word) unowed),
+      ap (λ (b : Board _). b.flags) c.obey_waiting.ensures.same ∙ sym (ap (λ b. flags_behind b word) unowed),
     )

@@ -1,4 +1,4 @@
-use Rattle.std.proofs.Common.{[], ◌∷◌, inl, refl, sym, ap, ◌∙◌, arith}
+use Rattle.std.proofs.Common.{rules, [], ◌∷◌, inl, refl, sym, ap, ◌∙◌, arith}
 use Rattle.run_rules.specs.Work.Task.{tell}
 use Rattle.board_rules.specs.Steps.{port_log}
 use Rattle.board_rules.specs.Turns.{this_turn}
@@ -13,19 +13,27 @@ use Rattle.board_turns.proofs.Ends.{did_filled, may_run, takes_none, free_of, fr
 use Rattle.board_turns.proofs.Nexts.{few_working, told_later, some_next}
 use Rattle.board_turns.proofs.board.Board.tell.Goals as goal
 
-pub run-requires-clause-stands : goal.run-requires-clause-stands
-run-requires-clause-stands g c =
+pub run-requires : goal.run-requires
+run-requires g c = (
+  omega arith,
+  (
     let r = c.requires.stands in let first = r.1 in
-    let s = c.args.self.now in
-    let next = is_next first s r.2 (tell c.reply-reply.result) r.4 c.reply-reply.ensures.next in (
-      r.0,
-      first,
-      r.2,
-      r.3,
-      r.4,
-      may_run first r.2 r.4.conducted r.5 (some_next first r.2 (tell c.reply-reply.result) next),
-      inl (hand_left first s r.2 r.4 (c.holds_back.ensures.yes c.if-holds_back.true)),
-    )
+        let s = c.args.self.now in
+        let next = is_next first s r.2 (tell c.reply-reply.result) r.4 c.reply-reply.ensures.next in (
+          r.0,
+          first,
+          r.2,
+          r.3,
+          r.4,
+          may_run first r.2 r.4.conducted r.5 (some_next first r.2 (tell c.reply-reply.result) next),
+          inl (hand_left first s r.2 r.4 (c.holds_back.ensures.yes c.if-holds_back.true)),
+        ),
+    (
+      search rules,
+      search rules,
+    ),
+  ),
+)
 
 pub returns-then-holds_back-clause-goes_on : goal.returns-then-holds_back-clause-goes_on
 returns-then-holds_back-clause-goes_on g c = λ rest first h stands keeps ready.
@@ -49,12 +57,14 @@ returns-in_default-clause-goes_on g c = λ rest first h stands keeps ready.
     (at_port no_reply_room ∷ h, back, told_later first _ s h reply keeps ready (is_next first s h (tell reply) keeps c.reply-reply.ensures.next) c.requires.beat c.requires.flags)
 
 pub fill-requires : goal.fill-requires
-fill-requires g c =
-    let r = c.requires.stands in let first = r.1 in
-    let s = c.args.self.now in
-    let reply = c.reply-reply.result in
-    let next = is_next first s r.2 (tell reply) r.4 c.reply-reply.ensures.next in
-    (first, at_port (answered reply) ∷ r.2, c.told.ensures.told first r.2 r.4 next c.reply-reply.ensures.plain r.5.quiet.unowed (λ bye. (hand_empty first) s r.2 r.4 (c.if-holds_back.ensures.no refl bye)))
+fill-requires g c = (
+  omega arith,
+  let r = c.requires.stands in let first = r.1 in
+      let s = c.args.self.now in
+      let reply = c.reply-reply.result in
+      let next = is_next first s r.2 (tell reply) r.4 c.reply-reply.ensures.next in
+      (first, at_port (answered reply) ∷ r.2, c.told.ensures.told first r.2 r.4 next c.reply-reply.ensures.plain r.5.quiet.unowed (λ bye. (hand_empty first) s r.2 r.4 (c.if-holds_back.ensures.no refl bye))),
+)
 
 pub returns-clause-goes_on : goal.returns-clause-goes_on
 returns-clause-goes_on g c = λ rest first h stands keeps ready.
@@ -72,7 +82,7 @@ returns-clause-goes_on g c = λ rest first h stands keeps ready.
     let one = publishes_one (at_port (answered r)) (this_turn h) refl in
     let quiet = ready.quiet.quiet in
     let worked = worked_behind (at_port (answered r)) h mid refl (record { no_changes = refl; none_planned = refl }) refl refl ready.quiet.worked in
-    let beat = ap (λ (b : Board). b.beat) c.fill.ensures.same ∙ ap (λ (b : Board). b.beat) c.told.ensures.same ∙ c.requires.beat in
-    let none = ap (λ (b : Board). b.flags) c.fill.ensures.same ∙ ap (λ (b : Board). b.flags) c.told.ensures.same ∙ c.requires.flags in
+    let beat = ap (λ (b : Board _). b.beat) c.fill.ensures.same ∙ ap (λ (b : Board _). b.beat) c.told.ensures.same ∙ c.requires.beat in
+    let none = ap (λ (b : Board _). b.flags) c.fill.ensures.same ∙ ap (λ (b : Board _). b.flags) c.told.ensures.same ∙ c.requires.flags in
     let taken = takes_none c.fill.new.self n.0 none (free_passed first mid n.0 n.2.alone.passes freed) in
     (n.0, rw (n.2.alone.port, sym said_is) stood, did_filled first _ _ h mid n.0 (at_port (answered r) ∷ []) refl n.1 beat taken n.2 worked (omega (arith, one, quiet)) ready.unpolled few (inl (n.2.alone.passes.moves refl)))

@@ -1,4 +1,4 @@
-use Rattle.std.proofs.Common.{◌∷◌, refl, sym, ap, subst}
+use Rattle.std.proofs.Common.{arith, ◌∷◌, refl, sym, ap, subst}
 use Rattle.outside.specs.declared.Turn.{Turn}
 use Rattle.board_rules.specs.Steps.Step.{turned}
 use Rattle.board_turns.specs.declared.board.Board.{Board}
@@ -18,9 +18,9 @@ returns-in-Wait-clause-goes_on g c = λ rest first h stands f between unready.
     let is = sym c.await_words.ensures in (
       turned t ∷ n.0,
       n.1,
-      subst (λ (b : Board). EpochFits first b (turned t ∷ n.0)) is r.0,
+      subst (λ (b : Board _). EpochFits first b (turned t ∷ n.0)) is r.0,
       refl,
-      subst (λ (b : Board). GoingTurned first t c.args.self.now b h (turned t ∷ n.0)) is r.1,
+      subst (λ (b : Board _). GoingTurned first t c.args.self.now b h (turned t ∷ n.0)) is r.1,
     )
 
 pub returns-in_default : goal.returns-in_default
@@ -40,4 +40,8 @@ pub returns-in-Wait-clause-few : goal.returns-in-Wait-clause-few
 returns-in-Wait-clause-few g c = λ first. number_few first c.args.self.now
 
 pub work-turn-requires : goal.work-turn-requires
-work-turn-requires g c = let r = c.requires.stands in let first = r.1 in record { stands = (r.0, first, r.2, r.3, begins_going first c.args.self.now r.2 r.4 r.6, r.5) }
+work-turn-requires g c =
+    let r = c.requires.stands in let first = r.1 in (
+      omega arith,
+      (r.0, first, r.2, r.3, begins_going first c.args.self.now r.2 r.4 r.6, r.5),
+    )

@@ -1,3 +1,4 @@
+use Rattle.std.proofs.Common.{arith}
 use Rattle.board_turns.proofs.Nexts.{none_waiting, waits_for_byte}
 use Rattle.board_turns.proofs.board.Board.without_byte.Goals as goal
 
@@ -8,8 +9,22 @@ returns-then-not-is_waiting-clause-goes_on g c = λ rest first h stands keeps po
 
 pub run_waiting-requires : goal.run_waiting-requires
 run_waiting-requires g c =
-    let waits = c.is_waiting.ensures.yes c.if-not-is_waiting.false in
-    record { stands = c.requires.stands; idle = waits.0; blocks = waits.1; beat = c.requires.beat; flags = c.requires.flags }
+    let waits = c.is_waiting.ensures.yes c.if-not-is_waiting.false in (
+      omega arith,
+      (
+        c.requires.stands,
+        (
+          waits.0,
+          (
+            waits.1,
+            (
+              c.requires.beat,
+              c.requires.flags,
+            ),
+          ),
+        ),
+      ),
+    )
 
 pub returns-clause-goes_on : goal.returns-clause-goes_on
 returns-clause-goes_on g c = λ rest first h stands keeps polled found. c.run_waiting.ensures.goes_on rest first h stands keeps polled

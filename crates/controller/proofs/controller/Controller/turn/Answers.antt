@@ -1,11 +1,12 @@
-use Rattle.controller.proofs.Turns.{goes_so, goes_gone, resets_so, resets_gone, few_going, few_resetting}
+use Rattle.controller.proofs.Turns.{goes_so, goes_gone, resets_so, resets_gone, few_going}
 use Rattle.controller.proofs.controller.Controller.turn.Goals as goal
+use Rattle.std.proofs.Common.{arith}
 
 pub go_on-requires : goal.go_on-requires
 go_on-requires g c =
     let r = c.requires.stands in
     let w = goes_so (g.P.BoardPort.stands c.args.port.now r.0) c.args.self.now r.1 c.in-None.is r.2 r.3 r.4 in
-    (r.0, w.state, w.closed, w.journal, w.at, w.fits, w.between)
+    (omega arith, (r.0, w.state, w.closed, w.journal, w.at, w.fits, w.between))
 
 pub returns-in-None-clause-goes_on : goal.returns-in-None-clause-goes_on
 returns-in-None-clause-goes_on g c = λ rest e at f between.
@@ -17,11 +18,11 @@ returns-in-None-clause-goes_on g c = λ rest e at f between.
 pub returns-in-None-clause-few : goal.returns-in-None-clause-few
 returns-in-None-clause-few g c = λ state e f. few_going state c.args.self.now e c.in-None.is f
 
-pub work_on-requires-clause-stands : goal.work_on-requires-clause-stands
-work_on-requires-clause-stands g c =
+pub work_on-requires : goal.work_on-requires
+work_on-requires g c =
     let r = c.requires.stands in
     let w = resets_so (g.P.BoardPort.stands c.args.port.now r.0) c.args.self.now c.in-Some.work r.1 c.in-Some.is r.2 r.3 r.4 in
-    (r.0, w.state, w.closed, w.journal, w.work, w.at, w.fits, w.between)
+    (omega arith, ((r.0, w.state, w.closed, w.journal, w.work, w.at, w.fits, w.between), c.in-Some.is))
 
 pub returns-in-Some-clause-goes_on : goal.returns-in-Some-clause-goes_on
 returns-in-Some-clause-goes_on g c = λ rest e at f between.

@@ -1,4 +1,4 @@
-use Rattle.std.proofs.Common.{Some, refl, sym, ◌∙◌}
+use Rattle.std.proofs.Common.{◌-◌, arith, Some, refl, sym, ◌∙◌}
 use Rattle.board_epochs.specs.Epochs.{closed_log, last_line, log_behind, opening_behind}
 use Rattle.controller.proofs.Working.{work_between, still_works, epoch_begins}
 use Rattle.controller.proofs.controller.Controller.work_on.Goals as goal
@@ -7,16 +7,16 @@ pub begin_epoch-requires : goal.begin_epoch-requires
 begin_epoch-requires g c =
     let r = c.requires.stands in
     let b = work_between (g.P.BoardPort.stands c.args.port.now r.0) r.1 c.args.self.now c.args.work r.2 r.3 r.4 c.requires.works r.5 r.6 r.7 in
-    let n = c.turn-turn.ensures.goes_on r.0 r.1 r.2 r.3 r.4 b r.6.unworked in
-    let worked = (c.is_over.ensures (last_line (opening_behind r.1 r.2) r.3) (log_behind (closed_log r.2) r.3) n.0 n.1.working n.1.between).0 c.if-is_over.true in
-    record { worked = (r.1, r.2, r.3, n.0, n.1.epochs, worked, r.6.board, r.6.counts, n.1.working) }
+    let n = c.turn-turn.ensures.goes_on r.0 (g.row.N - 1) r.1 r.2 r.3 r.4 b r.6.unworked in
+    let worked = (c.is_over.ensures (last_line (opening_behind (g.row.N - 1) r.1 r.2) r.3) (log_behind (closed_log r.2) r.3) n.0 n.1.working n.1.between).0 c.if-is_over.true in
+    (omega arith, (r.1, r.2, r.3, n.0, n.1.epochs, worked, r.6.board, r.6.counts, n.1.working))
 
 pub returns-then-is_over-clause-goes_on : goal.returns-then-is_over-clause-goes_on
 returns-then-is_over-clause-goes_on g c = λ rest state es h w at f between.
     let was = c.args.self.now in
     let b = work_between (g.P.BoardPort.stands c.args.port.now rest) state was c.args.work es h w c.requires.works at f between in
-    let n = c.turn-turn.ensures.goes_on rest state es h w b f.unworked in
-    let worked = (c.is_over.ensures (last_line (opening_behind state es) h) (log_behind (closed_log es) h) n.0 n.1.working n.1.between).0 c.if-is_over.true in
+    let n = c.turn-turn.ensures.goes_on rest (g.row.N - 1) state es h w b f.unworked in
+    let worked = (c.is_over.ensures (last_line (opening_behind (g.row.N - 1) state es) h) (log_behind (closed_log es) h) n.0 n.1.working n.1.between).0 c.if-is_over.true in
     epoch_begins (g.P.BoardPort.stands c.turn-turn.new.port rest) c.turn-turn.result state was c.begin_epoch.new.self c.args.work c.turn-turn.new.self es h w n c.requires.works
     (c.begin_epoch.ensures.begins state es h n.0 n.1.epochs worked f.board f.counts n.1.working) worked
 
@@ -24,6 +24,6 @@ pub returns-else-is_over-clause-goes_on : goal.returns-else-is_over-clause-goes_
 returns-else-is_over-clause-goes_on g c = λ rest state es h w at f between.
     let was = c.args.self.now in
     let b = work_between (g.P.BoardPort.stands c.args.port.now rest) state was c.args.work es h w c.requires.works at f between in
-    let n = c.turn-turn.ensures.goes_on rest state es h w b f.unworked in
+    let n = c.turn-turn.ensures.goes_on rest (g.row.N - 1) state es h w b f.unworked in
     still_works (g.P.BoardPort.stands c.turn-turn.new.port rest) c.turn-turn.result state was (record was { reset = Some c.turn-turn.new.self }) c.args.work c.turn-turn.new.self es h w n f c.requires.works refl
-    (λ worked. absurd (let e = sym c.if-is_over.false ∙ (c.is_over.ensures (last_line (opening_behind state es) h) (log_behind (closed_log es) h) n.0 n.1.working n.1.between).1 worked in cc))
+    (λ worked. absurd (let e = sym c.if-is_over.false ∙ (c.is_over.ensures (last_line (opening_behind (g.row.N - 1) state es) h) (log_behind (closed_log es) h) n.0 n.1.working n.1.between).1 worked in cc))
