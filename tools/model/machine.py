@@ -2,6 +2,7 @@
 from dataclasses import dataclass
 from typing import NamedTuple
 
+from model.buffers import STANDARD
 from model.lines import AXES, LONGEST, SYSTEMS, WHOLE, Line, Refused, cut, has_cancel, has_hand, kept_of, read_number
 from model.motion import Limits, Script, nearest, to_nm, to_steps
 from model.reports import NOTHING, Course, Left, Work
@@ -69,20 +70,20 @@ class Machine:
     """Lines are answered in order, from a banner on; `console` has the lines of what is told, and the script what is asked of the
     motion."""
 
-    def __init__(self, most_events, told, cuts=()):
+    def __init__(self, most_events, told, cuts=(), buffers=STANDARD):
         self.modes = {"motion": "G0", "plane": "G17", "units": "G21", "distance": "G90", "system": "G54"}
         self.spindle, self.coolant, self.tool, self.feed, self.speed = "M5", "M9", 0, 0, 0
         self.offsets = {name: [0] * 3 for name in OFFSETS}
         self.position, self.position_steps = [0] * 3, [0] * 3
         self.settings = {n: default for n, (default, _, _) in SETTINGS.items()}
-        self.script, self.number, self.refused = Script(most_events), 0, 0
+        self.script, self.number, self.refused = Script(most_events, buffers.blocks), 0, 0
         self.console, self.told, self.is_locked = [*BANNER], told, False
         self.cuts, self.has_jogged = list(cuts), False  # the cuts that are to come
         self.was_cut = False  # the next line is begun behind a cut, or where jogs are done
         self.under_way = ""  # the machine may be found in this state: "Run" or "Jog", or in none, since all is done
         self.has_moved = False  # a line has moved the machine, and none that settles is answered since
         self.left, self.work = self.leave(), NOTHING
-        self.course = Course(self.left)
+        self.course = Course(self.left, buffers=buffers)
 
     def keep(self):
         """What a reset keeps, behind the last answered line."""
@@ -95,7 +96,7 @@ class Machine:
         self.position = [to_nm(steps, self.settings[100 + axis]) for axis, steps in enumerate(place)]
         self.console += [LOCKED] if self.is_locked else []
         self.left = self.leave()
-        self.course = Course(self.left, lines)
+        self.course = Course(self.left, lines, self.course.buffers)
 
     def answer_all(self, lines):
         """Answers lines, up to one that a soft limit stops."""
@@ -140,7 +141,7 @@ class Machine:
         """Begins a line that has no answer. Answers whether that may be."""
         told, refused, has_moved = len(self.console), self.refused, self.has_moved
         self.answer(line)
-        self.has_moved |= has_moved
+        self.has_moved |= has_moved or self.work.moves > 0  # also where it settles, since it is not answered
         self.refused = refused
         del self.console[told:]
         return not self.script.is_halted

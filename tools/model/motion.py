@@ -2,10 +2,10 @@
 from dataclasses import dataclass
 from math import isqrt
 
+from model.buffers import STANDARD
 from model.cuts import is_cut
 from model.lines import AXES
 
-MOST_BLOCKS = 15  # moves in the plan
 MOST_DROPPED = 6  # segments behind the last one that is recorded: on their way, and one that has no room
 SLOWEST = 16  # µm/s
 END = "E"  # the last line of the steps
@@ -102,8 +102,9 @@ class Script:
     """What the lines ask of the machine, in order: stretches of moves, each ended by a mark, which has a text, or by a rest,
     which has none. Of a stretch that a cut ends, not all may be done."""
 
-    def __init__(self, most_events):
+    def __init__(self, most_events, blocks=STANDARD.blocks):
         self.stretches, self.moves, self.room = [], [], most_events
+        self.blocks = blocks  # moves in the plan
         self.ticks = 0  # events and marks
         self.has_hand = False  # a realtime byte of the job changes how fast the machine goes
         self.is_reset = False  # a reset may break it off behind any piece
@@ -195,10 +196,10 @@ class Reading:
 
 class Stretch:
     """Moves that are run from rest to rest. How many of them were known at a segment is not told by the steps: at most
-    fifteen from the one that is run on, and none that was known is forgotten."""
+    as many as the plan holds, from the one that is run on, and none that was known is forgotten."""
 
-    def __init__(self, moves, is_reset=False, mark=None, is_halted=False):
-        self.moves, self.is_reset, self.is_halted = moves, is_reset, is_halted
+    def __init__(self, moves, is_reset=False, mark=None, is_halted=False, blocks=STANDARD.blocks):
+        self.moves, self.is_reset, self.is_halted, self.blocks = moves, is_reset, is_halted, blocks
         self.cut = mark if is_cut(mark) else None
         self.caps = [soft_cap(a, b) for a, b in zip(moves, moves[1:])]
         self.tail, self.known, self.speed = 0, 0, 0
@@ -208,7 +209,7 @@ class Stretch:
     def exits(self):
         """The squared speed at which the tail may end, for each number of moves that may be known: the greatest that the
         last of these still allows to stop at its end."""
-        tail, last = self.moves[self.tail], min(self.tail + MOST_BLOCKS, len(self.moves)) - 1
+        tail, last = self.moves[self.tail], min(self.tail + self.blocks, len(self.moves)) - 1
         first = way = tail.change * tail.left
         least = self.speed + first
         for at in range(self.tail, last + 1):
@@ -417,7 +418,7 @@ def stretch_of(script, moves, mark):
     is_halted = script.is_halted and mark == END
     has_hand = script.has_hand or (is_halted and script.is_reset)
     kind = HandStretch if has_hand else HaltedStretch if is_halted else Stretch
-    return kind(moves, script.is_reset, mark, is_halted)
+    return kind(moves, script.is_reset, mark, is_halted, script.blocks)
 
 
 def heads_of(script, steps):

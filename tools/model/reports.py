@@ -9,11 +9,10 @@ from functools import lru_cache
 from math import isqrt
 from typing import NamedTuple, Optional
 
+from model.buffers import STANDARD
 from model.cuts import EVENTS
 from model.lines import AXES, CANCEL, at_once, kept_of, realtime_of
-from model.motion import MOST_BLOCKS
 
-RECEIVE_ROOM = 128  # bytes of lines on the link
 CHANGES = "\x90\x91\x92\x93\x94\x95\x96\x97\x99\x9a\x9b\x9c\x9d"  # of the overrides
 UP_BY_TEN, DOWN_BY_TEN, UP_BY_ONE, DOWN_BY_ONE = range(1, 5)  # for feeds; for the spindle, as many behind its first
 TO_HALF, TO_QUARTER, OF_SPINDLE = 6, 7, 8
@@ -136,8 +135,8 @@ class Course:
     """The lines of an epoch, in rows: none of them, the first, the first two, and so on. Behind those that are answered comes
     one that is scanned alone, if only of no bytes. So many lines of the job stand before the epoch."""
 
-    def __init__(self, left, before=0):
-        self.rows, self.cuts, self.before = [Row(left)], [], before
+    def __init__(self, left, before=0, buffers=STANDARD):
+        self.rows, self.cuts, self.before, self.buffers = [Row(left)], [], before, buffers
         self.has_asked = False  # the first line has asked for a report before the epoch began, so that it waits for none
 
     def add(self, line, sent, left, ticks, work):
@@ -161,7 +160,7 @@ class Course:
 
     def reach(self, answers):
         """How many lines may be scanned: the host goes on to the first line that has no room behind it."""
-        room = self.rows[answers].sent + RECEIVE_ROOM
+        room = self.rows[answers].sent + self.buffers.room
         return min(bisect_right(self.rows, room, answers + 1, key=lambda row: row.sent), len(self.rows) - 1)
 
     def fault_in_cuts(self):
@@ -184,7 +183,7 @@ class Course:
     def scan_on(self, lines):
         """Adds what is scanned behind a line that a soft limit stops, which has no answer: the lines that have room on the link
         beside it, and one more, up to a byte that waits for an answer. None of them is begun. Answers what of each is scanned."""
-        parts, free = [], RECEIVE_ROOM - self.rows[-1].sent + self.rows[-2].sent
+        parts, free = [], self.buffers.room - self.rows[-1].sent + self.rows[-2].sent
         for line in lines:
             parts.append(at_once(line))
             free -= len(kept_of(line)) + 1
@@ -312,9 +311,9 @@ class Auditor:
             return
         blocks, count = report.room
         done = self.rows[bisect_right(self.rows, self.done, 0, answers + 2, key=lambda row: row.ticks) - 1]
-        if not 0 <= MOST_BLOCKS - blocks <= self.rows[answers + 1].moves - done.moves:
+        if not 0 <= self.course.buffers.blocks - blocks <= self.rows[answers + 1].moves - done.moves:
             raise Bad(f"has {blocks} free blocks")
-        if count > RECEIVE_ROOM or (count < RECEIVE_ROOM and is_first):
+        if count > self.course.buffers.room or (count < self.course.buffers.room and is_first):
             raise Bad(f"has {count} free bytes")
 
     def lefts_of(self, report, answers):
@@ -403,7 +402,7 @@ def fault_at_reset(course, way, answers, is_begun):
     room on the link. A `?` of the last line was raised only once each line before was answered. What was recorded
     is all that the lines ask for up to the last answered one that settles, and nothing behind the one that was begun."""
     rows, sent = course.rows, len(course.rows) - 2
-    if rows[sent].sent - rows[answers].sent > RECEIVE_ROOM:
+    if rows[sent].sent - rows[answers].sent > course.buffers.room:
         return f"{rows[sent].sent - rows[answers].sent} bytes of lines have no answer"
     if rows[-1].queries and answers < sent:
         return f"line {answers + 1} has no answer, and a `?` is scanned behind it"

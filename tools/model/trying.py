@@ -15,6 +15,8 @@ from dataclasses import dataclass
 from pathlib import Path
 
 from model.alike import alike_of, events_of
+from model.auditing import AUDIT, fault_in_audit
+from model.buffers import STANDARD, WIDE
 from model.epochs import LARGEST_JOB, parts_of, run_of
 from model.machine import Run
 from model.motion import TooLong, Wrong, heads_of
@@ -26,6 +28,7 @@ SECONDS = 10  # of processor time, on one thread
 ONE_THREAD = {"--lockstep", "--paced"}  # the words of such runs
 PACED_EVERY = 4  # each job of such a number by this is paced too
 COMPACT_IN = 4  # one job in so many is run with compact steps
+WIDE_IN = 4  # and one in so many with wide buffers
 THREAD_SECONDS = 120  # the same of four threads, which take it while they wait too
 STACK_KILOBYTES = 1024  # of each of the four threads
 KILOBYTES = 14 * 1024  # less than the largest job has, for the code, the stacks and all else
@@ -174,7 +177,8 @@ def what_is_unlike(told, first):
 class Tally:
     """What was tried: jobs, and the lines, heads, reports, cuts and resets of their runs; how many of the resets came before all was
     carried out; how many runs a soft limit ended, and in how many of these moves were dropped; how
-    many jobs were tried by more seeds, and how many were run with compact steps; and the jobs that are left out, since the model would take too long."""
+    many jobs were tried by more seeds, and how many were run with compact steps, and with wide buffers; how many runs were audited; and
+    the jobs that are left out, since the model would take too long."""
 
     jobs: int = 0
     lines: int = 0
@@ -187,6 +191,8 @@ class Tally:
     stopped: int = 0
     alike: int = 0
     compact: int = 0
+    wide: int = 0
+    audited: int = 0
     left_out: int = 0
 
     def add(self, other):
@@ -195,7 +201,8 @@ class Tally:
 
     def __str__(self):
         rest = f"; {self.left_out} are left out, since they have too many steps" if self.left_out else ""
-        return (f"{self.jobs} jobs, each as a stream and in lockstep, one in {PACED_EVERY} paced too, {self.compact} of them with compact steps, {self.alike} by {SEEDS} more seeds, in all "
+        rest = (f"; {self.audited} runs are audited" if self.audited else "; no run is audited, since no audit is built") + rest
+        return (f"{self.jobs} jobs, each as a stream and in lockstep, one in {PACED_EVERY} paced too, {self.compact} of them with compact steps, {self.wide} with wide buffers, {self.alike} by {SEEDS} more seeds, in all "
                 f"{self.lines} lines with {self.heads} heads and {self.reports} reports, {self.cuts} cuts of jogs, {self.resets} "
                 f"resets, {self.broken_off} of them before all was done, and {self.alarms} runs that a soft limit ended, {self.stopped} of them before all was done{rest}")
 
@@ -229,23 +236,29 @@ class Trial:
         is_piped = len(job) < LARGEST_JOB // 2 and chance.random() < 0.5
         first = start_on_pipe if is_piped else start_on_file
         is_compact = chance.randrange(COMPACT_IN) == 0
+        is_wide = chance.randrange(WIDE_IN) == 0
         tally.compact += int(is_compact)
+        tally.wide += int(is_wide)
+        (folder / "job").write_bytes(job)  # for the audit, also where the program gets a pipe
         tries = [(first, ["stream"]), (start_on_file, ["stream", *lockstep])]
         if number % PACED_EVERY == 0:
             tries.append((first, ["stream", "--paced"]))
-        if is_compact:
-            tries = [(start_it, chance.choice((["stream", "--compact", *words[1:]], [*words, "--compact"]))) for start_it, words in tries]
+        for option, is_given in (("--compact", is_compact), ("--wide", is_wide)):
+            if is_given:
+                tries = [(start_it, chance.choice((["stream", option, *words[1:]], [*words, option]))) for start_it, words in tries]
         for start_it, words in tries:
             told = run_program(start_it, words, job, folder)
             if isinstance(told, str):
                 return Failure(number, job, f"{' '.join(words)}: {told}")
             try:
-                right, epochs = run_of(job, self.most_events, told.console, told.steps, told.status)
+                right, epochs = run_of(job, self.most_events, told.console, told.steps, told.status, WIDE if is_wide else STANDARD)
             except TooLong:
                 tally.left_out += 1
                 return None
             wrong, tried = what_is_wrong(told, right, epochs)
+            wrong = wrong or fault_in_audit(folder, job, told.steps, epochs)
             tally.add(tried)
+            tally.audited += AUDIT.exists()
             if wrong:
                 return Failure(number, job, f"{' '.join(words)}: {wrong}")
         return self.try_seeds(number, job, chance, folder, tally) if number % SEEDS_EVERY == SEEDS_AT else None

@@ -1,6 +1,6 @@
 //! A host over a board that is a plain list.
 
-use crate::list_board::Line;
+use crate::list_board::{Line, RoomyLine};
 use outside::{MemSink, MemSource, On, OutOfMemory, Turn};
 use std::alloc::Global;
 use std::process::Abort;
@@ -458,6 +458,14 @@ fn many(alloc: Global, text: &str, count: u32) -> Result<Vec<u8>, OutOfMemory> {
     Ok(lines)
 }
 
+/// The same where the link has room for 255 bytes.
+const UNANSWERED_WIDE: &[(&str, u32, usize)] = &[
+    ("G1X1.000F10\n", 40, 252),
+    ("\n", 300, 255),
+    ("G1X1Y1\n", 40, 252),
+    ("G1X1\n", 60, 255),
+];
+
 /// The banner is told, and no line is answered: the host waits once as many bytes as may stand on the link are stored, and
 /// what was told is on the console by then.
 #[test]
@@ -469,6 +477,19 @@ fn bytes_without_an_answer_are_counted(rt: HostRuntime) -> Result<(), Fail> {
         assert_eq!(rt; line.turn(), WAITS, "{text}");
         assert_eq!(rt; line.taken().len(), *taken, "{text}");
         assert!(rt; line.console.held() == BANNER.as_bytes(), "{text}");
+    }
+    Ok(())
+}
+
+/// Where the link has room for 255 bytes, the host counts to these.
+#[test]
+fn wide_link_is_filled(rt: HostRuntime) -> Result<(), Fail> {
+    for (text, count, taken) in UNANSWERED_WIDE {
+        let lines = many(rt.alloc(), text, *count)?;
+        let mut line = RoomyLine::<255>::new(rt.alloc(), lines.as_slice(), 4096, NEVER)?;
+        assert_eq!(rt; line.run(WAITS, 2000), WAITS, "{text}");
+        assert_eq!(rt; line.turn(), WAITS, "{text}");
+        assert_eq!(rt; line.taken().len(), *taken, "{text}");
     }
     Ok(())
 }

@@ -7,7 +7,7 @@ use serial_ring::{BoardEnd, ByteIn, HostEnd, Stored, join_link, link};
 use status_report::Reply;
 use std::process::Abort;
 use std::sync::Wait;
-use std::thread::{self, join};
+use std::thread::{self, Threads, join};
 
 #[test]
 fn last_byte_comes_before_closed(rt: HostRuntime) {
@@ -46,9 +46,12 @@ fn room_for_128_bytes_and_16_replies(rt: HostRuntime) {
 fn wide_link_has_room_for_255_bytes(rt: HostRuntime) {
     let (host, mut board) = link::<255>(rt.alloc()).expect(&rt, "memory");
     assert_eq!(rt; board.free(), 255);
-    let (_host, stored) = fill(&rt, host);
+    let (mut host, stored) = fill(&rt, host);
     assert_eq!(rt; stored, 255);
     assert_eq!(rt; board.free(), 0);
+    assert_eq!(rt; board.byte(), ByteIn::Byte(0));
+    assert_eq!(rt; board.free(), 1);
+    assert_eq!(rt; host.store(b'X'), Stored::Stored);
 }
 
 /// Makes a link where memory suffices.
@@ -175,7 +178,7 @@ fn poll(polls: u32) -> u32 {
 }
 
 /// Stores a million bytes, and closes.
-fn store_all<R: Wait>(rt: &R, mut host: HostEnd<128>) -> HostEnd<128>
+fn store_all<R: Wait, const RX: usize>(rt: &R, mut host: HostEnd<RX>) -> HostEnd<RX>
     requires { (closed_by host ≡ false) × (stored_by host ≡ []) }
 {
     let mut stored = 0_u32;
@@ -194,7 +197,7 @@ fn store_all<R: Wait>(rt: &R, mut host: HostEnd<128>) -> HostEnd<128>
 }
 
 /// Takes bytes until the link is closed, and counts those that came in their order.
-fn take_all<R: Wait>(rt: &R, mut board: BoardEnd<128>) -> (BoardEnd<128>, u32) {
+fn take_all<R: Wait, const RX: usize>(rt: &R, mut board: BoardEnd<RX>) -> (BoardEnd<RX>, u32) {
     let mut taken = 0_u32;
     let mut polls = 0_u32;
     for _ in rt.forever() {
@@ -208,17 +211,34 @@ fn take_all<R: Wait>(rt: &R, mut board: BoardEnd<128>) -> (BoardEnd<128>, u32) {
     (board, taken)
 }
 
+/// Sends a million bytes from one thread to another, and counts those that came in their order.
+fn send_all<R: Threads + Wait + Sync, const RX: usize>(
+    rt: &R,
+    host: HostEnd<RX>,
+    board: BoardEnd<RX>,
+) -> u32
+    requires { (closed_by host ≡ false) × (stored_by host ≡ []) }
+{
+    let (_host, (_board, taken)) = join(
+        rt,
+        || -> HostEnd<RX>
+            requires { (closed_by host ≡ false) × (stored_by host ≡ []) }
+        { store_all(rt, host) },
+        || take_all(rt, board),
+    );
+    taken
+}
+
 #[test]
 fn million_bytes_in_two_threads(rt: HostRuntime) {
     let (host, board) = link::<128>(rt.alloc()).expect(&rt, "memory");
-    let (_host, (_board, taken)) = join(
-        &rt,
-        || -> HostEnd<128>
-            requires { (closed_by host ≡ false) × (stored_by host ≡ []) }
-        { store_all(&rt, host) },
-        || take_all(&rt, board),
-    );
-    assert_eq!(rt; taken, 1_000_000);
+    assert_eq!(rt; send_all(&rt, host, board), 1_000_000);
+}
+
+#[test]
+fn million_bytes_over_a_wide_link(rt: HostRuntime) {
+    let (host, board) = link::<255>(rt.alloc()).expect(&rt, "memory");
+    assert_eq!(rt; send_all(&rt, host, board), 1_000_000);
 }
 
 /// Answers a million times by an alarm.

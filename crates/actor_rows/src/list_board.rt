@@ -6,7 +6,7 @@ use code_table::realtime_rows;
 use outside::{MemSink, MemSource, OutOfMemory, Sink, Turn};
 use overrides::Overrides;
 use realtime_flags::Raised;
-use serial_ring::Stored;
+use serial_ring::{RECEIVE_ROOM, Stored};
 use status_report::{Message, Reply, Report, State};
 use std::alloc::Global;
 use std::marker::Model;
@@ -18,7 +18,7 @@ use units::Nm3;
 /// alarm: no line from there on has an answer. At a reset it says Bye, or drops the lines that have no answer and tells the
 /// banner again. So many polls find no reply before each reply.
 #[derive(Drop)]
-pub(crate) struct Board<'a> {
+pub(crate) struct Board<'a, const ROOM: usize> {
     taken: MemSink<'a>,
     /// Among what is taken stand a `<` for each report, a `=` for each answer, a `#` for an alarm and a `&` for the banner of a
     /// reset, at the place where they are told, and a `|` for each mark.
@@ -47,7 +47,7 @@ pub(crate) struct Board<'a> {
     over: bool,
 }
 
-impl Board<'_> {
+impl<const ROOM: usize> Board<'_, ROOM> {
     ghost use Rattle.std.specs.Prelude.{◌≡◌, true, false};
     ghost use Rattle.status_report.specs.Replies.{IsReply};
     ghost use Rattle.status_report.specs.Answering.{is_answer, is_banner};
@@ -97,10 +97,12 @@ impl Board<'_> {
     }
 }
 
-impl HostPort for Board<'_> {
+impl<const ROOM: usize> HostPort for Board<'_, ROOM> {
     ghost use Rattle.actor_rows.specs.Boards.{HasTold};
 
     ghost Rest = { Unit {0} };
+
+    ghost room = { ROOM };
 
     /// No more lines are owed an answer than were stored behind the mark of the last banner and have none, and each banner but
     /// the first is of a mark that is stored behind that of the one before.
@@ -190,16 +192,16 @@ impl HostPort for Board<'_> {
     }
 }
 
-/// A host between two turns, with its board, its job and its console.
+/// A host between two turns, with its board, its job and its console. The link has room for so many bytes.
 #[derive(Drop)]
-pub(crate) struct Line<'a> {
+pub(crate) struct RoomyLine<'a, const ROOM: usize> {
     pub(crate) host: Host,
-    pub(crate) board: Board<'a>,
+    pub(crate) board: Board<'a, ROOM>,
     pub(crate) job: MemSource<'a>,
     pub(crate) console: MemSink<'a>,
 }
 
-impl<'a> Model for Line<'a> {
+impl<'a, const ROOM: usize> Model for RoomyLine<'a, ROOM> {
     ghost use Rattle.stream_host.specs.Steps.{Journal, port_log};
     ghost use Rattle.actor_rows.specs.Boards.{HasTold};
     ghost use Rattle.stream_host.specs.Hosts.{HostFits, IsBetween};
@@ -208,10 +210,15 @@ impl<'a> Model for Line<'a> {
 
     ghost view = { λ _. tt };
 
-    ghost invariant = { λ l. (h : Journal) × HasTold l.board.owed l.board.told l.board.marks l.board.greeted (port_log h) × HostFits l.host h × IsBetween h };
+    ghost invariant = { λ l. (h : Journal) × HasTold l.board.owed l.board.told l.board.marks l.board.greeted (port_log h) × HostFits ROOM l.host h × IsBetween h };
 }
 
-impl<'a> Line<'a> {
+/// One whose link has the standard room.
+pub(crate) type Line<'a> = RoomyLine<'a, RECEIVE_ROOM>;
+
+impl<'a, const ROOM: usize> RoomyLine<'a, ROOM> {
+    ghost use Rattle.serial_ring.specs.Lists.{IsRoom};
+
     /// A new host with a job, of which so many bytes are read at once, and a board that finds so many polls before each
     /// reply but the banner. It accepts each line, and marks nothing.
     pub(crate) fn new(
@@ -219,11 +226,13 @@ impl<'a> Line<'a> {
         job: &'a [u8],
         piece: usize,
         pause: u32,
-    ) -> Result<Line<'a>, OutOfMemory> {
+    ) -> Result<RoomyLine<'a, ROOM>, OutOfMemory>
+        requires { IsRoom ROOM }
+    {
         let taken = MemSink::new(alloc, 400, &[])?;
         let console = MemSink::new(alloc, 1000, &[])?;
         let job = MemSource::new(job, piece.max(1), &[]);
-        Ok(Line::over(taken, job, console, pause))
+        Ok(RoomyLine::over(taken, job, console, pause))
     }
 
     /// One with this job and this console.
@@ -232,9 +241,11 @@ impl<'a> Line<'a> {
         job: MemSource<'a>,
         console: MemSink<'a>,
         pause: u32,
-    ) -> Line<'a> {
-        Line {
-            host: Host::new(),
+    ) -> RoomyLine<'a, ROOM>
+        requires { IsRoom ROOM }
+    {
+        RoomyLine {
+            host: Host::new(ROOM as u8),
             board: Board {
                 taken,
                 marked: false,

@@ -24,18 +24,18 @@ use Rattle.list_ports.specs.Joining.{Listed, Joined}
 use Rattle.actor_turns.specs.Worlds.{Seen, History, Holds, HasHistory, Devices, devices, Adds, TurnsOn}
 
 -- what the actors tell of the devices, whatever the moment since
-pub record TellsOn (before after : Devices) (w w' : Seen) (hist next : History) : Type 0 where
+pub record TellsOn {N : ℕ} (before after : Devices) (w w' : Seen N) (hist next : History) : Type 0 where
   pub host : HostTellsOn w.host w'.host hist.host next.host before.job after.job before.console after.console
   pub recorder : RecorderFitsOn w.recorder w'.recorder hist.takes next.takes before.steps after.steps
 
 -- whatever was done, there is what was done after
-pub record Moves (actor : Actor) (t : Turn) (before after : Devices) (w w' : Seen) : Type 0 where
+pub record Moves {N : ℕ} (actor : Actor) (t : Turn) (before after : Devices) (w w' : Seen N) : Type 0 where
   pub on : (hist : History) → Holds w hist → (next : History) × Holds w' next × TellsOn before after w w' hist next × Adds actor t w w' hist next
 
-pub holds_on : (actor : Actor) (t : Turn) (before after : Devices) (w w' : Seen) → Moves actor t before after w w' → HasHistory w → HasHistory w'
+pub holds_on : {N : ℕ} (actor : Actor) (t : Turn) (before after : Devices) (w w' : Seen N) → Moves actor t before after w w' → HasHistory w → HasHistory w'
 holds_on actor t before after w w' m has = let n = m.on has.0 has.1 in (n.0, n.1)
 
-pub turns_on : (actor : Actor) (t : Turn) (before after : Devices) (w w' : Seen) → Moves actor t before after w w' → TurnsOn actor t before after w w'
+pub turns_on : {N : ℕ} (actor : Actor) (t : Turn) (before after : Devices) (w w' : Seen N) → Moves actor t before after w w' → TurnsOn actor t before after w w'
 turns_on actor t before after w w' m = record {
   on = λ form was hist st. let n = m.on hist st.holds in (
     n.0,
@@ -49,9 +49,9 @@ turns_on actor t before after w w' m = record {
   );
 }
 
-pub host_moves : (w : Seen) (host' : Host) (lists' : Listed) (t : Turn) (job job' : SourceState) (console console' steps : SinkState)
-    → ((far : BoardLog × PieceLog) (h : HostJournal) → Joined w.lists (host_log h) far.0 far.1 → HostFits w.host h → IsBetweenOfHost h
-    → (next : HostJournal) × Joined lists' (host_log next) far.0 far.1 × HostFits host' next × IsBetweenOfHost next × HostTurned t w.host host' h next × HostTellsOn w.host host' h next job job' console console')
+pub host_moves : {N : ℕ} (w : Seen N) (host' : Host) (lists' : Listed) (t : Turn) (job job' : SourceState) (console console' steps : SinkState)
+    → ((far : BoardLog × PieceLog) (h : HostJournal) → Joined w.lists (host_log h) far.0 far.1 → HostFits w.room w.host h → IsBetweenOfHost h
+    → (next : HostJournal) × Joined lists' (host_log next) far.0 far.1 × HostFits w.room host' next × IsBetweenOfHost next × HostTurned t w.host host' h next × HostTellsOn w.host host' h next job job' console console')
     → Moves actors.Host t (devices job console steps) (devices job' console' steps) w (record w { host = host'; lists = lists' })
 host_moves w host' lists' t job job' console console' steps turns = record {
   on = λ hist h. let n = turns (board_log hist.board, hist.pulse) hist.host h.joined h.host h.host_between in (
@@ -62,7 +62,7 @@ host_moves w host' lists' t job job' console console' steps turns = record {
   );
 }
 
-pub board_moves : (w : Seen) (board' : Controller) (lists' : Listed) (t : Turn) (now : Devices)
+pub board_moves : {N : ℕ} (w : Seen N) (board' : Controller N) (lists' : Listed) (t : Turn) (now : Devices)
     → ((far : HostLog × PieceLog) (h : Epochs) → Joined w.lists far.0 (board_log h) far.1 → BoardFits w.board h → IsBetweenOfBoard h
     → (next : Epochs) × Joined lists' far.0 (board_log next) far.1 × BoardFits board' next × IsBetweenOfBoard next × BoardTurned t w.board board' h next)
     → Moves actors.Board t now now w (record w { board = board'; lists = lists' })
@@ -75,7 +75,7 @@ board_moves w board' lists' t now turns = record {
   );
 }
 
-pub pulse_moves : (w : Seen) (pulse' : Pulsing) (lists' : Listed) (waiting' : List Record) (t : Turn) (now : Devices)
+pub pulse_moves : {N : ℕ} (w : Seen N) (pulse' : Pulsing) (lists' : Listed) (waiting' : List Record) (t : Turn) (now : Devices)
     → ((far : HostLog × BoardLog) (back : Log) (h : PieceLog) (k : RecordLog) → Joined w.lists far.0 far.1 h → HandsOn w.waiting k back → PulseFits w.pulse h k
     → (h' : PieceLog) × (k' : RecordLog) × Joined lists' far.0 far.1 h' × HandsOn waiting' k' back × PulseFits pulse' h' k' × PulseTurned t h k h' k')
     → Moves actors.Pulse t now now w (record w { pulse = pulse'; lists = lists'; waiting = waiting' })
@@ -88,7 +88,7 @@ pulse_moves w pulse' lists' waiting' t now turns = record {
   );
 }
 
-pub recorder_moves : (w : Seen) (recorder' : Recording) (waiting' : List Record) (t : Turn) (job : SourceState) (console steps steps' : SinkState)
+pub recorder_moves : {N : ℕ} (w : Seen N) (recorder' : Recording) (waiting' : List Record) (t : Turn) (job : SourceState) (console steps steps' : SinkState)
     → ((far : RecordLog) (log : Log) → HandsOn w.waiting far log
     → (next : Log) × HandsOn waiting' far next × RecorderFitsOn w.recorder recorder' log next steps steps' × RecorderTurned t w.recorder recorder' log next)
     → Moves actors.Record t (devices job console steps) (devices job console steps') w (record w { recorder = recorder'; waiting = waiting' })

@@ -1,5 +1,5 @@
 -- Actors that have answered Done.
-use Rattle.std.proofs.Common.{◌≡◌, ◌≢◌, ◌↔◌, false, refl, sym, subst}
+use Rattle.std.proofs.Common.{◌≡◌, ◌≢◌, ◌↔◌, false, refl, sym, subst, ℕ}
 use Rattle.outside.specs.declared.Turn.{Turn}
 use Rattle.outside.specs.declared.Turn.TheVariants.{Did, Done, Wait}
 use Rattle.outside.specs.declared.Actor.{Actor}
@@ -9,7 +9,7 @@ use Rattle.actor_turns.specs.Worlds.{Seen, ActsAlone, IsDone}
 use Rattle.actor_turns.specs.Lockstep.{with_end, AreEnded}
 
 -- an actor that is done stays so, whoever takes a turn
-stays_done : (actor other : Actor) (w w' : Seen) → ActsAlone actor w w' → (IsDone actor w → w' ≡ w) → IsDone other w → IsDone other w'
+stays_done : {N : ℕ} (actor other : Actor) (w w' : Seen N) → ActsAlone actor w w' → (IsDone actor w → w' ≡ w) → IsDone other w → IsDone other w'
 stays_done actors.Host actors.Host w w' alone still d = subst (IsDone actors.Host) (sym (still d)) d
 stays_done actors.Host actors.Board w w' alone still d = subst (IsDone actors.Board) (sym alone) d
 stays_done actors.Host actors.Pulse w w' alone still d = subst (IsDone actors.Pulse) (sym alone) d
@@ -27,7 +27,7 @@ stays_done actors.Record actors.Board w w' alone still d = subst (IsDone actors.
 stays_done actors.Record actors.Pulse w w' alone still d = subst (IsDone actors.Pulse) (sym alone) d
 stays_done actors.Record actors.Record w w' alone still d = subst (IsDone actors.Record) (sym (still d)) d
 
-pub stay_ended : (actor : Actor) (e : Ended) (w w' : Seen) → ActsAlone actor w w' → (IsDone actor w → w' ≡ w) → AreEnded e w → AreEnded e w'
+pub stay_ended : {N : ℕ} (actor : Actor) (e : Ended) (w w' : Seen N) → ActsAlone actor w w' → (IsDone actor w → w' ≡ w) → AreEnded e w → AreEnded e w'
 stay_ended actor e w w' alone still ended = record {
   host = λ yes. stays_done actor actors.Host w w' alone still (ended.host yes);
   board = λ yes. stays_done actor actors.Board w w' alone still (ended.board yes);
@@ -36,11 +36,11 @@ stay_ended actor e w w' alone still ended = record {
 }
 
 -- no actor has answered Done
-pub none_ended : (w : Seen) → AreEnded (record { host = false; board = false; pulse = false; recorder = false }) w
+pub none_ended : {N : ℕ} (w : Seen N) → AreEnded (record { host = false; board = false; pulse = false; recorder = false }) w
 none_ended w = record { host = λ yes. absurd cc; board = λ yes. absurd cc; pulse = λ yes. absurd cc; recorder = λ yes. absurd cc }
 
 -- one more has
-pub ends_too : (actor : Actor) (e next : Ended) (w w' : Seen) → next ≡ with_end actor e → IsDone actor w → ActsAlone actor w w' → (IsDone actor w → w' ≡ w) → AreEnded e w → AreEnded next w'
+pub ends_too : {N : ℕ} (actor : Actor) (e next : Ended) (w w' : Seen N) → next ≡ with_end actor e → IsDone actor w → ActsAlone actor w w' → (IsDone actor w → w' ≡ w) → AreEnded e w → AreEnded next w'
 ends_too actor e next w w' is done alone still ended =
     subst (λ (n : Ended). AreEnded n w') (sym is) (added actor (stays_done actor actor w w' alone still done) (stay_ended actor e w w' alone still ended))
   where
@@ -51,7 +51,7 @@ ends_too actor e next w w' is done alone still ended =
     added actors.Record done all = record { host = all.host; board = all.board; pulse = all.pulse; recorder = λ yes. done }
 
 -- an actor has answered, Done where it is done
-pub learned : (actor : Actor) (t : Turn) (e next : Ended) (w w' : Seen) → (t ≡ Done → next ≡ with_end actor e) → (t ≢ Done → next ≡ e) → ((t ≡ Done) ↔ IsDone actor w) → ActsAlone actor w w' → (IsDone actor w → w' ≡ w)
+pub learned : {N : ℕ} (actor : Actor) (t : Turn) (e next : Ended) (w w' : Seen N) → (t ≡ Done → next ≡ with_end actor e) → (t ≢ Done → next ≡ e) → ((t ≡ Done) ↔ IsDone actor w) → ActsAlone actor w w' → (IsDone actor w → w' ≡ w)
     → AreEnded e w → AreEnded next w'
 learned actor Done e next w w' ends same done alone still was = ends_too actor e next w w' (ends refl) (done.0 refl) alone still was
 learned actor Did e next w w' ends same done alone still was = subst (λ (n : Ended). AreEnded n w') (sym (same (λ is. cc))) (stay_ended actor e w w' alone still was)

@@ -1,5 +1,5 @@
 -- Paced turns, one after the other, and what is known where the motion goes on.
-use Rattle.std.proofs.Common.{◌≡◌, ◌≢◌, ◌↔◌, ◌⊎◌, ◌++◌, ◌∙◌, suc, Bool, true, false, cond, nat_lt, List, [], ◌∷◌, inl, inr, refl, sym, ap, subst}
+use Rattle.std.proofs.Common.{◌≡◌, ◌≢◌, ◌↔◌, ◌⊎◌, ◌++◌, ◌∙◌, suc, Bool, true, false, cond, nat_lt, List, [], ◌∷◌, inl, inr, refl, sym, ap, subst, ℕ}
 use Rattle.outside.specs.declared.Actor.{Actor}
 use Rattle.outside.specs.declared.Actor.TheVariants as actors
 use Rattle.outside.specs.declared.Turn.{Turn}
@@ -17,21 +17,21 @@ use Rattle.actor_turns.specs.Pacing.{first_pace, to_motion, to_host, after_turn,
 
 -- ---- one turn more
 
-paced_one_more : (schedule : List Actor) (actor : Actor) (t : Turn) (between : Bool) (p q : Pace) (w mid w' : Seen) (hist done next : History) → PacedTurns schedule p q w mid hist done
+paced_one_more : {N : ℕ} (schedule : List Actor) (actor : Actor) (t : Turn) (between : Bool) (p q : Pace) (w mid w' : Seen N) (hist done next : History) → PacedTurns schedule p q w mid hist done
     → actor ≡ q.next → Adds actor t mid w' done next → Holds w' next → ((between ≡ true) ↔ AwaitsPiece w'.pulse)
     → PacedTurns (schedule ++ actor ∷ []) p (pace_after t between q) w w' hist next
-paced_one_more [] actor t between p q w mid w' hist done next same is adds holds awaits = (
+paced_one_more {N} [] actor t between p q w mid w' hist done next same is adds holds awaits = (
   t,
   between,
   w',
   next,
   is ∙ ap (λ (r : Pace). r.next) same.0,
-  subst (λ (v : Seen). Adds actor t v w' hist next) same.1 (subst (λ (h : History). Adds actor t mid w' h next) same.2 adds),
+  subst (λ (v : Seen N). Adds actor t v w' hist next) same.1 (subst (λ (h : History). Adds actor t mid w' h next) same.2 adds),
   holds,
   awaits,
   (ap (pace_after t between) same.0, refl, refl),
 )
-paced_one_more (a ∷ schedule) actor t between p q w mid w' hist done next turns is adds holds awaits = (
+paced_one_more {N} (a ∷ schedule) actor t between p q w mid w' hist done next turns is adds holds awaits = (
   turns.0,
   turns.1,
   turns.2,
@@ -44,11 +44,11 @@ paced_one_more (a ∷ schedule) actor t between p q w mid w' hist done next turn
 )
 
 -- no turn
-pub paced_nothing : (now : Devices) (w : Seen) → IsPaced first_pace now now w w
+pub paced_nothing : {N : ℕ} (now : Devices) (w : Seen N) → IsPaced first_pace now now w w
 paced_nothing now w = record { schedule = []; on = λ form was hist st. (hist, st, (refl, refl, refl)) }
 
 -- the turn of the actor that is next
-pub paced_more : (p next_pace : Pace) (t : Turn) (between : Bool) (before now after : Devices) (w mid w' : Seen) → IsPaced p before now w mid → TurnsOn p.next t now after mid w'
+pub paced_more : {N : ℕ} (p next_pace : Pace) (t : Turn) (between : Bool) (before now after : Devices) (w mid w' : Seen N) → IsPaced p before now w mid → TurnsOn p.next t now after mid w'
     → ((between ≡ true) ↔ AwaitsPiece w'.pulse) → next_pace ≡ pace_after t between p → IsPaced next_pace before after w w'
 paced_more p next_pace t between before now after w mid w' so turns awaits is = record {
   schedule = so.schedule ++ p.next ∷ [];
@@ -61,12 +61,12 @@ paced_more p next_pace t between before now after w mid w' so turns awaits is = 
 
 -- ---- they are turns as any others
 
-are_turns : (schedule : List Actor) (p q : Pace) (w w' : Seen) (hist next : History) → PacedTurns schedule p q w w' hist next → Turns schedule w w' hist next
+are_turns : {N : ℕ} (schedule : List Actor) (p q : Pace) (w w' : Seen N) (hist next : History) → PacedTurns schedule p q w w' hist next → Turns schedule w w' hist next
 are_turns [] p q w w' hist next same = (same.1, same.2)
 are_turns (actor ∷ schedule) p q w w' hist next turns =
     (turns.0, turns.2, turns.3, turns.5, are_turns schedule (pace_after turns.0 turns.1 p) q turns.2 w' turns.3 next turns.8)
 
-pub paced_has_run : (before after : Devices) (w w' : Seen) → RunsPaced before after w w' → HasRunOn before after w w'
+pub paced_has_run : {N : ℕ} (before after : Devices) (w w' : Seen N) → RunsPaced before after w w' → HasRunOn before after w w'
 paced_has_run before after w w' runs =
     let paced = runs.paced in
     record {
@@ -97,7 +97,7 @@ said_parted : (t : Turn) (steps : List Step) (e : Epochs) → BoardSaid t (parte
 said_parted t steps (goes es h) = (steps ++ h, refl)
 said_parted t steps (resets es h w) = (steps ++ w, refl)
 
-board_said : (t : Turn) (was is : Controller) (e next : Epochs) → BoardTurned t was is e next → BoardSaid t next
+board_said : {N : ℕ} (t : Turn) (was is : Controller N) (e next : Epochs) → BoardTurned t was is e next → BoardSaid t next
 board_said t was is e next turned = by_end turned.are
   where
     by_end : (next ≡ added t turned.steps e) ⊎ (next ≡ parted (added t turned.steps e)) → BoardSaid t next
@@ -108,7 +108,7 @@ board_said t was is e next turned = by_end turned.are
 still_found : (hist done : History) → done.host ≡ hist.host → done.board ≡ hist.board → FoundNothing hist → FoundNothing done
 still_found hist done host board found = record { board = rw board found.board; host = rw (host, board) found.host }
 
-module _ (p : Pace) (between : Bool) (w mid : Seen) (hist done : History) where
+module _ {N : ℕ} (p : Pace) (between : Bool) (w mid : Seen N) (hist done : History) where
   -- the host's turn
   host_idles : (t : Turn) → t ≢ Did → actors.Host ≡ p.next → BoardIdles hist.board → Adds actors.Host t w mid hist done
       → Knows (cond p.worked (record p { next = actors.Board }) (to_motion p)).next done
@@ -184,12 +184,12 @@ module _ (p : Pace) (between : Bool) (w mid : Seen) (hist done : History) where
   pub knows_after : (t : Turn) → Knows p.next hist → Adds p.next t w mid hist done → Knows (pace_after t between p).next done
   knows_after t known adds = knows_next t p.next refl known adds
 
-knows_on : (schedule : List Actor) (p q : Pace) (w w' : Seen) (hist next : History) → Knows p.next hist → PacedTurns schedule p q w w' hist next → Knows q.next next
+knows_on : {N : ℕ} (schedule : List Actor) (p q : Pace) (w w' : Seen N) (hist next : History) → Knows p.next hist → PacedTurns schedule p q w w' hist next → Knows q.next next
 knows_on [] p q w w' hist next known same =
     subst (λ (r : Pace). Knows r.next next) (sym same.0) (subst (λ (h : History). Knows p.next h) (sym same.2) known)
 knows_on (actor ∷ schedule) p q w w' hist next known turns =
     let adds = subst (λ (a : Actor). Adds a turns.0 w turns.2 hist turns.3) turns.4 turns.5 in
     knows_on schedule (pace_after turns.0 turns.1 p) q turns.2 w' turns.3 next (knows_after p turns.1 w turns.2 hist turns.3 turns.0 known adds) turns.8
 
-pub motion_waits : (schedule : List Actor) (pace : Pace) (w w' : Seen) (hist next : History) → PacedTurns schedule first_pace pace w w' hist next → pace.next ≡ actors.Pulse → FoundNothing next
+pub motion_waits : {N : ℕ} (schedule : List Actor) (pace : Pace) (w w' : Seen N) (hist next : History) → PacedTurns schedule first_pace pace w w' hist next → pace.next ≡ actors.Pulse → FoundNothing next
 motion_waits schedule pace w w' hist next turns is = subst (λ (a : Actor). Knows a next) is (knows_on schedule first_pace pace w w' hist next tt turns)

@@ -37,16 +37,16 @@ joined_none l host board h j = record {
 pulse_fits : (p : Pulsing) (h : PieceLog) (k : RecordLog) → PulseFits p h k → PulseFits p (none ∷ (asked false ∷ h)) k
 pulse_fits p h k f = record { turns = f.turns; records = f.records; waits = f.waits; ticks = f.ticks; left = f.left; reach = f.reach; end = f.end; last = f.last }
 
-pulse_rests : (w : Seen) (now : Devices) → TurnsOn actors.Pulse (Wait on.Piece) now now w w
+pulse_rests : {N : ℕ} (w : Seen N) (now : Devices) → TurnsOn actors.Pulse (Wait on.Piece) now now w w
 pulse_rests w now = turns_on _ _ _ _ _ _ (pulse_moves w w.pulse w.lists w.waiting (Wait on.Piece) now (λ far back h k joined passed fits.
     (none ∷ (asked false ∷ h), k, joined_none _ _ _ _ joined, passed, pulse_fits _ _ _ fits, (refl, refl))))
 
-recorder_rests : (w : Seen) (now : Devices) → MotionRests w → TurnsOn actors.Record (Wait on.Records) now now w w
+recorder_rests : {N : ℕ} (w : Seen N) (now : Devices) → MotionRests w → TurnsOn actors.Record (Wait on.Records) now now w w
 recorder_rests w now r = turns_on _ _ _ _ _ _ (recorder_moves w w.recorder w.waiting (Wait on.Records) now.job now.console now.steps now.steps (λ far log passed.
     (no_record ∷ log, passed, fits_none _ _ _, (refl, r.recorder, refl))))
 
 -- a turn of the host or of the board that leaves no stop and no piece
-pub rests_on : (actor : Actor) (w w' : Seen) → number_of actor < 2 → ActsAlone actor w w' → OffersNothing w' → MotionRests w → MotionRests w'
+pub rests_on : {N : ℕ} (actor : Actor) (w w' : Seen N) → number_of actor < 2 → ActsAlone actor w w' → OffersNothing w' → MotionRests w → MotionRests w'
 rests_on actors.Host w w' low alone empty r = record { nothing = empty; no_record = rw alone r.no_record; pulse = rw alone r.pulse; recorder = rw alone r.recorder }
 rests_on actors.Board w w' low alone empty r = record { nothing = empty; no_record = rw alone r.no_record; pulse = rw alone r.pulse; recorder = rw alone r.recorder }
 rests_on actors.Pulse w w' low alone empty r = absurd (omega (arith, low))
@@ -61,7 +61,7 @@ two_or_three (suc (suc zero)) high low = inl refl
 two_or_three (suc (suc (suc zero))) high low = inr refl
 two_or_three (suc (suc (suc (suc q)))) high low = absurd (omega (arith, low))
 
-module _ (seed : ℕ) (before now : Devices) (w w' : Seen) (r : MotionRests w') where
+module _ {N : ℕ} (seed : ℕ) (before now : Devices) (w w' : Seen N) (r : MotionRests w') where
   by_actor : (mid to : ℕ) → to ≡ state_after mid → (2 ≡ to / 2 ^ 62) ⊎ (3 ≡ to / 2 ^ 62) → IsInOrder seed mid before now w w' → IsInOrder seed to before now w w'
   by_actor mid to is (inl two) so = order_more seed mid to actors.Pulse (Wait on.Piece) before now now w w' w' so is two (pulse_rests w' now)
   by_actor mid to is (inr three) so = order_more seed mid to actors.Record (Wait on.Records) before now now w w' w' so is three (recorder_rests w' now r)
@@ -85,14 +85,14 @@ pub left_on : (from to : ℕ) (numbers : List ℕ) (i : ℕ) → i < length numb
 left_on from to numbers i within s = (left_at from to numbers i within s).5
 
 -- the turns that are passed over, and that of the next number that is kept
-pub turn_on : (seed from to : ℕ) (numbers : List ℕ) (i : ℕ) (actor : Actor) (t : Turn) (before now after : Devices) (w mid w' : Seen) → i < length numbers → Sifts from (drop i numbers) to → MotionRests mid
+pub turn_on : {N : ℕ} (seed from to : ℕ) (numbers : List ℕ) (i : ℕ) (actor : Actor) (t : Turn) (before now after : Devices) (w mid w' : Seen N) → i < length numbers → Sifts from (drop i numbers) to → MotionRests mid
     → number_of actor ≡ get_or numbers i 0 / 2 ^ 62 → TurnsOn actor t now after mid w' → IsInOrder seed from before now w mid → IsInOrder seed (get_or numbers i 0) before after w w'
 turn_on seed from to numbers i actor t before now after w mid w' within s r chosen turns so =
     let k = left_at from to numbers i within s in
     order_more seed k.1 (get_or numbers i 0) actor t before now after w mid w' (passed_over seed before now w mid r k.0 from k.1 k.2 so) k.3 chosen turns
 
 -- the turns that are passed over behind the last of them
-pub rest_on : (seed from to : ℕ) (numbers : List ℕ) (i : ℕ) (before now : Devices) (w w' : Seen) → length numbers ≤ i → Sifts from (drop i numbers) to → MotionRests w'
+pub rest_on : {N : ℕ} (seed from to : ℕ) (numbers : List ℕ) (i : ℕ) (before now : Devices) (w w' : Seen N) → length numbers ≤ i → Sifts from (drop i numbers) to → MotionRests w'
     → IsInOrder seed from before now w w' → IsInOrder seed to before now w w'
 rest_on seed from to numbers i before now w w' over s r so =
     let k : Sifts from [] to = subst (λ (l : List ℕ). Sifts from l to) (drop_all i numbers over) s in

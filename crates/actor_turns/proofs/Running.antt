@@ -1,5 +1,5 @@
 -- What the actors of a world have done is a run of the job.
-use Rattle.std.proofs.Common.{◌≡◌, ◌⊎◌, inl, inr, ℕ, ◌+◌, ◌≤◌, Bool, true, false, ◌↔◌, List, [], ◌∷◌, ◌++◌, length, map, reverse, refl, sym, ap, ◌∙◌, subst, arith}
+use Rattle.std.proofs.Common.{◌≡◌, ◌-◌, ◌⊎◌, inl, inr, ℕ, ◌+◌, ◌≤◌, Bool, true, false, ◌↔◌, List, [], ◌∷◌, ◌++◌, length, map, reverse, refl, sym, ap, ◌∙◌, subst, arith}
 use Rattle.std.proofs.lemmas.List.{reverse-append, reverse-reverse}
 use Rattle.step_line.specs.declared.Piece.{Piece}
 use Rattle.step_line.specs.Logs.{NewestFirst}
@@ -13,7 +13,7 @@ use Rattle.serial_ring.specs.Marks.{Mark}
 use Rattle.run_rules.specs.States.{IsOpening}
 use Rattle.run_rules.specs.declared.State.{State}
 use Rattle.run_texts.specs.Fronts.{BeginsWith}
-use Rattle.status_report.specs.Answering.{receive_room, reply_room}
+use Rattle.status_report.specs.Answering.{reply_room}
 use Rattle.stream_host.specs.declared.Reading.{Reading}
 use Rattle.stream_host.specs.declared.Reading.TheVariants.{Ended, Failed, Large, Stopped}
 use Rattle.stream_host.specs.Steps.{port_log as host_log, marks_of, got_of}
@@ -43,27 +43,27 @@ use Rattle.actor_turns.specs.Worlds.{Seen, History, Holds, LinkIsKept, FlagsAreK
 
 -- ---- what one side got is a front of what the other gave
 
-pub replies_front : (w : Seen) (hist : History) → Holds w hist → BeginsWith (answered_in (board_log hist.board)) (got_of hist.host)
+pub replies_front : {N : ℕ} (w : Seen N) (hist : History) → Holds w hist → BeginsWith (answered_in (board_log hist.board)) (got_of hist.host)
 replies_front w hist h = record { rest = w.lists.replies; is = h.joined.replies.fifo }
 
-pub records_front : (w : Seen) (hist : History) → Holds w hist → BeginsWith (records_put hist.puts) (records hist.takes)
+pub records_front : {N : ℕ} (w : Seen N) (hist : History) → Holds w hist → BeginsWith (records_put hist.puts) (records hist.takes)
 records_front w hist h = record { rest = w.waiting; is = h.passed }
 
 -- the pieces got or dropped are the first of those published, and those that wait come behind them
-pub pieces_front : (w : Seen) (hist : History) → Holds w hist → pieces_sent (sent_in (board_log hist.board)) ≡ reverse (pieces_of hist.pulse) ++ w.lists.pieces
+pub pieces_front : {N : ℕ} (w : Seen N) (hist : History) → Holds w hist → pieces_sent (sent_in (board_log hist.board)) ≡ reverse (pieces_of hist.pulse) ++ w.lists.pieces
 pieces_front w hist h =
     ap reverse h.joined.pieces.fifo ∙ reverse-append (reverse w.lists.pieces) (pieces_of hist.pulse) ∙ ap (λ (ps : List Piece). reverse (pieces_of hist.pulse) ++ ps) (reverse-reverse w.lists.pieces)
 
 -- ---- halts
 
 -- the board has found each halt of the pulse, or the pulse has halted since
-abbrev IsPhase : Seen → History → Type 0
+abbrev IsPhase : {N : ℕ} → Seen N → History → Type 0
 IsPhase w hist =
     IsGoing w.lists.pieces w.lists.left w.lists.done w.lists.stop (sent_in (board_log hist.board)) (got_since hist.pulse) (halts_of hist.pulse)
     ⊎ HasHalted w.lists.pieces w.lists.left w.lists.done w.lists.stop (sent_in (board_log hist.board)) (got_since hist.pulse) (halts_of hist.pulse)
 
 -- those that the board has found are those of the pulse, or the pulse has halted once more
-pub halts_follow : (w : Seen) (hist : History) → Holds w hist → FollowHalts (halts_seen (sent_in (board_log hist.board))) (halts_of hist.pulse)
+pub halts_follow : {N : ℕ} (w : Seen N) (hist : History) → Holds w hist → FollowHalts (halts_seen (sent_in (board_log hist.board))) (halts_of hist.pulse)
 halts_follow w hist h = by_phase h.joined.pieces.phase
   where
     by_phase : IsPhase w hist → FollowHalts (halts_seen (sent_in (board_log hist.board))) (halts_of hist.pulse)
@@ -71,21 +71,21 @@ halts_follow w hist h = by_phase h.joined.pieces.phase
     by_phase (inr halted) = inr ((length (ring.published_in (sent_in (board_log hist.board))), w.lists.done), sym halted.halts_are)
 
 -- a board that has nothing left to do waits for no halt
-none_waits : (state : State) (e : Epochs) → AreEpochs state e → HaveFinished state e → (sent_in (board_log e)).waits ≡ false
-none_waits state (goes es h) are over =
-    ap (λ (s : Sent). s.waits) (sent_on (known_in (closed_log es)) (port_log h) (closed_log es) (journals_never_stop (opening_behind state es) h are.1.conducted)) ∙ goes_there (closed_log es) (begins_behind state es are.0)
-none_waits state (resets es h w) are over = absurd over
+none_waits : (blocks : ℕ) (state : State) (e : Epochs) → AreEpochs blocks state e → HaveFinished blocks state e → (sent_in (board_log e)).waits ≡ false
+none_waits blocks state (goes es h) are over =
+    ap (λ (s : Sent). s.waits) (sent_on (known_in (closed_log es)) (port_log h) (closed_log es) (journals_never_stop (opening_behind blocks state es) h are.1.conducted)) ∙ goes_there (closed_log es) (begins_behind blocks state es are.0)
+none_waits blocks state (resets es h w) are over = absurd over
 
 -- so it has found them all
-all_found : (w : Seen) (hist : History) (state : State) → Holds w hist → AreEpochs state hist.board → HaveFinished state hist.board → halts_of hist.pulse ≡ halts_seen (sent_in (board_log hist.board))
-all_found w hist state h are over = by_phase h.joined.pieces.phase
+all_found : {N : ℕ} (w : Seen N) (hist : History) (state : State) → Holds w hist → AreEpochs (N - 1) state hist.board → HaveFinished (N - 1) state hist.board → halts_of hist.pulse ≡ halts_seen (sent_in (board_log hist.board))
+all_found {N} w hist state h are over = by_phase h.joined.pieces.phase
   where
     by_phase : IsPhase w hist → halts_of hist.pulse ≡ halts_seen (sent_in (board_log hist.board))
     by_phase (inl going) = sym going.halts_are
-    by_phase (inr halted) = absurd (let waits = halted.waits_is in let none = none_waits state hist.board are over in cc)
+    by_phase (inr halted) = absurd (let waits = halted.waits_is in let none = none_waits (N - 1) state hist.board are over in cc)
 
 -- the pieces of a world are passed as those of a ring
-pub passed_some : (w : Seen) (hist : History) (state : State) → Holds w hist → AreEpochs state hist.board → HaveFinished state hist.board → ArePassedSome (board_did hist.board) (pulse_did hist.pulse hist.puts)
+pub passed_some : {N : ℕ} (w : Seen N) (hist : History) (state : State) → Holds w hist → AreEpochs (N - 1) state hist.board → HaveFinished (N - 1) state hist.board → ArePassedSome (board_did hist.board) (pulse_did hist.pulse hist.puts)
 passed_some w hist state h are over = record {
   pieces = record { rest = w.lists.pieces; is = pieces_front w hist h };
   halts = inl (all_found w hist state h are over);
@@ -94,7 +94,7 @@ passed_some w hist state h are over = record {
 -- ---- a run so far
 
 -- the ticks counted and those left of the last piece were published
-ticks_within : (w : Seen) (hist : History) → Holds w hist → w.lists.done + w.lists.left ≤ ticks_published (sent_in (board_log hist.board))
+ticks_within : {N : ℕ} (w : Seen N) (hist : History) → Holds w hist → w.lists.done + w.lists.left ≤ ticks_published (sent_in (board_log hist.board))
 ticks_within w hist h = by_phase h.joined.pieces.phase
   where
     by_phase : IsPhase w hist → w.lists.done + w.lists.left ≤ ticks_published (sent_in (board_log hist.board))
@@ -105,7 +105,7 @@ ticks_within w hist h = by_phase h.joined.pieces.phase
     by_phase (inr halted) = let none = halted.none_left in let few = h.joined.pieces.within in omega (arith, none, few)
 
 -- the pieces of a world are passed as those of a ring that goes on
-pub pieces_passed : (w : Seen) (hist : History) → Holds w hist → ArePiecesPassed (sent_in (board_log hist.board)) (known_in (board_log hist.board)) hist.pulse
+pub pieces_passed : {N : ℕ} (w : Seen N) (hist : History) → Holds w hist → ArePiecesPassed (sent_in (board_log hist.board)) (known_in (board_log hist.board)) hist.pulse
 pieces_passed w hist h =
     let p = h.joined.pieces in
     record {
@@ -129,18 +129,18 @@ pieces_passed w hist h =
 -- ---- both
 
 -- host and board are connected, by the logs of the lists between them
-pub connected : (w : Seen) (hist : History) (state : State) → Holds w hist → AreEpochs state hist.board → AreConnected (host_did hist.host) (board_did hist.board)
-connected w hist state h are =
+pub connected : {N : ℕ} (w : Seen N) (hist : History) (state : State) → Holds w hist → AreEpochs (N - 1) state hist.board → AreConnected w.room (host_did hist.host) (board_did hist.board)
+connected {N} w hist state h are =
     let agree = ports_agree w.lists (host_log hist.host) (board_log hist.board) hist.pulse h.joined in
-    ends_connected hist.host state hist.board h.host.conducted are (ports_linked hist.host hist.board agree) (ports_answered hist.host hist.board agree)
+    ends_connected w.room hist.host (N - 1) state hist.board h.host.conducted are (ports_linked hist.host hist.board agree) (ports_answered hist.host hist.board agree)
     (words_raised (w.lists.exec ∷ w.lists.override ∷ []) (host_log hist.host) (board_log hist.board) h.joined.flags.balance)
 
 -- a board that has nothing left to do has run, by the law of boards
-pub board_ran : (state : State) (e : Epochs)
-    → ((es : NewestFirst Closed) (h : Journal) → IsOpening state → AreEpochs state (goes es h) → IsFinished (opening_behind state es) h → BoardRan (board_did (goes es h)))
-    → IsOpening state → AreEpochs state e → HaveFinished state e → BoardRan (board_did e)
-board_ran state (goes es h) law opening are over = law es h opening are over
-board_ran state (resets es h w) law opening are over = absurd over
+pub board_ran : (blocks : ℕ) (state : State) (e : Epochs)
+    → ((es : NewestFirst Closed) (h : Journal) → IsOpening state → AreEpochs blocks state (goes es h) → IsFinished (opening_behind blocks state es) h → BoardRan blocks (board_did (goes es h)))
+    → IsOpening state → AreEpochs blocks state e → HaveFinished blocks state e → BoardRan blocks (board_did e)
+board_ran blocks state (goes es h) law opening are over = law es h opening are over
+board_ran blocks state (resets es h w) law opening are over = absurd over
 
 -- ---- how it ends
 
@@ -156,7 +156,7 @@ failed_is false Stopped both = refl
 mark_is : (m : Mark) (number bytes : ℕ) → m.0 ≡ number → m.1 ≡ bytes → m ≡ (number, bytes)
 mark_is m number bytes a b = ap (λ (n : ℕ). let x : Mark = (n, m.1) in x) a ∙ ap (λ (n : ℕ). let x : Mark = (number, n) in x) b
 
-pub link_is_kept : (w : Seen) (hist : History) → Holds w hist → length w.lists.bytes ≤ receive_room → length w.lists.replies ≤ reply_room → LinkIsKept w hist
+pub link_is_kept : {N : ℕ} (w : Seen N) (hist : History) → Holds w hist → length w.lists.bytes ≤ w.room → length w.lists.replies ≤ reply_room → LinkIsKept w hist
 link_is_kept w hist h bytes replies = record {
   taken = h.joined.bytes.fifo;
   bytes = bytes;
@@ -167,7 +167,7 @@ link_is_kept w hist h bytes replies = record {
   loaded = h.joined.marks.loads;
 }
 
-pub flags_are_kept : (w : Seen) (hist : History) → Holds w hist → FlagsAreKept w hist
+pub flags_are_kept : {N : ℕ} (w : Seen N) (hist : History) → Holds w hist → FlagsAreKept w hist
 flags_are_kept w hist h = record { balance = h.joined.flags.balance }
 
 halted_at : (halts : NewestFirst Halt) → ticks_halted (map numbers_of halts) ≡ ticks_at halts
@@ -175,7 +175,7 @@ halted_at [] = refl
 halted_at (halt ∷ halts) = refl
 
 -- no more ticks are done than those at the last halt and those of the pieces got since
-done_below : (w : Seen) (hist : History) → Holds w hist → w.lists.done ≤ ticks_halted (halts_of hist.pulse) + ticks_together (got_since hist.pulse)
+done_below : {N : ℕ} (w : Seen N) (hist : History) → Holds w hist → w.lists.done ≤ ticks_halted (halts_of hist.pulse) + ticks_together (got_since hist.pulse)
 done_below w hist h = by_phase h.joined.pieces.phase
   where
     by_phase : IsPhase w hist → w.lists.done ≤ ticks_halted (halts_of hist.pulse) + ticks_together (got_since hist.pulse)
@@ -183,7 +183,7 @@ done_below w hist h = by_phase h.joined.pieces.phase
         let all = going.ticks in let at = halted_at (sent_in (board_log hist.board)).halts in let same = ap ticks_halted going.halts_are in omega (arith, all, at, same)
     by_phase (inr halted) = let at = ap ticks_halted halted.halts_are in omega (arith, at)
 
-pub motion_is_kept : (w : Seen) (hist : History) → Holds w hist → length w.waiting ≤ record_room → MotionIsKept w hist
+pub motion_is_kept : {N : ℕ} (w : Seen N) (hist : History) → Holds w hist → length w.waiting ≤ record_room → MotionIsKept w hist
 motion_is_kept w hist h room =
     let p = h.joined.pieces in
     record {

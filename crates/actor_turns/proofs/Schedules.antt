@@ -8,19 +8,19 @@ use Rattle.actor_turns.specs.Worlds.{Seen, History, Devices, Adds, Turns, TurnsO
 use Rattle.actor_turns.specs.Lockstep.{state_after, number_of, actor_of, state_at, order_from, IsInOrder}
 
 -- one turn more
-one_more : (schedule : List Actor) (actor : Actor) (t : Turn) (w mid w' : Seen) (hist between next : History) → Turns schedule w mid hist between → Adds actor t mid w' between next
+one_more : {N : ℕ} (schedule : List Actor) (actor : Actor) (t : Turn) (w mid w' : Seen N) (hist between next : History) → Turns schedule w mid hist between → Adds actor t mid w' between next
     → Turns (schedule ++ actor ∷ []) w w' hist next
-one_more [] actor t w mid w' hist between next same adds =
-    (t, w', next, subst (λ (v : Seen). Adds actor t v w' hist next) same.0 (subst (λ (h : History). Adds actor t mid w' h next) same.1 adds), (refl, refl))
-one_more (a ∷ schedule) actor t w mid w' hist between next turns adds =
+one_more {N} [] actor t w mid w' hist between next same adds =
+    (t, w', next, subst (λ (v : Seen N). Adds actor t v w' hist next) same.0 (subst (λ (h : History). Adds actor t mid w' h next) same.1 adds), (refl, refl))
+one_more {N} (a ∷ schedule) actor t w mid w' hist between next turns adds =
     (turns.0, turns.1, turns.2, turns.3, one_more schedule actor t turns.1 mid w' turns.2 between next turns.4 adds)
 
 -- no turn
-pub runs_nothing : (now : Devices) (w : Seen) → RunsOn [] now now w w
+pub runs_nothing : {N : ℕ} (now : Devices) (w : Seen N) → RunsOn [] now now w w
 runs_nothing now w = record { on = λ form was hist st. (hist, st, (refl, refl)) }
 
 -- the turns of a schedule, and one more
-pub runs_more : (schedule : List Actor) (actor : Actor) (t : Turn) (before now after : Devices) (w mid w' : Seen) → RunsOn schedule before now w mid → TurnsOn actor t now after mid w'
+pub runs_more : {N : ℕ} (schedule : List Actor) (actor : Actor) (t : Turn) (before now after : Devices) (w mid w' : Seen N) → RunsOn schedule before now w mid → TurnsOn actor t now after mid w'
     → RunsOn (schedule ++ actor ∷ []) before after w w'
 runs_more schedule actor t before now after w mid w' runs turns = record {
   on = λ form was hist st.
@@ -30,7 +30,7 @@ runs_more schedule actor t before now after w mid w' runs turns = record {
 }
 
 -- of a schedule, the turns taken so far
-pub next_taken : (schedule : List Actor) (i : ℕ) (other : Actor) (before after : Devices) (w w' : Seen) → i < length schedule
+pub next_taken : {N : ℕ} (schedule : List Actor) (i : ℕ) (other : Actor) (before after : Devices) (w w' : Seen N) → i < length schedule
     → RunsOn (take i schedule ++ get_or schedule i other ∷ []) before after w w' → RunsOn (take (i + 1) schedule) before after w w'
 next_taken schedule i other before after w w' within runs =
     let e : take (suc i) schedule ≡ take i schedule ++ get_or schedule i other ∷ [] = take-suc schedule i other within in rw (add-one, e) runs
@@ -43,10 +43,10 @@ actor_is actors.Board n is = ap actor_of is
 actor_is actors.Pulse n is = ap actor_of is
 actor_is actors.Record n is = ap actor_of is
 
-pub order_nothing : (seed : ℕ) (now : Devices) (w : Seen) → IsInOrder seed seed now now w w
+pub order_nothing : {N : ℕ} (seed : ℕ) (now : Devices) (w : Seen N) → IsInOrder seed seed now now w w
 order_nothing seed now w = record { order = record { count = 0; runs = runs_nothing now w }; state_is = refl }
 
-pub order_more : (seed state next : ℕ) (actor : Actor) (t : Turn) (before now after : Devices) (w mid w' : Seen) → IsInOrder seed state before now w mid
+pub order_more : {N : ℕ} (seed state next : ℕ) (actor : Actor) (t : Turn) (before now after : Devices) (w mid w' : Seen N) → IsInOrder seed state before now w mid
     → next ≡ state_after state → number_of actor ≡ next / 2 ^ 62 → TurnsOn actor t now after mid w' → IsInOrder seed next before after w w'
 order_more seed state next actor t before now after w mid w' so steps chosen turns =
     let n = so.order.count in

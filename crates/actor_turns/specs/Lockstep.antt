@@ -41,12 +41,12 @@ Sifts from [] to = (n : ℕ) × Passes n from to
 Sifts from (number ∷ numbers) to = (n : ℕ) × (before : ℕ) × Passes n from before × (number ≡ state_after before) × (number / 2 ^ 62 < 2) × Sifts number numbers to
 
 -- the turns that a seed gives, as many as there were
-pub record RunsInOrder (seed : ℕ) (before after : Devices) (w w' : Seen) : Type 0 where
+pub record RunsInOrder {N : ℕ} (seed : ℕ) (before after : Devices) (w w' : Seen N) : Type 0 where
   pub count : ℕ
   pub runs : RunsOn (order_from seed count) before after w w'
 
 -- so far, where no turn is left out: the turns that a seed gives, up to this number of the generator
-pub record IsInOrder (seed state : ℕ) (before after : Devices) (w w' : Seen) : Type 0 where
+pub record IsInOrder {N : ℕ} (seed state : ℕ) (before after : Devices) (w w' : Seen N) : Type 0 where
   pub order : RunsInOrder seed before after w w'
   pub state_is : state ≡ state_at seed order.count
 
@@ -62,7 +62,7 @@ abbrev pub none_ended : Ended
 none_ended = record { host = false; board = false; pulse = false; recorder = false }
 
 -- those that have answered Done are done
-pub record AreEnded (e : Ended) (w : Seen) : Type 0 where
+pub record AreEnded {N : ℕ} (e : Ended) (w : Seen N) : Type 0 where
   pub host : e.host ≡ true → IsDone actors.Host w
   pub board : e.board ≡ true → IsDone actors.Board w
   pub pulse : e.pulse ≡ true → IsDone actors.Pulse w

@@ -1,5 +1,5 @@
 -- The order of turns in a paced run.
-use Rattle.std.specs.Prelude.{◌≡◌, ◌≢◌, ◌↔◌, ◌⊎◌, suc, Bool, true, false, cond, nat_lt, List, [], ◌∷◌}
+use Rattle.std.specs.Prelude.{◌≡◌, ◌≢◌, ◌↔◌, ◌⊎◌, suc, Bool, true, false, cond, nat_lt, List, [], ◌∷◌, ℕ}
 use Rattle.outside.specs.declared.Actor.{Actor}
 use Rattle.outside.specs.declared.Actor.TheVariants as actors
 use Rattle.outside.specs.declared.Turn.{Turn}
@@ -75,19 +75,19 @@ pace_after t between p = after_turn p.next t between p
 
 -- Each turn is that of the actor whose turn is next by all that was answered before. Between two turns the world stands for what
 -- was done.
-abbrev pub PacedTurns : List Actor → Pace → Pace → Seen → Seen → History → History → Type 0
+abbrev pub PacedTurns : {N : ℕ} → List Actor → Pace → Pace → Seen N → Seen N → History → History → Type 0
 PacedTurns [] p p' w w' hist next = (p' ≡ p) × (w' ≡ w) × (next ≡ hist)
-PacedTurns (actor ∷ schedule) p p' w w' hist next =
-    (t : Turn) × (between : Bool) × (mid : Seen) × (done : History) × (actor ≡ p.next) × Adds actor t w mid hist done × Holds mid done
+PacedTurns {N} (actor ∷ schedule) p p' w w' hist next =
+    (t : Turn) × (between : Bool) × (mid : Seen N) × (done : History) × (actor ≡ p.next) × Adds actor t w mid hist done × Holds mid done
     × ((between ≡ true) ↔ AwaitsPiece mid.pulse) × PacedTurns schedule (pace_after t between p) p' mid w' done next
 
 -- so far, up to this pace: whatever was done before, and since whatever moment, there is what was done after the turns
-pub record IsPaced (pace : Pace) (before after : Devices) (w w' : Seen) : Type 0 where
+pub record IsPaced {N : ℕ} (pace : Pace) (before after : Devices) (w w' : Seen N) : Type 0 where
   pub schedule : List Actor
   pub on : (form : Form) (was : Devices) (hist : History) → Stands form was before w hist → (next : History) × Stands form was after w' next × PacedTurns schedule first_pace pace w w' hist next
 
 -- paced turns, as many as there were
-pub record RunsPaced (before after : Devices) (w w' : Seen) : Type 0 where
+pub record RunsPaced {N : ℕ} (before after : Devices) (w w' : Seen N) : Type 0 where
   pub pace : Pace
   pub paced : IsPaced pace before after w w'
 

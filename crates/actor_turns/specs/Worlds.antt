@@ -18,7 +18,7 @@ use Rattle.epoch_runs.specs.Epochs.{halts_seen, pieces_sent}
 use Rattle.controller.specs.declared.controller.Controller.{Controller}
 use Rattle.controller.specs.Boards.{BoardFits, BoardTurned, BoardRests}
 use Rattle.controller.specs.Boards.{IsBetween as IsBetweenOfBoard}
-use Rattle.status_report.specs.Answering.{receive_room, reply_room, answers_in, lfs_in}
+use Rattle.status_report.specs.Answering.{reply_room, answers_in, lfs_in}
 use Rattle.step_line.specs.Finishing.{ticks_together, most_unfinished}
 use Rattle.step_line.specs.Logs.{NewestFirst}
 use Rattle.motion_ring.specs.Sides.{unfinished_in}
@@ -46,10 +46,12 @@ use Rattle.stream_host.specs.declared.Reading.{Reading}
 use Rattle.stream_host.specs.declared.Stop.{Stop}
 use Rattle.stream_host.specs.Jobs.{IsSentSoFar}
 
--- what callers see of a world
-pub record Seen : Type 0 where
+-- what callers see of a world, whose plan has so many slots: for how many bytes its link has room, its actors, and what is on its
+-- way
+pub record Seen (slots : ℕ) : Type 0 where
+  pub room : ℕ
   pub host : Host
-  pub board : Controller
+  pub board : Controller slots
   pub pulse : Pulsing
   pub recorder : Recording
   pub lists : Listed
@@ -68,21 +70,21 @@ abbrev pub no_history : History
 no_history = record { host = []; board = goes [] []; pulse = []; puts = []; takes = [] }
 
 -- what a world says of what was done, with no word of a device
-pub record Holds (w : Seen) (hist : History) : Type 0 where
+pub record Holds {N : ℕ} (w : Seen N) (hist : History) : Type 0 where
   pub joined : Joined w.lists (host_log hist.host) (board_log hist.board) hist.pulse
   pub passed : HandsOn w.waiting hist.puts hist.takes
-  pub host : HostFits w.host hist.host
+  pub host : HostFits w.room w.host hist.host
   pub host_between : IsBetweenOfHost hist.host
   pub board : BoardFits w.board hist.board
   pub board_between : IsBetweenOfBoard hist.board
   pub pulse : PulseFits w.pulse hist.pulse hist.puts
 
 -- there is such a history
-abbrev pub HasHistory : Seen → Type 0
+abbrev pub HasHistory : {N : ℕ} → Seen N → Type 0
 HasHistory w = (hist : History) × Holds w hist
 
 -- a world that has done this since a moment
-pub record Stands (form : Form) (was now : Devices) (w : Seen) (hist : History) : Type 0 where
+pub record Stands {N : ℕ} (form : Form) (was now : Devices) (w : Seen N) (hist : History) : Type 0 where
   pub holds : Holds w hist
   pub job : TellsJob hist.host was.job now.job
   pub console : TellsText w.host.text hist.host was.console now.console
@@ -94,12 +96,12 @@ pub record Stands (form : Form) (was now : Devices) (w : Seen) (hist : History) 
 abbrev pub last_mark : List ℕ → Mark
 last_mark marks = (length marks, latest marks)
 
--- Between host and board: the bytes taken are a front of those stored, and at most 128 behind; the replies got are a front of
--- those answered, and at most 16 behind. No more lines are answered than were taken to their LF. The mark on its way is the last
--- one stored, and each mark that was loaded was stored, or is the start.
-pub record LinkIsKept (w : Seen) (hist : History) : Type 0 where
+-- Between host and board: the bytes taken are a front of those stored, and no more behind than the link has room for; the replies got
+-- are a front of those answered, and at most 16 behind. No more lines are answered than were taken to their LF. The mark on its way is
+-- the last one stored, and each mark that was loaded was stored, or is the start.
+pub record LinkIsKept {N : ℕ} (w : Seen N) (hist : History) : Type 0 where
   pub taken : stored_of hist.host ≡ taken_in (board_log hist.board) ++ w.lists.bytes
-  pub bytes : length w.lists.bytes ≤ receive_room
+  pub bytes : length w.lists.bytes ≤ w.room
   pub got : answered_in (board_log hist.board) ≡ got_of hist.host ++ w.lists.replies
   pub replies : length w.lists.replies ≤ reply_room
   pub answers : answers_in (answered_in (board_log hist.board)) ≤ lfs_in (taken_in (board_log hist.board))
@@ -108,7 +110,7 @@ pub record LinkIsKept (w : Seen) (hist : History) : Type 0 where
 
 -- Between host and board: each flag was found down by as many raises as there are takes that had it, and by one more where it
 -- is up. So none is lost, and none is taken twice.
-pub record FlagsAreKept (w : Seen) (hist : History) : Type 0 where
+pub record FlagsAreKept {N : ℕ} (w : Seen N) (hist : History) : Type 0 where
   pub balance : IsBalanced (w.lists.exec ∷ w.lists.override ∷ []) (raises_in (host_log hist.host)) (takes_in (board_log hist.board))
 
 -- the halts of a pulse are those found, or one more
@@ -124,7 +126,7 @@ ticks_halted (halt ∷ halts) = halt.1
 -- halt and those of the pieces got since; at most five pieces are unfinished. The halts that the board has found are those of the
 -- pulse, which has halted once more at most. Between pulse and recorder: the records taken are a front of those put, at most 1,024
 -- behind.
-pub record MotionIsKept (w : Seen) (hist : History) : Type 0 where
+pub record MotionIsKept {N : ℕ} (w : Seen N) (hist : History) : Type 0 where
   pub got : pieces_sent (sent_in (board_log hist.board)) ≡ reverse (pieces_of hist.pulse) ++ w.lists.pieces
   pub done : counted hist.pulse ≤ ticks_halted (halts_of hist.pulse) + ticks_together (got_since hist.pulse)
   pub few : unfinished_in (sent_in (board_log hist.board)) (counted hist.pulse) ≤ most_unfinished
@@ -135,45 +137,45 @@ pub record MotionIsKept (w : Seen) (hist : History) : Type 0 where
 -- ---- one turn
 
 -- what one turn of an actor adds to what was done: its own steps and its answer, and nothing to the others'
-abbrev pub Adds : Actor → Turn → Seen → Seen → History → History → Type 0
+abbrev pub Adds : {N : ℕ} → Actor → Turn → Seen N → Seen N → History → History → Type 0
 Adds actors.Host t w w' hist next = (next ≡ record hist { host = next.host }) × HostTurned t w.host w'.host hist.host next.host
 Adds actors.Board t w w' hist next = (next ≡ record hist { board = next.board }) × BoardTurned t w.board w'.board hist.board next.board
 Adds actors.Pulse t w w' hist next = (next ≡ record hist { pulse = next.pulse; puts = next.puts }) × PulseTurned t hist.pulse hist.puts next.pulse next.puts
 Adds actors.Record t w w' hist next = (next ≡ record hist { takes = next.takes }) × RecorderTurned t w.recorder w'.recorder hist.takes next.takes
 
 -- one turn of an actor: whatever was done before, and since whatever moment, there is what was done after it
-pub record TurnsOn (actor : Actor) (t : Turn) (before after : Devices) (w w' : Seen) : Type 0 where
+pub record TurnsOn {N : ℕ} (actor : Actor) (t : Turn) (before after : Devices) (w w' : Seen N) : Type 0 where
   pub on : (form : Form) (was : Devices) (hist : History) → Stands form was before w hist → (next : History) × Stands form was after w' next × Adds actor t w w' hist next
 
 -- the other actors, and the lists that are not its ports, are as before
-abbrev pub ActsAlone : Actor → Seen → Seen → Type 0
+abbrev pub ActsAlone : {N : ℕ} → Actor → Seen N → Seen N → Type 0
 ActsAlone actors.Host w w' = w' ≡ record w { host = w'.host; lists = w'.lists }
 ActsAlone actors.Board w w' = w' ≡ record w { board = w'.board; lists = w'.lists }
 ActsAlone actors.Pulse w w' = w' ≡ record w { pulse = w'.pulse; lists = w'.lists; waiting = w'.waiting }
 ActsAlone actors.Record w w' = w' ≡ record w { recorder = w'.recorder; waiting = w'.waiting }
 
 -- an actor is done
-abbrev pub IsDone : Actor → Seen → Type 0
+abbrev pub IsDone : {N : ℕ} → Actor → Seen N → Type 0
 IsDone actors.Host w = HostRests w.host
 IsDone actors.Board w = BoardRests w.board
 IsDone actors.Pulse w = w.pulse.over ≡ true
 IsDone actors.Record w = Rests w.recorder
 
 -- all four are
-pub record AreDone (w : Seen) : Type 0 where
+pub record AreDone {N : ℕ} (w : Seen N) : Type 0 where
   pub host : IsDone actors.Host w
   pub board : IsDone actors.Board w
   pub pulse : IsDone actors.Pulse w
   pub recorder : IsDone actors.Record w
 
 -- the pulse finds no stop and no piece
-pub record OffersNothing (w : Seen) : Type 0 where
+pub record OffersNothing {N : ℕ} (w : Seen N) : Type 0 where
   pub no_stop : w.lists.stop ≡ false
   pub no_piece : w.lists.pieces ≡ []
 
 -- Nothing moves: the pulse has nothing to put, and finds no stop and no piece; the recorder has nothing to write, and finds no
 -- record.
-pub record MotionRests (w : Seen) : Type 0 where
+pub record MotionRests {N : ℕ} (w : Seen N) : Type 0 where
   pub nothing : OffersNothing w
   pub no_record : w.waiting ≡ []
   pub pulse : AwaitsPiece w.pulse
@@ -182,29 +184,29 @@ pub record MotionRests (w : Seen) : Type 0 where
 -- ---- turns one after the other
 
 -- the actors of a schedule each took a turn, in its order
-abbrev pub Turns : List Actor → Seen → Seen → History → History → Type 0
+abbrev pub Turns : {N : ℕ} → List Actor → Seen N → Seen N → History → History → Type 0
 Turns [] w w' hist next = (w' ≡ w) × (next ≡ hist)
-Turns (actor ∷ schedule) w w' hist next = (t : Turn) × (mid : Seen) × (between : History) × Adds actor t w mid hist between × Turns schedule mid w' between next
+Turns {N} (actor ∷ schedule) w w' hist next = (t : Turn) × (mid : Seen N) × (between : History) × Adds actor t w mid hist between × Turns schedule mid w' between next
 
 -- the turns of a schedule: whatever was done before, and since whatever moment, there is what was done after them
-pub record RunsOn (schedule : List Actor) (before after : Devices) (w w' : Seen) : Type 0 where
+pub record RunsOn {N : ℕ} (schedule : List Actor) (before after : Devices) (w w' : Seen N) : Type 0 where
   pub on : (form : Form) (was : Devices) (hist : History) → Stands form was before w hist → (next : History) × Stands form was after w' next × Turns schedule w w' hist next
 
 -- the turns of some schedule
-pub record HasRunOn (before after : Devices) (w w' : Seen) : Type 0 where
+pub record HasRunOn {N : ℕ} (before after : Devices) (w w' : Seen N) : Type 0 where
   pub schedule : List Actor
   pub runs : RunsOn schedule before after w w'
 
 -- ---- what a world has done since a moment, as a run of the job
 
 -- how it ends
-abbrev pub end_after : Seen → History → RunEnd
+abbrev pub end_after : {N : ℕ} → Seen N → History → RunEnd
 end_after w hist = run_end (end_of hist.host) w.recorder.writer.failed
 
--- A whole run of the job on one thread: each line that was scanned has at most as many reports among the replies as it has `?`,
--- by the lists of that run.
-pub record HasRunAlone (form : Form) (was now : Devices) (end : RunEnd) : Type 0 where
-  pub run : HasRun form was now end
+-- A whole run of the job on one thread, at a link that has room for so many bytes, with a plan of so many blocks: each line that was
+-- scanned has at most as many reports among the replies as it has `?`, by the lists of that run.
+pub record HasRunAlone (room blocks : ℕ) (form : Form) (was now : Devices) (end : RunEnd) : Type 0 where
+  pub run : HasRun room blocks form was now end
   pub reports : ReportsPerLine (lines_of run.scanned) run.replies
 
 -- ---- its reports, line by line

@@ -1,5 +1,6 @@
 //! What holds of every world.
 
+ghost use Rattle.std.specs.Prelude.{ℕ, ◌-◌};
 ghost use Rattle.run_rules.specs.Lines.{lines_of};
 ghost use Rattle.stream_host.specs.Steps.{scanned_of, got_of};
 ghost use Rattle.list_ports.specs.PerLine.{ReportsPerLine};
@@ -17,9 +18,9 @@ use stream_host::{hosts_have_run, hosts_send_their_lines};
 /// What a world has done since it was new is a run of the job so far. Where all four actors are done, it is a whole run, each of
 /// whose lines has at most as many reports as it has `?`.
 pub fn worlds_run()
-    ensures so_far { (form : Form) (was now : Devices) (w : Seen) (hist : History) → Stands form was now w hist → RunsSoFar form was now }
-    ensures whole { (form : Form) (was now : Devices) (w : Seen) (hist : History) → Stands form was now w hist → AreDone w → HasRun form was now (end_after w hist) }
-    ensures alone { (form : Form) (was now : Devices) (w : Seen) (hist : History) → Stands form was now w hist → AreDone w → HasRunAlone form was now (end_after w hist) }
+    ensures so_far { (N : ℕ) (form : Form) (was now : Devices) (w : Seen N) (hist : History) → Stands form was now w hist → RunsSoFar w.room (N - 1) form was now }
+    ensures whole { (N : ℕ) (form : Form) (was now : Devices) (w : Seen N) (hist : History) → Stands form was now w hist → AreDone w → HasRun w.room (N - 1) form was now (end_after w hist) }
+    ensures alone { (N : ℕ) (form : Form) (was now : Devices) (w : Seen N) (hist : History) → Stands form was now w hist → AreDone w → HasRunAlone w.room (N - 1) form was now (end_after w hist) }
 {
     hosts_have_run();
     hosts_have_sent();
@@ -39,8 +40,8 @@ pub fn worlds_run()
 /// line without has none, and none is kept over a Banner: by the bytes that the host has scanned so far and the replies that it
 /// has got, which are those of the job and of the console.
 pub fn worlds_count_reports()
-    ensures each { (w : Seen) (hist : History) → Holds w hist → ReportsPerLine (lines_of (scanned_of hist.host)) (got_of hist.host) }
-    ensures told { (form : Form) (was now : Devices) (w : Seen) (hist : History) → Stands form was now w hist → CountsReports was now }
+    ensures each { (N : ℕ) (w : Seen N) (hist : History) → Holds w hist → ReportsPerLine (lines_of (scanned_of hist.host)) (got_of hist.host) }
+    ensures told { (N : ℕ) (form : Form) (was now : Devices) (w : Seen N) (hist : History) → Stands form was now w hist → CountsReports was now }
 {
     hosts_send_their_lines();
 }

@@ -136,15 +136,15 @@ const AT_ONCE: usize = 64;
 /// Lets the actors take some turns, in the order that is given, or fewer where all of them have ended then. Answers
 /// whether they have.
 #[inline(always)]
-fn take_turns<J: Source, C: Sink, S: Sink>(
-    world: &mut World,
+fn take_turns<J: Source, C: Sink, S: Sink, const RX: usize, const N: usize>(
+    world: &mut World<RX, N>,
     order: &mut Order,
     ended: &mut Ended,
     job: &mut J,
     console: &mut C,
     steps: &mut S,
 ) -> bool
-    ensures goes_on { (seed : ℕ) (before : Devices) (w : Seen) → IsInOrder seed order.old.state before (devices (J.state job.old) (C.state console.old) (S.state steps.old)) w world.old
+    ensures goes_on { (seed : ℕ) (before : Devices) (w : Seen N) → IsInOrder seed order.old.state before (devices (J.state job.old) (C.state console.old) (S.state steps.old)) w world.old
         → IsInOrder seed order.new.state before (devices (J.state job.new) (C.state console.new) (S.state steps.new)) w world.new }
     ensures ended { AreEnded ended.old world.old → AreEnded ended.new world.new }
     ensures all { result ≡ true → HaveAllEnded ended.new }
@@ -161,15 +161,15 @@ fn take_turns<J: Source, C: Sink, S: Sink>(
 
 /// Does the same where nothing moves, until a stop or a piece is there: turns of the pulse and of the recorder would change nothing, and
 /// are passed over.
-fn take_turns_of_two<J: Source, C: Sink>(
-    world: &mut World,
+fn take_turns_of_two<J: Source, C: Sink, const RX: usize, const N: usize>(
+    world: &mut World<RX, N>,
     order: &mut Order,
     ended: &mut Ended,
     job: &mut J,
     console: &mut C,
 ) -> bool
     requires rests { MotionRests world.old }
-    ensures goes_on { (seed : ℕ) (before : Devices) (w : Seen) (steps : SinkState) → IsInOrder seed order.old.state before (devices (J.state job.old) (C.state console.old) steps) w world.old
+    ensures goes_on { (seed : ℕ) (before : Devices) (w : Seen N) (steps : SinkState) → IsInOrder seed order.old.state before (devices (J.state job.old) (C.state console.old) steps) w world.old
         → IsInOrder seed order.new.state before (devices (J.state job.new) (C.state console.new) steps) w world.new }
     ensures ended { AreEnded ended.old world.old → AreEnded ended.new world.new }
     ensures all { result ≡ true → HaveAllEnded ended.new }
@@ -195,15 +195,15 @@ fn take_turns_of_two<J: Source, C: Sink>(
 
 /// Lets the actors take some turns, in the order that is given. Answers whether all of them have ended.
 #[inline(always)]
-fn take_next_turns<J: Source, C: Sink, S: Sink>(
-    world: &mut World,
+fn take_next_turns<J: Source, C: Sink, S: Sink, const RX: usize, const N: usize>(
+    world: &mut World<RX, N>,
     order: &mut Order,
     ended: &mut Ended,
     job: &mut J,
     console: &mut C,
     steps: &mut S,
 ) -> bool
-    ensures goes_on { (seed : ℕ) (before : Devices) (w : Seen) → IsInOrder seed order.old.state before (devices (J.state job.old) (C.state console.old) (S.state steps.old)) w world.old
+    ensures goes_on { (seed : ℕ) (before : Devices) (w : Seen N) → IsInOrder seed order.old.state before (devices (J.state job.old) (C.state console.old) (S.state steps.old)) w world.old
         → IsInOrder seed order.new.state before (devices (J.state job.new) (C.state console.new) (S.state steps.new)) w world.new }
     ensures ended { AreEnded ended.old world.old → AreEnded ended.new world.new }
     ensures all { result ≡ true → HaveAllEnded ended.new }
@@ -216,9 +216,9 @@ fn take_next_turns<J: Source, C: Sink, S: Sink>(
 }
 
 /// Lets the actors take turns, in the order that a seed gives, until each has answered Done.
-pub fn run_lockstep<R: Wait, J: Source, C: Sink, S: Sink>(
+pub fn run_lockstep<R: Wait, J: Source, C: Sink, S: Sink, const RX: usize, const N: usize>(
     rt: &R,
-    world: &mut World,
+    world: &mut World<RX, N>,
     seed: u64,
     job: &mut J,
     console: &mut C,

@@ -1,6 +1,6 @@
 //! A paced run: host and board have their turns first, and the motion goes on where both wait, so that its plan is kept full.
 
-ghost use Rattle.std.specs.Prelude.{◌≡◌, Bool, true, false, List};
+ghost use Rattle.std.specs.Prelude.{◌≡◌, Bool, true, false, List, ℕ};
 ghost use Rattle.outside.specs.declared.Actor.TheVariants as actors;
 ghost use Rattle.pulse_engine.specs.Steps.{AwaitsPiece};
 ghost use Rattle.actor_turns.specs.Worlds.{devices, Devices, Seen, History, HasRunOn, AreDone};
@@ -135,15 +135,15 @@ const AT_ONCE: usize = 64;
 
 /// Lets the actors take some turns at their pace, or fewer where all of them have ended then. Answers whether they have.
 #[inline(always)]
-fn take_paced_turns<J: Source, C: Sink, S: Sink>(
-    world: &mut World,
+fn take_paced_turns<J: Source, C: Sink, S: Sink, const RX: usize, const N: usize>(
+    world: &mut World<RX, N>,
     pace: &mut Pace,
     ended: &mut Ended,
     job: &mut J,
     console: &mut C,
     steps: &mut S,
 ) -> bool
-    ensures goes_on { (before : Devices) (w : Seen) → IsPaced pace.old before (devices (J.state job.old) (C.state console.old) (S.state steps.old)) w world.old
+    ensures goes_on { (before : Devices) (w : Seen N) → IsPaced pace.old before (devices (J.state job.old) (C.state console.old) (S.state steps.old)) w world.old
         → IsPaced pace.new before (devices (J.state job.new) (C.state console.new) (S.state steps.new)) w world.new }
     ensures ended { AreEnded ended.old world.old → AreEnded ended.new world.new }
     ensures all { result ≡ true → HaveAllEnded ended.new }
@@ -162,9 +162,9 @@ fn take_paced_turns<J: Source, C: Sink, S: Sink>(
 
 /// Lets the actors take turns at their pace until each has answered Done: host and board first, and the motion piece by piece
 /// where both wait, or where the board has found no byte four times, so that a sender that waits for the motion is served.
-pub fn run_paced<R: Wait, J: Source, C: Sink, S: Sink>(
+pub fn run_paced<R: Wait, J: Source, C: Sink, S: Sink, const RX: usize, const N: usize>(
     rt: &R,
-    world: &mut World,
+    world: &mut World<RX, N>,
     job: &mut J,
     console: &mut C,
     steps: &mut S,
@@ -186,6 +186,6 @@ pub fn run_paced<R: Wait, J: Source, C: Sink, S: Sink>(
 /// or the board had found no byte: whenever the turn is the pulse's, whether it begins a piece or goes on with one. So while host
 /// and board have something to do, no segment is begun beside those that the pulse has got.
 pub fn paced_motion_waits()
-    ensures waits { (schedule : List Actor) (pace : Pace) (w w' : Seen) (hist next : History) → PacedTurns schedule first_pace pace w w' hist next → pace.next ≡ Actor.Pulse → FoundNothing next }
-    ensures any { (before after : Devices) (w w' : Seen) → RunsPaced before after w w' → HasRunOn before after w w' }
+    ensures waits { (N : ℕ) (schedule : List Actor) (pace : Pace) (w w' : Seen N) (hist next : History) → PacedTurns schedule first_pace pace w w' hist next → pace.next ≡ Actor.Pulse → FoundNothing next }
+    ensures any { (N : ℕ) (before after : Devices) (w w' : Seen N) → RunsPaced before after w w' → HasRunOn before after w w' }
 {}

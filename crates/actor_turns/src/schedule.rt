@@ -6,8 +6,8 @@ use crate::World;
 use outside::{Actor, Sink, Source};
 
 /// The actors of a schedule take a turn each, in its order.
-pub fn run_schedule<J: Source, C: Sink, S: Sink>(
-    world: &mut World,
+pub fn run_schedule<J: Source, C: Sink, S: Sink, const RX: usize, const N: usize>(
+    world: &mut World<RX, N>,
     schedule: &[Actor],
     job: &mut J,
     console: &mut C,

@@ -1,6 +1,7 @@
 //! The actors of a run, and the lists between them.
 
-ghost use Rattle.std.specs.Prelude.{◌≡◌, ◌≢◌, ◌↔◌, ◌<◌, true, [], IfOk};
+ghost use Rattle.serial_ring.specs.Lists.{IsRoom};
+ghost use Rattle.std.specs.Prelude.{◌≡◌, ◌≢◌, ◌↔◌, ◌<◌, ◌≤◌, ◌-◌, true, [], IfOk};
 ghost use Rattle.outside.specs.Causes.{SourceState, SinkState};
 ghost use Rattle.stream_host.specs.Hosts.{HostRests};
 ghost use Rattle.controller.specs.Boards.{BoardRests};
@@ -21,34 +22,38 @@ use std::marker::Model;
 use step_record::{Form, Recorder};
 use stream_host::Host;
 
-/// The four actors of a run, and the lists between them. There is a history of all that was done.
+/// The four actors of a run, and the lists between them: the link has room for `RX` bytes, the plan for `N` - 1 blocks. There is a
+/// history of all that was done.
 #[derive(Drop)]
-pub struct World {
+pub struct World<const RX: usize, const N: usize> {
     host: Host,
-    board: Controller,
+    board: Controller<N>,
     pulse: Pulse,
     recorder: Recorder,
-    lists: Lists,
+    lists: Lists<RX>,
     waiting: Records,
 }
 
-impl Model for World {
+impl<const RX: usize, const N: usize> Model for World<RX, N> {
     ghost use Rattle.actor_turns.specs.Worlds.{Seen, HasHistory};
 
-    ghost Value = { Seen };
+    ghost Value = { Seen N };
 
-    ghost view = { λ w. record { host = w.host; board = w.board; pulse = w.pulse; recorder = w.recorder; lists = w.lists; waiting = w.waiting } };
+    ghost view = { λ w. record { room = RX; host = w.host; board = w.board; pulse = w.pulse; recorder = w.recorder; lists = w.lists; waiting = w.waiting } };
 
-    ghost invariant = { λ w. HasHistory (record { host = w.host; board = w.board; pulse = w.pulse; recorder = w.recorder; lists = w.lists; waiting = w.waiting }) };
+    ghost invariant = { λ w. HasHistory (record { room = RX; host = w.host; board = w.board; pulse = w.pulse; recorder = w.recorder; lists = w.lists; waiting = w.waiting }) };
 }
 
-impl World {
+impl<const RX: usize, const N: usize> World<RX, N> {
     /// A world in which nothing was done, whose recorder has a form. All room is taken here.
-    pub fn new(alloc: Global, form: Form) -> Result<World, OutOfMemory>
-        ensures { IfOk result (λ world. (now : Devices) → Stands form now now world no_history) }
+    pub fn new(alloc: Global, form: Form) -> Result<World<RX, N>, OutOfMemory>
+        requires room { IsRoom RX }
+        requires slots { (2 ≤ N) × (N ≤ 64) }
+        ensures fresh { IfOk result (λ world. (now : Devices) → Stands form now now world no_history) }
+        ensures room { IfOk result (λ world. world.room ≡ RX) }
     {
         Ok(World {
-            host: Host::new(),
+            host: Host::new(RX as u8),
             board: Controller::new(),
             pulse: Pulse::new(),
             recorder: Recorder::new(form),
@@ -184,8 +189,8 @@ impl World {
     /// reports as it has `?`.
     pub fn end(&self) -> RunEnd
         ensures tells { (hist : History) → Holds self.now hist → result ≡ end_after self.now hist }
-        ensures whole { (form : Form) (was now : Devices) (hist : History) → Stands form was now self.now hist → AreDone self.now → HasRun form was now result }
-        ensures alone { (form : Form) (was now : Devices) (hist : History) → Stands form was now self.now hist → AreDone self.now → HasRunAlone form was now result }
+        ensures whole { (form : Form) (was now : Devices) (hist : History) → Stands form was now self.now hist → AreDone self.now → HasRun RX (N - 1) form was now result }
+        ensures alone { (form : Form) (was now : Devices) (hist : History) → Stands form was now self.now hist → AreDone self.now → HasRunAlone RX (N - 1) form was now result }
     {
         worlds_run();
         RunEnd {

@@ -171,7 +171,7 @@ found_seed rows = IsGood (codes "seed") (Some (codes "lockstep")) None seeds fal
 
 -- the arguments of `stream`, as clap builds them
 abbrev stream_rules : List Rule
-stream_rules = argument (codes "seed") (Some (codes "lockstep")) None seeds false ∷ flag (codes "paced") ∷ flag (codes "compact") ∷ help ∷ []
+stream_rules = argument (codes "seed") (Some (codes "lockstep")) None seeds false ∷ flag (codes "paced") ∷ flag (codes "wide") ∷ flag (codes "compact") ∷ help ∷ []
 
 abbrev pub given_moves : Text → Row
 given_moves v = given (codes "moves") None (Some 1) numbers true v
@@ -194,8 +194,11 @@ seed_found s words whole_level = finds found_seed stream_rules (
   (
     flag_by_use (codes "seed") (Some (codes "lockstep")) None seeds false (codes "paced") refl,
     (
-      flag_by_use (codes "seed") (Some (codes "lockstep")) None seeds false (codes "compact") refl,
-      (help_by_use (codes "seed") (Some (codes "lockstep")) None seeds false, tt),
+      flag_by_use (codes "seed") (Some (codes "lockstep")) None seeds false (codes "wide") refl,
+      (
+        flag_by_use (codes "seed") (Some (codes "lockstep")) None seeds false (codes "compact") refl,
+        (help_by_use (codes "seed") (Some (codes "lockstep")) None seeds false, tt),
+      ),
     ),
   ),
 ) (
@@ -203,8 +206,11 @@ seed_found s words whole_level = finds found_seed stream_rules (
   (
     flag_by_default (codes "seed") (Some (codes "lockstep")) None seeds false (codes "paced") refl,
     (
-      flag_by_default (codes "seed") (Some (codes "lockstep")) None seeds false (codes "compact") refl,
-      (help_by_default (codes "seed") (Some (codes "lockstep")) None seeds false, tt),
+      flag_by_default (codes "seed") (Some (codes "lockstep")) None seeds false (codes "wide") refl,
+      (
+        flag_by_default (codes "seed") (Some (codes "lockstep")) None seeds false (codes "compact") refl,
+        (help_by_default (codes "seed") (Some (codes "lockstep")) None seeds false, tt),
+      ),
     ),
   ),
 ) tt s words whole_level

@@ -1,5 +1,5 @@
 -- The numbers that the words give.
-use Rattle.std.proofs.Common.{◌≡◌, ◌∙◌, ◌⊎◌, ◌≤◌, ◌==◌, cond, ℕ, Bool, true, false, List, [], ◌∷◌, Option, Some, None, refl, sym, ap, ap₂, subst, inl, inr, arith, codes}
+use Rattle.std.proofs.Common.{◌≡◌, ◌∙◌, ◌⊎◌, ◌≤◌, ◌==◌, cond, ℕ, Bool, true, false, List, [], ◌∷◌, Option, Some, None, refl, sym, ap, subst, inl, inr, arith, codes}
 use Rattle.std.proofs.lemmas.Int.{ints}
 use Rattle.std.specs.Prelude.{Ok, Err, Result, drop, find, option_map, option_and_then, unwrap_or, IfSome, IsSomeAnd}
 use Rattle.std.specs.Option.{option_map_or}
@@ -23,9 +23,9 @@ use Rattle.clap.proofs.ValueTestLemmas.{accepts-Accepts}
 use Rattle.clap.proofs.CallerReads.{signed_reads}
 use Rattle.std.specs.Box.{box_value}
 use Rattle.std.specs.Prelude.{Box}
-use Rattle.command_line.specs.Command.{Asks, Refuses, command_line, form_by, is_of_words, has_flag, number_of, order_in}
+use Rattle.command_line.specs.Command.{Asks, Refuses, buffers_by, command_line, form_by, is_of_words, has_flag, number_of, options_in, order_in}
 use Rattle.command_line.specs.declared.Order.{Order}
-use Rattle.step_record.specs.declared.forms.Form.{Form}
+use Rattle.command_line.specs.declared.StreamOptions.{StreamOptions}
 use Rattle.command_line.specs.declared.Task.{Task}
 use Rattle.command_line.specs.declared.Task.TheVariants.{Stream, Demo}
 use Rattle.command_line.proofs.CommandLine.{Entered, enters, found_moves, found_seed, has_none, numbers, seeds}
@@ -126,27 +126,27 @@ moves_text v rows found = ap (option_and_then row_text) found.1
 -- ---- words ask for one task at most
 
 -- what is asked of `stream`
-abbrev AsksStream : Order → Form → Option (Text × List Row) → Type 0
-AsksStream order form o = IsSomeAnd o (λ s. (s.0 ≡ codes "stream") × (Some order ≡ order_in s.1) × (form ≡ form_by (has_flag (codes "compact") s.1)))
+abbrev AsksStream : StreamOptions → Option (Text × List Row) → Type 0
+AsksStream options o = IsSomeAnd o (λ s. (s.0 ≡ codes "stream") × (Some options ≡ options_in s.1))
 
-one_stream : (order other : Order) (form another : Form) (o : Option (Text × List Row)) → AsksStream order form o → AsksStream other another o → (order ≡ other) × (form ≡ another)
-one_stream order other form another None h k = absurd h
-one_stream order other form another (Some s) h k = (ap (λ (o : Option Order). unwrap_or o order) (h.1 ∙ sym k.1), h.2 ∙ sym k.2)
+one_stream : (options other : StreamOptions) (o : Option (Text × List Row)) → AsksStream options o → AsksStream other o → options ≡ other
+one_stream options other None h k = absurd h
+one_stream options other (Some s) h k = ap (λ (o : Option StreamOptions). unwrap_or o options) (h.1 ∙ sym k.1)
 
 one_demo : (moves other : ℕ) (o : Option (Text × List Row)) → IsSomeAnd o (λ s. (s.0 ≡ codes "demo") × (Some moves ≡ option_map number_of (one_of (codes "moves") s.1)) × (1 ≤ moves) × (moves ≤ 100000))
     → IsSomeAnd o (λ s. (s.0 ≡ codes "demo") × (Some other ≡ option_map number_of (one_of (codes "moves") s.1)) × (1 ≤ other) × (other ≤ 100000)) → moves ≡ other
 one_demo moves other None h k = absurd h
 one_demo moves other (Some s) h k = ap (λ (o : Option ℕ). unwrap_or o moves) (h.1 ∙ sym k.1)
 
-not_both : (order : Order) (form : Form) (moves : ℕ) (o : Option (Text × List Row)) → AsksStream order form o
+not_both : (options : StreamOptions) (moves : ℕ) (o : Option (Text × List Row)) → AsksStream options o
     → IsSomeAnd o (λ s. (s.0 ≡ codes "demo") × (Some moves ≡ option_map number_of (one_of (codes "moves") s.1)) × (1 ≤ moves) × (moves ≤ 100000)) → ⊥
-not_both order form moves None h k = absurd h
-not_both order form moves (Some s) h k = let e : codes "stream" ≡ codes "demo" = sym h.0 ∙ k.0 in cc
+not_both options moves None h k = absurd h
+not_both options moves (Some s) h k = let e : codes "stream" ≡ codes "demo" = sym h.0 ∙ k.0 in cc
 
 pub one_task : (words : List Text) (a b : Task) → Asks a words → Asks b words → a ≡ b
-one_task words (Stream s f) (Stream t g) h k = let are = one_stream s t f g (subcommand_of command_line words) h k in ap₂ (λ (o : Order) (form : Form). Stream o form) are.0 are.1
-one_task words (Stream s f) (Demo n) h k = absurd (not_both s f n (subcommand_of command_line words) h k)
-one_task words (Demo m) (Stream s f) h k = absurd (not_both s f m (subcommand_of command_line words) k h)
+one_task words (Stream s) (Stream t) h k = ap (λ (o : StreamOptions). Stream o) (one_stream s t (subcommand_of command_line words) h k)
+one_task words (Stream s) (Demo n) h k = absurd (not_both s n (subcommand_of command_line words) h k)
+one_task words (Demo m) (Stream s) h k = absurd (not_both s m (subcommand_of command_line words) k h)
 one_task words (Demo m) (Demo n) h k = ap (λ (i : ℕ). Demo i) (one_demo m n (subcommand_of command_line words) h k)
 
 -- ---- words that are not refused ask for one
@@ -178,12 +178,12 @@ moves_lie v ok = go (starts_with_minus v) refl
 by_clap : (words : List Text) → ¬ Refuses words → Entered words → (task : Task) × Asks task words
 by_clap words h (Entered.a_stream rows is good) = go (order_in rows) refl
   where
-    form : Form
-    form = form_by (has_flag (codes "compact") rows)
+    options_by : Order → StreamOptions
+    options_by order = record { order = order; buffers = buffers_by (has_flag (codes "wide") rows); form = form_by (has_flag (codes "compact") rows) }
 
     go : (o : Option Order) → o ≡ order_in rows → (task : Task) × Asks task words
     go None none = absurd (h (inr (subst (λ (found : Option (Text × List Row)). IsSomeAnd found (λ s. (s.0 ≡ codes "stream") × (order_in s.1 ≡ None))) (sym is) (refl, sym none))))
-    go (Some order) one = (Stream order form, subst (AsksStream order form) (sym is) (refl, one, refl))
+    go (Some order) one = (Stream (options_by order), subst (AsksStream (options_by order)) (sym is) (refl, ap (option_map options_by) one))
 by_clap words h (Entered.a_demo v rows is ok) =
     let n = number_of (without_minus v) in
     let lies = moves_lie v ok.0 in (

@@ -13,8 +13,11 @@ use Rattle.clap.specs.declared.builder.value_parser.ValueParser.TheVariants.{Sig
 use Rattle.clap.specs.Faults.{fault_of}
 use Rattle.clap.specs.declared.error.kind.ErrorKind.{ErrorKind}
 use Rattle.clap.specs.declared.error.kind.ErrorKind.TheVariants as kind
+use Rattle.command_line.specs.declared.Buffers.{Buffers}
+use Rattle.command_line.specs.declared.Buffers.TheVariants.{Standard, Wide}
 use Rattle.command_line.specs.declared.Order.{Order}
 use Rattle.command_line.specs.declared.Order.TheVariants.{Threads, Lockstep, Paced}
+use Rattle.command_line.specs.declared.StreamOptions.{StreamOptions}
 use Rattle.command_line.specs.declared.Task.{Task}
 use Rattle.command_line.specs.declared.Task.TheVariants.{Stream, Demo}
 use Rattle.command_line.specs.declared.WordsFault.{WordsFault}
@@ -28,12 +31,16 @@ grbl = on_top (λ s. record s { no_binary_name = true; subcommand_required = tru
 abbrev pub flag_rule : Text → Rule
 flag_rule name = record (new_rule name) { long = Some name; action = Some SetTrue }
 
--- `stream` may be given `--lockstep` with a number below 2^64, `--paced` and `--compact`
-abbrev pub stream_command : App
-stream_command = with_rule (with_rule (with_rule (new_app (codes "stream")) (record (new_rule (codes "seed")) {
+-- `stream` may be given `--lockstep` with a number below 2^64, and `--paced`
+abbrev pub ordered_stream : App
+ordered_stream = with_rule (with_rule (new_app (codes "stream")) (record (new_rule (codes "seed")) {
   long = Some (codes "lockstep");
   parser = Some (Unsigned 0 18446744073709551615);
-})) (flag_rule (codes "paced"))) (flag_rule (codes "compact"))
+})) (flag_rule (codes "paced"))
+
+-- it may also be given `--wide` and `--compact`
+abbrev pub stream_command : App
+stream_command = with_rule (with_rule ordered_stream (flag_rule (codes "wide"))) (flag_rule (codes "compact"))
 
 -- `demo` takes a whole number from 1 to 100,000
 abbrev pub demo_command : App
@@ -73,10 +80,19 @@ has_flag name found = is_of_words (option_and_then (λ r. r.source) (find (λ r.
 abbrev pub order_in : List Row → Option Order
 order_in found = order_by (has_flag (codes "paced") found) (option_map number_of (one_of (codes "seed") found))
 
+-- the buffers, by whether they are wide
+abbrev pub buffers_by : Bool → Buffers
+buffers_by true = Wide
+buffers_by false = Standard
+
 -- the form of the steps, by whether they are compact
 abbrev pub form_by : Bool → Form
 form_by true = Two
 form_by false = One
+
+-- what was found for `stream`, if it has an order
+abbrev pub options_in : List Row → Option StreamOptions
+options_in found = option_map (λ order. record { order = order; buffers = buffers_by (has_flag (codes "wide") found); form = form_by (has_flag (codes "compact") found) }) (order_in found)
 
 -- the words enter `stream`, and give it two orders of turns
 abbrev pub AsksTwoOrders : List Text → Type 0
@@ -86,10 +102,9 @@ AsksTwoOrders words = IsSomeAnd (subcommand_of command_line words) (λ s. (s.0 �
 abbrev pub Refuses : List Text → Type 0
 Refuses words = (fault_of command_line words ≢ []) ⊎ AsksTwoOrders words
 
--- the words enter the subcommand that stands for a task, and give it the order and the form, or the number, of the task
+-- the words enter the subcommand that stands for a task, and give it the options, or the number, of the task
 abbrev pub Asks : Task → List Text → Type 0
-Asks (Stream order form) words = IsSomeAnd (subcommand_of command_line words)
-    (λ s. (s.0 ≡ codes "stream") × (Some order ≡ order_in s.1) × (form ≡ form_by (has_flag (codes "compact") s.1)))
+Asks (Stream options) words = IsSomeAnd (subcommand_of command_line words) (λ s. (s.0 ≡ codes "stream") × (Some options ≡ options_in s.1))
 Asks (Demo moves) words = IsSomeAnd (subcommand_of command_line words)
     (λ s. (s.0 ≡ codes "demo") × (Some moves ≡ option_map number_of (one_of (codes "moves") s.1)) × (1 ≤ moves) × (moves ≤ 100000))
 

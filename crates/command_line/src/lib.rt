@@ -8,7 +8,7 @@ ghost use Rattle.clap.specs.Faults.{fault_of};
 ghost use Rattle.clap.specs.Simple.{app_of, subcommand_of, subcommand_rows_of};
 ghost use Rattle.clap.specs.declared.builder.command.Command.TheViews.{out-Command};
 ghost use Rattle.clap.specs.Values.{kind_of};
-ghost use Rattle.command_line.specs.Command.{command_line, stream_command, demo_command, flag_rule, is_of_words, has_flag, order_by, form_by, Refuses, IsNamed, Asks, fault_by_kind};
+ghost use Rattle.command_line.specs.Command.{command_line, ordered_stream, stream_command, demo_command, flag_rule, is_of_words, has_flag, order_by, buffers_by, form_by, Refuses, IsNamed, Asks, fault_by_kind};
 
 use clap::error::ErrorKind;
 use clap::parser::ValueSource;
@@ -27,11 +27,31 @@ pub enum Order {
     Paced,
 }
 
+/// How much a stream keeps on its way to the motion.
+#[derive(Clone, Copy, Debug, PartialEq, Eq)]
+pub enum Buffers {
+    /// The link has room for 128 bytes, and the plan for 15 blocks, as on a Grbl.
+    Standard,
+    /// The link has room for 255 bytes, and the plan for 35 blocks.
+    Wide,
+}
+
+/// How a job is streamed.
+#[derive(Clone, Copy, Debug, PartialEq, Eq)]
+pub struct StreamOptions {
+    /// In what order the four actors take their turns.
+    pub order: Order,
+    /// How much the link and the plan hold.
+    pub buffers: Buffers,
+    /// The form of the steps.
+    pub form: Form,
+}
+
 /// What the words ask for.
 #[derive(Clone, Copy, Debug, PartialEq, Eq)]
 pub enum Task {
-    /// A job is streamed, in this order of turns, with steps of this form.
-    Stream(Order, Form),
+    /// A job is streamed.
+    Stream(StreamOptions),
     /// The generated job of so many moves is run.
     Demo(u32),
 }
@@ -74,9 +94,9 @@ fn flag<'a>(alloc: Global, name: &'a str) -> Arg<'a>
     Arg::new(alloc, name).long(name).action(ArgAction::SetTrue)
 }
 
-/// `stream`, as clap takes it: the seed is any number that 64 bits hold; `--paced` and `--compact` are flags.
-fn stream_command<'a>(alloc: Global) -> Result<Command<'a>, AllocError>
-    ensures shape { IfOk result (λ c. app_of c ≡ stream_command) }
+/// `stream` with what gives the order of turns: the seed is any number that 64 bits hold, and `--paced` is a flag.
+fn ordered_stream<'a>(alloc: Global) -> Result<Command<'a>, AllocError>
+    ensures shape { IfOk result (λ c. app_of c ≡ ordered_stream) }
     ensures local { IfOk result (λ c. (out-Command c).has_globals ≡ false) }
 {
     let seed = Arg::new(alloc, "seed")
@@ -84,7 +104,16 @@ fn stream_command<'a>(alloc: Global) -> Result<Command<'a>, AllocError>
         .value_parser(value_parser!(u64));
     Command::new(alloc, "stream")
         .arg(seed)?
-        .arg(flag(alloc, "paced"))?
+        .arg(flag(alloc, "paced"))
+}
+
+/// `stream`, as clap takes it: `--wide` and `--compact` are flags.
+fn stream_command<'a>(alloc: Global) -> Result<Command<'a>, AllocError>
+    ensures shape { IfOk result (λ c. app_of c ≡ stream_command) }
+    ensures local { IfOk result (λ c. (out-Command c).has_globals ≡ false) }
+{
+    ordered_stream(alloc)?
+        .arg(flag(alloc, "wide"))?
         .arg(flag(alloc, "compact"))
 }
 
@@ -149,6 +178,17 @@ fn order_of(is_paced: bool, seed: Option<u64>) -> Option<Order>
     }
 }
 
+/// The buffers that a flag stands for.
+fn buffers_of(is_wide: bool) -> Buffers
+    ensures { result ≡ buffers_by is_wide }
+{
+    if is_wide {
+        Buffers::Wide
+    } else {
+        Buffers::Standard
+    }
+}
+
 /// The form of steps that a flag stands for.
 fn form_of(is_compact: bool) -> Form
     ensures { result ≡ form_by is_compact }
@@ -178,7 +218,11 @@ fn read_by_clap(alloc: Global, words: &[&str]) -> Result<Task, WordsFault>
         let Some(order) = order_of(has_flag(given, "paced"), given.get_one("seed")) else {
             return Err(WordsFault::Refused);
         };
-        return Ok(Task::Stream(order, form_of(has_flag(given, "compact"))));
+        return Ok(Task::Stream(StreamOptions {
+            order,
+            buffers: buffers_of(has_flag(given, "wide")),
+            form: form_of(has_flag(given, "compact")),
+        }));
     }
     match given.get_one("moves") {
         Some(moves) => Ok(Task::Demo(moves)),
@@ -203,32 +247,38 @@ pub fn read_words(alloc: Global, words: &[&str]) -> Result<Task, WordsFault>
 
 /// What the definition of the command line means. Accepted words begin with `stream` or `demo`, and ask for a task; words ask
 /// for one at most. A seed is any number that 64 bits hold, after `--lockstep` or `--lockstep=`, and is given once at most, and
-/// not with `--paced`. `--paced` and `--compact` are given once at most, before or after other options. A number of moves is
+/// not with `--paced`. `--paced`, `--wide` and `--compact` are given once at most each, before or after other options. A number of moves is
 /// given, once, and is at least 1 and at most 100,000. A request for help is a fault as well.
 pub fn accepted_words()
     ensures begins { (words : List Text) → ¬ Refuses words → IsNamed words }
     ensures one { (words : List Text) (a b : Task) → Asks a words → Asks b words → a ≡ b }
     ensures some { (words : List Text) → ¬ Refuses words → (task : Task) × Asks task words }
-    ensures stream { Asks (Task.Stream Order.Threads Form.One) (codes "stream" ∷ []) × (¬ Refuses (codes "stream" ∷ [])) }
+    ensures stream { Asks (Task.Stream (record { order = Order.Threads; buffers = Buffers.Standard; form = Form.One })) (codes "stream" ∷ []) × (¬ Refuses (codes "stream" ∷ [])) }
     ensures no_more { fault_of command_line (codes "stream" ∷ codes "--" ∷ []) ≡ [] }
-    ensures seed { Asks (Task.Stream (Order.Lockstep 7) Form.One) (codes "stream" ∷ codes "--lockstep" ∷ codes "7" ∷ [])
+    ensures seed { Asks (Task.Stream (record { order = (Order.Lockstep 7); buffers = Buffers.Standard; form = Form.One })) (codes "stream" ∷ codes "--lockstep" ∷ codes "7" ∷ [])
         × (¬ Refuses (codes "stream" ∷ codes "--lockstep" ∷ codes "7" ∷ [])) }
-    ensures largest_seed { Asks (Task.Stream (Order.Lockstep 18446744073709551615) Form.One) (codes "stream" ∷ codes "--lockstep=18446744073709551615" ∷ [])
+    ensures largest_seed { Asks (Task.Stream (record { order = (Order.Lockstep 18446744073709551615); buffers = Buffers.Standard; form = Form.One })) (codes "stream" ∷ codes "--lockstep=18446744073709551615" ∷ [])
         × (¬ Refuses (codes "stream" ∷ codes "--lockstep=18446744073709551615" ∷ [])) }
-    ensures paced { Asks (Task.Stream Order.Paced Form.One) (codes "stream" ∷ codes "--paced" ∷ []) × (¬ Refuses (codes "stream" ∷ codes "--paced" ∷ [])) }
-    ensures compact { Asks (Task.Stream Order.Threads Form.Two) (codes "stream" ∷ codes "--compact" ∷ []) × (¬ Refuses (codes "stream" ∷ codes "--compact" ∷ [])) }
-    ensures compact_by_seed { Asks (Task.Stream (Order.Lockstep 7) Form.Two) (codes "stream" ∷ codes "--compact" ∷ codes "--lockstep" ∷ codes "7" ∷ [])
+    ensures paced { Asks (Task.Stream (record { order = Order.Paced; buffers = Buffers.Standard; form = Form.One })) (codes "stream" ∷ codes "--paced" ∷ []) × (¬ Refuses (codes "stream" ∷ codes "--paced" ∷ [])) }
+    ensures compact { Asks (Task.Stream (record { order = Order.Threads; buffers = Buffers.Standard; form = Form.Two })) (codes "stream" ∷ codes "--compact" ∷ []) × (¬ Refuses (codes "stream" ∷ codes "--compact" ∷ [])) }
+    ensures compact_by_seed { Asks (Task.Stream (record { order = (Order.Lockstep 7); buffers = Buffers.Standard; form = Form.Two })) (codes "stream" ∷ codes "--compact" ∷ codes "--lockstep" ∷ codes "7" ∷ [])
         × (¬ Refuses (codes "stream" ∷ codes "--compact" ∷ codes "--lockstep" ∷ codes "7" ∷ [])) }
-    ensures seed_and_compact { Asks (Task.Stream (Order.Lockstep 7) Form.Two) (codes "stream" ∷ codes "--lockstep=7" ∷ codes "--compact" ∷ [])
+    ensures seed_and_compact { Asks (Task.Stream (record { order = (Order.Lockstep 7); buffers = Buffers.Standard; form = Form.Two })) (codes "stream" ∷ codes "--lockstep=7" ∷ codes "--compact" ∷ [])
         × (¬ Refuses (codes "stream" ∷ codes "--lockstep=7" ∷ codes "--compact" ∷ [])) }
-    ensures compact_and_paced { Asks (Task.Stream Order.Paced Form.Two) (codes "stream" ∷ codes "--compact" ∷ codes "--paced" ∷ [])
+    ensures compact_and_paced { Asks (Task.Stream (record { order = Order.Paced; buffers = Buffers.Standard; form = Form.Two })) (codes "stream" ∷ codes "--compact" ∷ codes "--paced" ∷ [])
         × (¬ Refuses (codes "stream" ∷ codes "--compact" ∷ codes "--paced" ∷ [])) }
+    ensures wide { Asks (Task.Stream (record { order = Order.Threads; buffers = Buffers.Wide; form = Form.One })) (codes "stream" ∷ codes "--wide" ∷ []) × (¬ Refuses (codes "stream" ∷ codes "--wide" ∷ [])) }
+    ensures wide_by_seed { Asks (Task.Stream (record { order = (Order.Lockstep 7); buffers = Buffers.Wide; form = Form.Two })) (codes "stream" ∷ codes "--lockstep=7" ∷ codes "--wide" ∷ codes "--compact" ∷ [])
+        × (¬ Refuses (codes "stream" ∷ codes "--lockstep=7" ∷ codes "--wide" ∷ codes "--compact" ∷ [])) }
     ensures paced_by_seed { Refuses (codes "stream" ∷ codes "--paced" ∷ codes "--lockstep=7" ∷ []) }
     ensures seed_and_paced { Refuses (codes "stream" ∷ codes "--lockstep=7" ∷ codes "--paced" ∷ []) }
     ensures seed_too_large { fault_of command_line (codes "stream" ∷ codes "--lockstep" ∷ codes "18446744073709551616" ∷ []) ≡ ErrorKind.ValueValidation ∷ [] }
     ensures no_seed { fault_of command_line (codes "stream" ∷ codes "--lockstep" ∷ []) ≡ ErrorKind.InvalidValue ∷ [] }
     ensures two_paces { fault_of command_line (codes "stream" ∷ codes "--paced" ∷ codes "--paced" ∷ []) ≡ ErrorKind.ArgumentConflict ∷ [] }
     ensures twice_compact { fault_of command_line (codes "stream" ∷ codes "--compact" ∷ codes "--compact" ∷ []) ≡ ErrorKind.ArgumentConflict ∷ [] }
+    ensures twice_wide { fault_of command_line (codes "stream" ∷ codes "--wide" ∷ codes "--wide" ∷ []) ≡ ErrorKind.ArgumentConflict ∷ [] }
+    ensures wide_has_no_value { fault_of command_line (codes "stream" ∷ codes "--wide=255" ∷ []) ≡ ErrorKind.TooManyValues ∷ [] }
+    ensures wide_demo { fault_of command_line (codes "demo" ∷ codes "3" ∷ codes "--wide" ∷ []) ≡ ErrorKind.UnknownArgument ∷ [] }
     ensures compact_is_no_seed { fault_of command_line (codes "stream" ∷ codes "--lockstep" ∷ codes "--compact" ∷ []) ≡ ErrorKind.InvalidValue ∷ [] }
     ensures compact_has_no_value { fault_of command_line (codes "stream" ∷ codes "--compact=2" ∷ []) ≡ ErrorKind.TooManyValues ∷ [] }
     ensures compact_demo { fault_of command_line (codes "demo" ∷ codes "3" ∷ codes "--compact" ∷ []) ≡ ErrorKind.UnknownArgument ∷ [] }

@@ -1,16 +1,30 @@
 //! Words, and what they ask for.
 
-use super::{Order, Task, WordsFault, read_words};
+use super::{Buffers, Order, StreamOptions, Task, WordsFault, read_words};
 use step_record::Form;
+
+/// A stream with buffers as on a Grbl.
+fn stream_of(order: Order, form: Form) -> Task {
+    Task::Stream(StreamOptions {
+        order,
+        buffers: Buffers::Standard,
+        form,
+    })
+}
 
 #[test]
 fn words_ask_for_a_task_or_are_refused(rt: HostRuntime) {
-    let stream = Ok(Task::Stream(Order::Threads, Form::One));
-    let paced = Ok(Task::Stream(Order::Paced, Form::One));
-    let compact = Ok(Task::Stream(Order::Threads, Form::Two));
-    let seven = Ok(Task::Stream(Order::Lockstep(7), Form::Two));
+    let stream = Ok(stream_of(Order::Threads, Form::One));
+    let paced = Ok(stream_of(Order::Paced, Form::One));
+    let compact = Ok(stream_of(Order::Threads, Form::Two));
+    let seven = Ok(stream_of(Order::Lockstep(7), Form::Two));
+    let wide = Ok(Task::Stream(StreamOptions {
+        order: Order::Threads,
+        buffers: Buffers::Wide,
+        form: Form::Two,
+    }));
     let refused = Err(WordsFault::Refused);
-    let rows: [(&[&str], Result<Task, WordsFault>); 52] = [
+    let rows: [(&[&str], Result<Task, WordsFault>); 57] = [
         (&[], refused),
         (&["stream"], stream),
         (&["stream", "--"], stream),
@@ -19,15 +33,15 @@ fn words_ask_for_a_task_or_are_refused(rt: HostRuntime) {
         (&["stream", "--help"], refused),
         (
             &["stream", "--lockstep", "0"],
-            Ok(Task::Stream(Order::Lockstep(0), Form::One)),
+            Ok(stream_of(Order::Lockstep(0), Form::One)),
         ),
         (
             &["stream", "--lockstep=+7"],
-            Ok(Task::Stream(Order::Lockstep(7), Form::One)),
+            Ok(stream_of(Order::Lockstep(7), Form::One)),
         ),
         (
             &["stream", "--lockstep", "18446744073709551615", "--"],
-            Ok(Task::Stream(Order::Lockstep(u64::MAX), Form::One)),
+            Ok(stream_of(Order::Lockstep(u64::MAX), Form::One)),
         ),
         (&["stream", "--lockstep", "18446744073709551616"], refused),
         (&["stream", "--lockstep", "-1"], refused),
@@ -55,13 +69,18 @@ fn words_ask_for_a_task_or_are_refused(rt: HostRuntime) {
         (&["stream", "--lockstep", "--compact", "7"], refused),
         (
             &["stream", "--paced", "--compact"],
-            Ok(Task::Stream(Order::Paced, Form::Two)),
+            Ok(stream_of(Order::Paced, Form::Two)),
         ),
         (
             &["stream", "--compact", "--paced"],
-            Ok(Task::Stream(Order::Paced, Form::Two)),
+            Ok(stream_of(Order::Paced, Form::Two)),
         ),
         (&["stream", "--compact", "--paced", "--lockstep=7"], refused),
+        (&["stream", "--wide", "--compact"], wide),
+        (&["stream", "--compact", "--wide"], wide),
+        (&["stream", "--wide", "--wide"], refused),
+        (&["stream", "--wide=255"], refused),
+        (&["demo", "3", "--wide"], refused),
         (&["--compact", "stream"], refused),
         (&["demo", "3", "--compact"], refused),
         (&["demo", "1"], Ok(Task::Demo(1))),

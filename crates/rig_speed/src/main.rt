@@ -9,7 +9,7 @@ mod devices;
 
 use devices::{Count, Repeats};
 use outside::{OpenGate, OutOfMemory};
-use run_core::{Form, Rig, RunEnd, World, run_lockstep, run_threads};
+use run_core::{Form, PLAN_SLOTS, RECEIVE_ROOM, Rig, RunEnd, World, run_lockstep, run_threads};
 use std::alloc::Global;
 use std::process::ExitCode;
 use std::sync::Wait;
@@ -43,7 +43,7 @@ fn in_threads<R: Threads + Wait + Sync>(
     console: &mut Count,
     steps: &mut Count,
 ) -> Result<RunEnd, OutOfMemory> {
-    let mut rig = Rig::new(alloc, Form::One)?;
+    let mut rig = Rig::<RECEIVE_ROOM, PLAN_SLOTS>::new(alloc, Form::One)?;
     let end = run_threads(rt, &mut rig, job, console, steps, &OpenGate);
     rig.join();
     Ok(end)
@@ -57,7 +57,7 @@ fn in_lockstep<R: Wait>(
     console: &mut Count,
     steps: &mut Count,
 ) -> Result<RunEnd, OutOfMemory> {
-    let mut world = World::new(alloc, Form::One)?;
+    let mut world = World::<RECEIVE_ROOM, PLAN_SLOTS>::new(alloc, Form::One)?;
     run_lockstep(rt, &mut world, 5, job, console, steps);
     Ok(world.end())
 }

@@ -1,14 +1,13 @@
 -- Pieces of 20 ticks, one behind another.
-use Rattle.std.proofs.Common.{◌≡◌, ℕ, ◌+◌, ◌*◌, ◌^◌, ◌<◌, List, [], ◌∷◌, length, false, refl, ◌∙◌, inl, rules, lit≤, lit<, arith}
+use Rattle.std.proofs.Common.{◌≡◌, ℕ, ◌*◌, ◌^◌, ◌<◌, List, [], ◌∷◌, length, false, refl, ◌∙◌, inl, rules, lit≤, lit<, arith}
 use Rattle.step_line.specs.declared.Piece.{Piece}
 use Rattle.step_line.specs.declared.Piece.TheVariants as pieces
 use Rattle.step_line.specs.Counting.{events_of}
 use Rattle.step_line.specs.Pieces.{IsTraceable, JoinsOn}
 use Rattle.step_line.specs.Ordering.{has_ended}
 use Rattle.step_line.specs.Finishing.{tick_count, ticks_together}
-use Rattle.step_line.proofs.Finished.{together}
 use Rattle.motion_ring.specs.declared.lists.Sent.{Sent}
-use Rattle.motion_ring.specs.Sides.{MayPublish, published_in, ticks_at, ticks_published, with_piece}
+use Rattle.motion_ring.specs.Sides.{MayPublish, published_in, ticks_at, ticks_published}
 use Rattle.motion_ring.proofs.Ticks.{segment_ticks}
 use Rattle.ring_speed.specs.Moves.{twenty_events}
 
@@ -37,10 +36,3 @@ may_publish s n has few =
     let ticks = has.ticks in
     let count = has.pieces in
     record { running = has.running; going = has.going; follows = (is_traceable, joins_on s.since); few = (let t = twenty_ticks in omega (arith, t, ticks, few)); room = omega (arith, count, few) }
-
-pub one_more : (s : Sent) (n : ℕ) → HasSent s n → HasSent (with_piece s (pieces.Segment twenty_events)) (n + 1)
-one_more s n has =
-    let ticks = has.ticks in
-    let count = has.pieces in
-    let e = together (pieces.Segment twenty_events) s.since in
-    record { running = has.running; going = refl; ticks = (let t = twenty_ticks in omega (arith, t, ticks, e)); pieces = omega (arith, count) }

@@ -13,7 +13,9 @@
 pub use actor_turns::{
     Order, World, run_in_lockstep, run_lockstep, run_schedule, worlds_count_reports, worlds_run,
 };
+pub use controller::PLAN_SLOTS;
 pub use list_ports::{Lists, Records};
 pub use run_law::RunEnd;
+pub use serial_ring::RECEIVE_ROOM;
 pub use step_record::Form;
 pub use thread_rig::{Rig, rigs_run, run_in_threads, run_threads};

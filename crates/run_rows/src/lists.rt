@@ -8,7 +8,7 @@ use bitflags::Flags;
 use board_rules::BoardPort;
 use pulse_engine::{PulsePort, TickOut};
 use realtime_flags::Raised;
-use run_core::{Lists, Records};
+use run_core::{Lists, RECEIVE_ROOM, Records};
 use serial_ring::{ByteIn, Stored};
 use status_report::Reply;
 use std::alloc::Global;
@@ -18,7 +18,7 @@ use step_record::RecordIn;
 use stream_host::HostPort;
 
 /// Lists in which nothing is on its way.
-fn fresh<R: Abort>(rt: &R, alloc: Global) -> Lists
+fn fresh<R: Abort>(rt: &R, alloc: Global) -> Lists<RECEIVE_ROOM>
     ensures { Joined result [] [] [] }
 {
     Lists::new(alloc).expect(rt, "memory")

@@ -2,7 +2,7 @@
 
 use crate::runs::{Left, ROOM, in_lockstep, in_order, in_rounds, in_threads};
 use outside::{Actor, MemSink, MemSource, On, Turn};
-use run_core::{Form, RunEnd, World, run_schedule};
+use run_core::{Form, PLAN_SLOTS, RECEIVE_ROOM, RunEnd, World, run_schedule};
 use std::alloc::Global;
 use std::process::Abort;
 use std::test::Fail;
@@ -149,7 +149,7 @@ fn lists_behind(alloc: Global, turns: usize) -> Result<(bool, Left<'static>), Fa
     let mut console = MemSink::new(alloc, 4000, &[])?;
     let mut steps = MemSink::new(alloc, 400, &[])?;
     let mut job = MemSource::new(LISTS.as_bytes(), 7, &[]);
-    let mut world = World::new(alloc, Form::One)?;
+    let mut world = World::<RECEIVE_ROOM, PLAN_SLOTS>::new(alloc, Form::One)?;
     world.turn(Actor::Board, &mut job, &mut console, &mut steps);
     for _ in 0..turns {
         world.turn(Actor::Host, &mut job, &mut console, &mut steps);

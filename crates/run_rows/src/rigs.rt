@@ -1,8 +1,8 @@
 //! Jobs in four threads, against the same in lockstep.
 
 use crate::runs::{Left, ROOM, in_lockstep, in_threads};
-use outside::{Actor, Failed, Gate, MemSink, OutOfMemory, Source};
-use run_core::{Form, Rig, run_threads};
+use outside::{Actor, Failed, Gate, MemSink, MemSource, OpenGate, OutOfMemory, Source};
+use run_core::{Form, PLAN_SLOTS, RECEIVE_ROOM, Rig, run_threads};
 use std::alloc::Global;
 use std::process::Abort;
 use std::sync::Wait;
@@ -131,7 +131,7 @@ fn gate_two_at_once(rt: HostRuntime) -> Result<(), Fail> {
     };
     let mut console = MemSink::new(rt.alloc(), 400, &[])?;
     let mut steps = MemSink::new(rt.alloc(), 400, &[])?;
-    let mut rig = Rig::new(rt.alloc(), Form::One)?;
+    let mut rig = Rig::<RECEIVE_ROOM, PLAN_SLOTS>::new(rt.alloc(), Form::One)?;
     let end = run_threads(&rt, &mut rig, &mut job, &mut console, &mut steps, &passes);
     rig.join();
     assert!(rt; !job.missed);
@@ -141,8 +141,27 @@ fn gate_two_at_once(rt: HostRuntime) -> Result<(), Fail> {
 
 #[test]
 fn refused_memory_is_told(rt: HostRuntime) {
-    match Rig::new(rt.alloc(), Form::One) {
+    match Rig::<RECEIVE_ROOM, PLAN_SLOTS>::new(rt.alloc(), Form::One) {
         Ok(rig) => rig.join(),
         Err(OutOfMemory) => {}
     }
+}
+
+/// More lines than have their place on a link of 255 bytes, in a rig that has such a link.
+#[test]
+fn wide_rig_runs_a_job(rt: HostRuntime) -> Result<(), Fail> {
+    let mut text = Vec::new(rt.alloc());
+    for _ in 0..40 {
+        text.extend_from_slice(b"G0X0.004\n")?;
+    }
+    let mut job = MemSource::new(text.as_slice(), 4096, &[]);
+    let mut console = MemSink::new(rt.alloc(), 400, &[])?;
+    let mut steps = MemSink::new(rt.alloc(), 400, &[])?;
+    let mut rig = Rig::<255, 36>::new(rt.alloc(), Form::One)?;
+    let end = run_threads(&rt, &mut rig, &mut job, &mut console, &mut steps, &OpenGate);
+    rig.join();
+    assert_eq!(rt; end.answered, 40);
+    assert_eq!(rt; end.errors, 0);
+    assert!(rt; steps.held() == b"s 1 1 0 320000\nX+\nE\n".as_slice());
+    Ok(())
 }

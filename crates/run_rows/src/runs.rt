@@ -1,7 +1,10 @@
 //! Runs of a job in memory, and what they leave.
 
 use outside::{Actor, MemSink, MemSource, OpenGate, OutOfMemory};
-use run_core::{Form, Order, Rig, RunEnd, World, run_lockstep, run_schedule, run_threads};
+use run_core::{
+    Form, Order, PLAN_SLOTS, RECEIVE_ROOM, Rig, RunEnd, World, run_lockstep, run_schedule,
+    run_threads,
+};
 use std::alloc::Global;
 use std::sync::Wait;
 use std::thread::Threads;
@@ -22,7 +25,7 @@ fn nothing(alloc: Global, room: usize) -> Result<Left<'static>, OutOfMemory> {
     Ok(Left {
         console: MemSink::new(alloc, room, &[])?,
         steps: MemSink::new(alloc, 4000, &[])?,
-        end: World::new(alloc, Form::One)?.end(),
+        end: World::<RECEIVE_ROOM, PLAN_SLOTS>::new(alloc, Form::One)?.end(),
     })
 }
 
@@ -35,7 +38,7 @@ pub(crate) fn in_threads<R: Threads + Wait + Sync>(
 ) -> Result<Left<'static>, OutOfMemory> {
     let mut left = nothing(alloc, room)?;
     let mut job = MemSource::new(text.as_bytes(), 7, &[]);
-    let mut rig = Rig::new(alloc, Form::One)?;
+    let mut rig = Rig::<RECEIVE_ROOM, PLAN_SLOTS>::new(alloc, Form::One)?;
     let Left {
         console,
         steps,
@@ -56,7 +59,7 @@ pub(crate) fn in_lockstep<R: Wait>(
 ) -> Result<Left<'static>, OutOfMemory> {
     let mut left = nothing(alloc, ROOM)?;
     let mut job = MemSource::new(text.as_bytes(), piece.max(1), &[]);
-    let mut world = World::new(alloc, Form::One)?;
+    let mut world = World::<RECEIVE_ROOM, PLAN_SLOTS>::new(alloc, Form::One)?;
     let Left {
         console,
         steps,
@@ -71,7 +74,7 @@ pub(crate) fn in_lockstep<R: Wait>(
 pub(crate) fn in_order(alloc: Global, text: &str, seed: u64) -> Result<Left<'static>, OutOfMemory> {
     let mut left = nothing(alloc, ROOM)?;
     let mut job = MemSource::new(text.as_bytes(), 7, &[]);
-    let mut world = World::new(alloc, Form::One)?;
+    let mut world = World::<RECEIVE_ROOM, PLAN_SLOTS>::new(alloc, Form::One)?;
     let mut order = Order { state: seed };
     let Left {
         console,
@@ -89,7 +92,7 @@ pub(crate) fn in_order(alloc: Global, text: &str, seed: u64) -> Result<Left<'sta
 pub(crate) fn in_rounds(alloc: Global, text: &str) -> Result<Left<'static>, OutOfMemory> {
     let mut left = nothing(alloc, ROOM)?;
     let mut job = MemSource::new(text.as_bytes(), 7, &[]);
-    let mut world = World::new(alloc, Form::One)?;
+    let mut world = World::<RECEIVE_ROOM, PLAN_SLOTS>::new(alloc, Form::One)?;
     let everyone = [Actor::Host, Actor::Board, Actor::Pulse, Actor::Record];
     let Left {
         console,

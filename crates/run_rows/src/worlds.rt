@@ -1,8 +1,11 @@
 //! Whole jobs, by a schedule and in lockstep, and a host alone.
 
+ghost use Rattle.serial_ring.specs.Lists.{IsRoom};
+
 use crate::runs::{Left, in_lockstep, in_order, in_rounds};
-use outside::{Actor, MemSink, MemSource, On, Turn};
-use run_core::{Form, RunEnd, World, run_schedule};
+use outside::{Actor, MemSink, MemSource, On, OutOfMemory, Turn};
+use run_core::{Form, PLAN_SLOTS, RECEIVE_ROOM, RunEnd, World, run_schedule};
+use std::alloc::Global;
 use std::process::Abort;
 use std::test::Fail;
 use stream_host::Stop;
@@ -166,25 +169,39 @@ fn held_machines_are_resumed(rt: HostRuntime) -> Result<(), Fail> {
     Ok(())
 }
 
-/// A host that nobody tells anything reads on after 2,048 polls. Then ten lines of twelve bytes stand on the link, and no
-/// eleventh: a board that takes all finds ten, and has answered no other once the host has every answer.
-#[test]
-fn host_alone_sends_ten_of_forty_lines(rt: HostRuntime) -> Result<(), Fail> {
-    let mut text = Vec::new(rt.alloc());
+/// A host that nobody tells anything reads on after 2,048 polls, and sends lines of twenty bytes until no more stand on the link. How
+/// many these are: a board that takes all finds as many, and has answered no other once the host has every answer.
+fn lines_sent_alone<R: Abort, const RX: usize>(rt: &R, alloc: Global) -> Result<u32, OutOfMemory>
+    requires { IsRoom RX }
+{
+    let mut text = Vec::new(alloc);
     for _ in 0..40 {
-        text.extend_from_slice(b"G1X1.000F10\n")?;
+        text.extend_from_slice(b"G1X1.0000Y1.0000F10\n")?;
     }
     let mut job = MemSource::new(text.as_slice(), 4096, &[]);
-    let mut console = MemSink::new(rt.alloc(), 400, &[])?;
-    let mut steps = MemSink::new(rt.alloc(), 400, &[])?;
-    let mut world = World::new(rt.alloc(), Form::One)?;
+    let mut console = MemSink::new(alloc, 400, &[])?;
+    let mut steps = MemSink::new(alloc, 400, &[])?;
+    let mut world = World::<RX, PLAN_SLOTS>::new(alloc, Form::One)?;
     let hosts = [Actor::Host; 2_400];
     run_schedule(&mut world, &hosts, &mut job, &mut console, &mut steps);
     let last = world.turn(Actor::Host, &mut job, &mut console, &mut steps);
     assert_eq!(rt; last, Turn::Wait(On::Answer));
-    let boards = [Actor::Board; 1_000];
+    let boards = [Actor::Board; 2_000];
     run_schedule(&mut world, &boards, &mut job, &mut console, &mut steps);
     run_schedule(&mut world, &hosts, &mut job, &mut console, &mut steps);
-    assert_eq!(rt; world.end().answered, 10);
+    Ok(world.end().answered)
+}
+
+#[test]
+fn host_alone_sends_six_of_forty_lines(rt: HostRuntime) -> Result<(), Fail> {
+    let answered = lines_sent_alone::<_, RECEIVE_ROOM>(&rt, rt.alloc())?;
+    assert_eq!(rt; answered, 6);
+    Ok(())
+}
+
+#[test]
+fn host_alone_sends_twelve_of_them_over_a_wide_link(rt: HostRuntime) -> Result<(), Fail> {
+    let answered = lines_sent_alone::<_, 255>(&rt, rt.alloc())?;
+    assert_eq!(rt; answered, 12);
     Ok(())
 }

@@ -22,24 +22,24 @@ abbrev pub HasHalts : Sent → Type 0
 HasHalts s = s.stops ≡ map pieces_at s.halts
 
 -- an epoch stores none
-halts_behind : (state : State) (es : NewestFirst Closed) (h : Journal) → IsEpoch (opening_behind state es) h → HasHalts (sent_in (closed_log es)) → HasHalts (sent_in (log_behind (closed_log es) h))
-halts_behind state es h c was = subst HasHalts (sym (sent_on (known_in (closed_log es)) (port_log h) (closed_log es) (journals_never_stop (opening_behind state es) h c.conducted))) was
+halts_behind : (blocks : ℕ) (state : State) (es : NewestFirst Closed) (h : Journal) → IsEpoch (opening_behind blocks state es) h → HasHalts (sent_in (closed_log es)) → HasHalts (sent_in (log_behind (closed_log es) h))
+halts_behind blocks state es h c was = subst HasHalts (sym (sent_on (known_in (closed_log es)) (port_log h) (closed_log es) (journals_never_stop (opening_behind blocks state es) h c.conducted))) was
 
 -- and the work of a reset stores one, and finds its halt
-closed_halts : (state : State) (es : NewestFirst Closed) → AreClosed state es → HasHalts (sent_in (closed_log es))
-closed_halts state [] c = refl
-closed_halts state (e ∷ es) c =
-    let first = opening_behind state es in
+closed_halts : (blocks : ℕ) (state : State) (es : NewestFirst Closed) → AreClosed blocks state es → HasHalts (sent_in (closed_log es))
+closed_halts blocks state [] c = refl
+closed_halts blocks state (e ∷ es) c =
+    let first = opening_behind blocks state es in
     let before = log_behind (closed_log es) e.journal in
-    let was = halts_behind state es e.journal c.0.resetting.epoch (closed_halts state es c.1) in
+    let was = halts_behind blocks state es e.journal c.0.resetting.epoch (closed_halts blocks state es c.1) in
     subst HasHalts (sym (works_end (last_line first e.journal) before e.work c.0.resetting.works c.0.worked.done).0) (ap (λ (ns : List ℕ). length (published_in (sent_in before)) ∷ ns) was)
 
-pub all_halts : (state : State) (e : Epochs) → AreEpochs state e → HaveFinished state e → HasHalts (sent_in (log_of e))
-all_halts state (goes es h) are over = halts_behind state es h are.1 (closed_halts state es are.0)
-all_halts state (resets es h w) are over = absurd over
+pub all_halts : (blocks : ℕ) (state : State) (e : Epochs) → AreEpochs blocks state e → HaveFinished blocks state e → HasHalts (sent_in (log_of e))
+all_halts blocks state (goes es h) are over = halts_behind blocks state es h are.1 (closed_halts blocks state es are.0)
+all_halts blocks state (resets es h w) are over = absurd over
 
 -- by the law of boards it has run
-pub board_ran : ((state : State) (es : NewestFirst Closed) (h : Journal) → IsOpening state → AreEpochs state (goes es h) → IsFinished (opening_behind state es) h → BoardRan (board_did (goes es h)))
-    → (state : State) (e : Epochs) → IsOpening state → AreEpochs state e → HaveFinished state e → BoardRan (board_did e)
-board_ran law state (goes es h) opens are over = law state es h opens are over
-board_ran law state (resets es h w) opens are over = absurd over
+pub board_ran : (blocks : ℕ) → ((state : State) (es : NewestFirst Closed) (h : Journal) → IsOpening state → AreEpochs blocks state (goes es h) → IsFinished (opening_behind blocks state es) h → BoardRan blocks (board_did (goes es h)))
+    → (state : State) (e : Epochs) → IsOpening state → AreEpochs blocks state e → HaveFinished blocks state e → BoardRan blocks (board_did e)
+board_ran blocks law state (goes es h) opens are over = law state es h opens are over
+board_ran blocks law state (resets es h w) opens are over = absurd over

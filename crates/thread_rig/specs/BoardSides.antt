@@ -1,5 +1,5 @@
 -- What the thread of the board has done at its ends.
-use Rattle.std.specs.Prelude.{◌≡◌, []}
+use Rattle.std.specs.Prelude.{◌≡◌, ℕ, []}
 use Rattle.serial_ring.specs.Ends.{link_of_board}
 use Rattle.realtime_flags.specs.Ends.{taken_in}
 use Rattle.motion_ring.specs.Ends.{ring_of_out}
@@ -13,7 +13,7 @@ use Rattle.thread_rig.specs.declared.board.BoardSide.{BoardSide}
 
 -- ---- no turn was made
 
-pub record BoardIsNew (side : BoardSide) : Type 0 where
+pub record BoardIsNew {room slots : ℕ} (side : BoardSide room slots) : Type 0 where
   pub did : BoardLogs side.link []
   pub sees : BoardSees side.link []
   pub fits : BoardFits side.board (goes [] [])
@@ -21,7 +21,7 @@ pub record BoardIsNew (side : BoardSide) : Type 0 where
 -- ---- turns were made
 
 -- The board has, over its epochs, and what its ends took, answered, published and found of halts is what these say.
-pub record BoardRunsAt (was is : BoardSide) : Type 0 where
+pub record BoardRunsAt {room slots : ℕ} (was is : BoardSide room slots) : Type 0 where
   pub epochs : Epochs
   pub link : link_of_board is.link.end ≡ link_of_board was.link.end
   pub flags : taken_in is.link.flags ≡ taken_in was.link.flags
@@ -32,13 +32,13 @@ pub record BoardRunsAt (was is : BoardSide) : Type 0 where
   pub between : IsBetweenOfBoard epochs
 
 -- It was one turn, the first: what it did is all that was done, and the board's rules allow it.
-pub record BoardHasBegun (was is : BoardSide) : Type 0 where
+pub record BoardHasBegun {room slots : ℕ} (was is : BoardSide room slots) : Type 0 where
   pub runs : BoardRunsAt was is
   pub turn : Turn
   pub turned : BoardTurned turn was.board is.board (goes [] []) runs.epochs
 
 -- ---- and the board is done
 
-pub record BoardRanAt (was is : BoardSide) : Type 0 where
+pub record BoardRanAt {room slots : ℕ} (was is : BoardSide room slots) : Type 0 where
   pub runs : BoardRunsAt was is
   pub done : BoardRests is.board

@@ -1,5 +1,6 @@
 //! What holds of every rig.
 
+ghost use Rattle.std.specs.Prelude.{ℕ, ◌-◌};
 ghost use Rattle.run_law.specs.Devices.{Devices};
 ghost use Rattle.run_law.specs.declared.RunEnd.{RunEnd};
 ghost use Rattle.epoch_law.specs.Devices.{HasRun};
@@ -19,7 +20,7 @@ use stream_host::hosts_have_run;
 /// A rig whose actors ran until each was done, and whose ends agree, has done a whole run over epochs, in the form of its recorder,
 /// whatever the order in which the steps of its threads came.
 pub fn rigs_run()
-    ensures { (before after : Devices) (was is : Rig) (end : RunEnd) → RigRan before after was is end → EndsAgree is → HasRun was.recorder.side.recorder.form before after end }
+    ensures { (room slots : ℕ) (before after : Devices) (was is : Rig room slots) (end : RunEnd) → RigRan before after was is end → EndsAgree is → HasRun room (slots - 1) was.recorder.side.recorder.form before after end }
 {
     hosts_have_run();
     hosts_have_sent();

@@ -1,6 +1,7 @@
 //! A run in four threads: the actors, each with its ends of what they share.
 
-ghost use Rattle.std.specs.Prelude.{◌≡◌, IfOk};
+ghost use Rattle.serial_ring.specs.Lists.{IsRoom};
+ghost use Rattle.std.specs.Prelude.{◌≡◌, ◌≤◌, IfOk};
 ghost use Rattle.stream_host.specs.Steps.{Journal};
 ghost use Rattle.stream_host.specs.Hosts.{HostFits};
 ghost use Rattle.stream_host.specs.Ran.{end_of};
@@ -29,28 +30,31 @@ use std::thread::{Threads, join_mut};
 use step_record::{Form, Recorder};
 use stream_host::Host;
 
-/// The four actors of a run, each with its ends of the link, of the flags, and of the rings of pieces and of records.
+/// The four actors of a run, each with its ends of the link, of the flags, and of the rings of pieces and of records. The link has
+/// room for `RX` bytes, and the plan for `N` - 1 blocks.
 #[derive(Drop)]
-pub struct Rig {
-    host: Apart<HostSide>,
-    board: Apart<BoardSide>,
+pub struct Rig<const RX: usize, const N: usize> {
+    host: Apart<HostSide<RX>>,
+    board: Apart<BoardSide<RX, N>>,
     pulse: Apart<PulseSide>,
     recorder: Apart<RecorderSide>,
 }
 
-impl Rig {
+impl<const RX: usize, const N: usize> Rig<RX, N> {
     /// A rig with which no turn was made, whose recorder has a form. All room is taken here.
-    pub fn new(alloc: Global, form: Form) -> Result<Rig, OutOfMemory>
+    pub fn new(alloc: Global, form: Form) -> Result<Rig<RX, N>, OutOfMemory>
+        requires room { IsRoom RX }
+        requires slots { (2 ≤ N) × (N ≤ 64) }
         ensures fresh { IfOk result (λ rig. IsNew rig) }
         ensures form { IfOk result (λ rig. rig.recorder.side.recorder.form ≡ form) }
     {
-        let (host_end, board_end) = link::<128>(alloc)?;
+        let (host_end, board_end) = link::<RX>(alloc)?;
         let (raiser, taker) = flag_table(alloc)?;
         let (out, into) = motion(alloc)?;
         let (records_out, records_in) = record_ring(alloc)?;
         Ok(Rig {
             host: Apart::new(HostSide {
-                host: Host::new(),
+                host: Host::new(RX as u8),
                 link: HostLink {
                     end: host_end,
                     flags: raiser,
@@ -78,7 +82,7 @@ impl Rig {
 
     /// How the run ends, as its host tells, and whether a write of the steps failed.
     fn end(&self) -> RunEnd
-        ensures { (h : Journal) → HostFits self.now.host.side.host h → result ≡ run_end (end_of h) self.now.recorder.side.recorder.writer.failed }
+        ensures { (h : Journal) → HostFits RX self.now.host.side.host h → result ≡ run_end (end_of h) self.now.recorder.side.recorder.writer.failed }
     {
         let host = &self.host.side.host;
         RunEnd {
@@ -97,7 +101,7 @@ impl Rig {
     /// had it, and by one more where it is up.
     pub fn join(self)
         requires { EndsMeet self }
-        ensures { EndsAgree self }
+        ensures { EndsAgree self.entry }
     {
         let Rig {
             host,
@@ -131,10 +135,17 @@ impl Rig {
 }
 
 /// Runs a host and a board beside each other. The board has its first turn before the host has any.
-fn run_link<R: Threads + Wait + Sync, J: Source + Send, C: Sink + Send, G: Gate + Sync>(
+fn run_link<
+    R: Threads + Wait + Sync,
+    J: Source + Send,
+    C: Sink + Send,
+    G: Gate + Sync,
+    const RX: usize,
+    const N: usize,
+>(
     rt: &R,
-    host: &mut HostSide,
-    board: &mut BoardSide,
+    host: &mut HostSide<RX>,
+    board: &mut BoardSide<RX, N>,
     job: &mut J,
     console: &mut C,
     gate: &G,
@@ -152,8 +163,8 @@ fn run_link<R: Threads + Wait + Sync, J: Source + Send, C: Sink + Send, G: Gate 
             ensures { HostRanAt (J.state job.entry.now) (J.state job.exit.now) (C.state console.entry.now) (C.state console.exit.now) host.entry.now host.exit.now }
         { run_host(rt, host, job, console, gate) },
         &mut ||
-            requires { (before : BoardSide) × BoardRunsAt before board.now }
-            ensures { (before : BoardSide) → BoardRunsAt before board.entry.now → BoardRanAt before board.exit.now }
+            requires { (before : BoardSide RX N) × BoardRunsAt before board.now }
+            ensures { (before : BoardSide RX N) → BoardRunsAt before board.entry.now → BoardRanAt before board.exit.now }
         { run_board(rt, board, gate) },
     );
 }
@@ -170,7 +181,9 @@ pub fn run_threads<
     C: Sink + Send,
     S: Sink + Send,
     G: Gate + Sync,
->(rt: &R, rig: &mut Rig, job: &mut J, console: &mut C, steps: &mut S, gate: &G) -> RunEnd
+    const RX: usize,
+    const N: usize,
+>(rt: &R, rig: &mut Rig<RX, N>, job: &mut J, console: &mut C, steps: &mut S, gate: &G) -> RunEnd
     requires { IsNew rig.old }
     ensures ran { RigRan (devices (J.state job.old) (C.state console.old) (S.state steps.old)) (devices (J.state job.new) (C.state console.new) (S.state steps.new)) rig.old rig.new result }
     ensures meets { EndsMeet rig.new }

@@ -224,21 +224,30 @@ fn steps_that_fail_in_mid_stream_hold_a_front_of_their_text(rt: HostRuntime) {
 #[test]
 fn a_job_of_one_byte_too_many_is_cut_there(rt: HostRuntime) {
     let alloc = rt.alloc();
-    for (len, status) in [(16_777_216, Status::Done), (16_777_217, Status::TooLarge)] {
-        let job = vec![in alloc; b' '; len].expect(&rt, "memory");
-        let run = Run {
-            words: &["stream"],
-            job: job.as_slice(),
-            piece: 4096,
-            source_fails: &[],
-            console_fails: &[],
-            steps_fails: &[],
-        };
-        let console: &[u8] = if status == Status::Done {
-            b"\r\nGrbl 1.1h ['$' for help]\r\nok\r\n"
-        } else {
-            BANNER
-        };
-        expect(&rt, alloc, &run, console, b"E\n", status);
-    }
+    let job = vec![in alloc; b' '; 16_777_217].expect(&rt, "memory");
+    let run = Run {
+        words: &["stream"],
+        job: job.as_slice(),
+        piece: 4096,
+        source_fails: &[],
+        console_fails: &[],
+        steps_fails: &[],
+    };
+    expect(&rt, alloc, &run, BANNER, b"E\n", Status::TooLarge);
+}
+
+#[test]
+fn a_job_of_as_many_bytes_as_there_may_be_is_read(rt: HostRuntime) {
+    let alloc = rt.alloc();
+    let job = vec![in alloc; b' '; 16_777_216].expect(&rt, "memory");
+    let run = Run {
+        words: &["stream"],
+        job: job.as_slice(),
+        piece: 4096,
+        source_fails: &[],
+        console_fails: &[],
+        steps_fails: &[],
+    };
+    let console: &[u8] = b"\r\nGrbl 1.1h ['$' for help]\r\nok\r\n";
+    expect(&rt, alloc, &run, console, b"E\n", Status::Done);
 }

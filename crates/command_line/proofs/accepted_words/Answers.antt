@@ -15,23 +15,43 @@ returns-clause-some c = some_asked
 
 pub returns-clause-paced : goal.returns-clause-paced
 unfolding clap_on_literals
-returns-clause-paced c = ((refl, refl, refl), λ refused. elim refused [ inl fault ↦ fault refl | inr two ↦ cc ])
+returns-clause-paced c = ((refl, refl), λ refused. elim refused [ inl fault ↦ fault refl | inr two ↦ cc ])
 
 pub returns-clause-compact : goal.returns-clause-compact
 unfolding clap_on_literals
-returns-clause-compact c = ((refl, refl, refl), λ refused. elim refused [ inl fault ↦ fault refl | inr two ↦ cc ])
+returns-clause-compact c = ((refl, refl), λ refused. elim refused [ inl fault ↦ fault refl | inr two ↦ cc ])
 
 pub returns-clause-compact_by_seed : goal.returns-clause-compact_by_seed
 unfolding clap_on_literals
-returns-clause-compact_by_seed c = ((refl, refl, refl), λ refused. elim refused [ inl fault ↦ fault refl | inr two ↦ cc ])
+returns-clause-compact_by_seed c = ((refl, refl), λ refused. elim refused [ inl fault ↦ fault refl | inr two ↦ cc ])
 
 pub returns-clause-seed_and_compact : goal.returns-clause-seed_and_compact
 unfolding clap_on_literals
-returns-clause-seed_and_compact c = ((refl, refl, refl), λ refused. elim refused [ inl fault ↦ fault refl | inr two ↦ cc ])
+returns-clause-seed_and_compact c = ((refl, refl), λ refused. elim refused [ inl fault ↦ fault refl | inr two ↦ cc ])
 
 pub returns-clause-compact_and_paced : goal.returns-clause-compact_and_paced
 unfolding clap_on_literals
-returns-clause-compact_and_paced c = ((refl, refl, refl), λ refused. elim refused [ inl fault ↦ fault refl | inr two ↦ cc ])
+returns-clause-compact_and_paced c = ((refl, refl), λ refused. elim refused [ inl fault ↦ fault refl | inr two ↦ cc ])
+
+pub returns-clause-wide : goal.returns-clause-wide
+unfolding clap_on_literals
+returns-clause-wide c = ((refl, refl), λ refused. elim refused [ inl fault ↦ fault refl | inr two ↦ cc ])
+
+pub returns-clause-wide_by_seed : goal.returns-clause-wide_by_seed
+unfolding clap_on_literals
+returns-clause-wide_by_seed c = ((refl, refl), λ refused. elim refused [ inl fault ↦ fault refl | inr two ↦ cc ])
+
+pub returns-clause-twice_wide : goal.returns-clause-twice_wide
+unfolding clap_on_literals
+returns-clause-twice_wide c = refl
+
+pub returns-clause-wide_has_no_value : goal.returns-clause-wide_has_no_value
+unfolding clap_on_literals
+returns-clause-wide_has_no_value c = refl
+
+pub returns-clause-wide_demo : goal.returns-clause-wide_demo
+unfolding clap_on_literals
+returns-clause-wide_demo c = refl
 
 pub returns-clause-paced_by_seed : goal.returns-clause-paced_by_seed
 unfolding clap_on_literals
@@ -63,7 +83,7 @@ returns-clause-compact_demo c = refl
 
 pub returns-clause-stream : goal.returns-clause-stream
 unfolding clap_on_literals
-returns-clause-stream c = ((refl, refl, refl), λ refused. elim refused [ inl fault ↦ fault refl | inr two ↦ cc ])
+returns-clause-stream c = ((refl, refl), λ refused. elim refused [ inl fault ↦ fault refl | inr two ↦ cc ])
 
 pub returns-clause-no_more : goal.returns-clause-no_more
 unfolding clap_on_literals
@@ -71,11 +91,11 @@ returns-clause-no_more c = refl
 
 pub returns-clause-seed : goal.returns-clause-seed
 unfolding clap_on_literals
-returns-clause-seed c = ((refl, refl, refl), λ refused. elim refused [ inl fault ↦ fault refl | inr two ↦ cc ])
+returns-clause-seed c = ((refl, refl), λ refused. elim refused [ inl fault ↦ fault refl | inr two ↦ cc ])
 
 pub returns-clause-largest_seed : goal.returns-clause-largest_seed
 unfolding clap_on_literals
-returns-clause-largest_seed c = ((refl, refl, refl), λ refused. elim refused [ inl fault ↦ fault refl | inr two ↦ cc ])
+returns-clause-largest_seed c = ((refl, refl), λ refused. elim refused [ inl fault ↦ fault refl | inr two ↦ cc ])
 
 pub returns-clause-seed_too_large : goal.returns-clause-seed_too_large
 unfolding clap_on_literals

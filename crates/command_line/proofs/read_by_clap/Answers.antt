@@ -6,8 +6,9 @@ use Rattle.clap.specs.Lexer.{without_minus}
 use Rattle.clap.specs.Matches.{found_of}
 use Rattle.clap.specs.Walk.{Row, Text, one_of, rows_of}
 use Rattle.clap.proofs.WalkLemmas.{one_text-rows}
+use Rattle.command_line.specs.declared.StreamOptions.{StreamOptions}
 use Rattle.command_line.specs.declared.WordsFault.TheVariants.{Refused}
-use Rattle.command_line.specs.Command.{form_by, has_flag, number_of, order_by, order_in}
+use Rattle.command_line.specs.Command.{buffers_by, form_by, has_flag, number_of, options_in, order_by, order_in}
 use Rattle.command_line.proofs.CommandLine.{enters}
 use Rattle.command_line.proofs.Numbers.{has_entered, moves_read, moves_text, named_rows, seed_read, some_task}
 use Rattle.command_line.proofs.read_by_clap.Goals as goal
@@ -92,9 +93,12 @@ returns-then-eq-clause-asked c =
           (λ none. c.get_one.ensures.none (seed_text ∙ none)) (λ t one. c.get_one.ensures.value t (seed_text ∙ one)) in
           let order : c.order_of.result ≡ order_in rows =
           c.order_of.ensures ∙ ap₂ order_by c.has_flag.ensures seed in
-          let form : c.form_of.result ≡ form_by (has_flag (codes "compact") rows) = c.form_of.ensures ∙ ap form_by c.has_flag-then-eq.ensures in
-          subst (λ (o : Option (Text × List Row)). IsSomeAnd o (λ s. (s.0 ≡ codes "stream") × (Some c.in-Some-order_of.order ≡ order_in s.1) × (c.form_of.result ≡ form_by (has_flag (codes "compact") s.1)))) (sym is)
-          (stream.0, sym c.in-Some-order_of.is ∙ order, form)
+          let buffers : c.buffers_of.result ≡ buffers_by (has_flag (codes "wide") rows) = c.buffers_of.ensures ∙ ap buffers_by c.has_flag-then-eq.ensures in
+          let form : c.form_of.result ≡ form_by (has_flag (codes "compact") rows) = c.form_of.ensures ∙ ap form_by c.has_flag-then-eq-2.ensures in
+          let options : StreamOptions = record { order = c.in-Some-order_of.order; buffers = c.buffers_of.result; form = c.form_of.result } in
+          let found : Some options ≡ options_in rows = rw (buffers, form) (ap (option_map (λ order. record { order = order; buffers = buffers_by (has_flag (codes "wide") rows); form = form_by (has_flag (codes "compact") rows) })) (sym c.in-Some-order_of.is ∙ order)) in
+          subst (λ (o : Option (Text × List Row)). IsSomeAnd o (λ s. (s.0 ≡ codes "stream") × (Some options ≡ options_in s.1))) (sym is)
+          (stream.0, found)
       | inr demo ↦ absurd (is_named c.in-Some.name.now c.eq.result c.eq.ensures c.if-eq.true demo.0)
     ]
 

@@ -3,17 +3,17 @@ use Rattle.actor_turns.proofs.Reports.{world_reports}
 use Rattle.actor_turns.proofs.laws.worlds_count_reports.Goals as goal
 
 pub returns-clause-each : goal.returns-clause-each
-returns-clause-each c w hist h = world_reports w hist h
+returns-clause-each c N w hist h = world_reports w hist h
 
 pub returns-clause-told : goal.returns-clause-told
-returns-clause-told c form was now w hist st = record {
+returns-clause-told c N form was now w hist st = record {
   read = read_of hist.host;
   reading = reading_of hist.host;
   scanned = scanned_of hist.host;
   lines = cut_of hist.host;
   stop = job_stop_of hist.host;
   taken = st.job.taken;
-  sent = c.hosts_send_their_lines.ensures.so_far hist.host st.holds.host.conducted;
+  sent = c.hosts_send_their_lines.ensures.so_far w.room hist.host st.holds.host.conducted;
   replies = got_of hist.host;
   failed = w.host.text.failed;
   waiting = w.host.text.waiting;

@@ -1,4 +1,4 @@
-use Rattle.std.proofs.Common.{List, ℕ, length, sym, subst, ◌∙◌}
+use Rattle.std.proofs.Common.{List, ℕ, ◌-◌, length, sym, subst, ◌∙◌}
 use Rattle.run_rules.specs.Lines.{lines_of}
 use Rattle.status_report.specs.declared.Reply.{Reply}
 use Rattle.stream_host.specs.Ran.{end_of}
@@ -14,31 +14,31 @@ use Rattle.actor_turns.proofs.Running.{replies_front, records_front, pieces_pass
 use Rattle.actor_turns.proofs.laws.worlds_run.Goals as goal
 
 pub returns-clause-so_far : goal.returns-clause-so_far
-returns-clause-so_far c form was now w hist st =
+returns-clause-so_far c N form was now w hist st =
     let h = st.holds in
     let host = c.hosts_have_run.ensures in
-    let kept = c.controllers_keep_to_epochs.ensures w.board hist.board h.board in
+    let kept = c.controllers_keep_to_epochs.ensures N w.board hist.board h.board in
     let ring = pieces_passed w hist h in
     let rings = c.rings_pass_pieces_so_far.ensures in
-    c.actors_make_a_run_so_far.ensures form was.job now.job (sinks was) (sinks now) (host_did hist.host) (board_did hist.board) (pulse_did hist.pulse hist.puts) (records hist.takes)
-    (c.hosts_are_sending.ensures hist.host was.job now.job was.console now.console h.host.conducted st.job (host.console w.host hist.host was.console now.console h.host st.console))
-    (c.boards_run.ensures kept.0 (length (ticks_among (records_put hist.puts))) hist.board kept.1 kept.2
-    (rings.known kept.0 hist.board w.pulse hist.pulse hist.puts kept.2 h.pulse ring) (rings.within kept.0 hist.board w.pulse hist.pulse hist.puts kept.2 h.pulse ring))
+    c.actors_make_a_run_so_far.ensures w.room (N - 1) form was.job now.job (sinks was) (sinks now) (host_did hist.host) (board_did hist.board) (pulse_did hist.pulse hist.puts) (records hist.takes)
+    (c.hosts_are_sending.ensures w.room hist.host was.job now.job was.console now.console h.host.conducted st.job (host.console w.room w.host hist.host was.console now.console h.host st.console))
+    (c.boards_run.ensures (N - 1) kept.0 (length (ticks_among (records_put hist.puts))) hist.board kept.1 kept.2
+    (rings.known (N - 1) kept.0 hist.board w.pulse hist.pulse hist.puts kept.2 h.pulse ring) (rings.within (N - 1) kept.0 hist.board w.pulse hist.pulse hist.puts kept.2 h.pulse ring))
     (c.pulses_run.ensures w.pulse hist.pulse hist.puts h.pulse)
     (c.recorders_have_run.ensures.so_far form w.recorder hist.takes was.steps now.steps st.wrote)
-    (connected w hist kept.0 h kept.2) (rings.passed kept.0 hist.board w.pulse hist.pulse hist.puts kept.2 h.pulse ring) (replies_front w hist h) (records_front w hist h)
+    (connected w hist kept.0 h kept.2) (rings.passed (N - 1) kept.0 hist.board w.pulse hist.pulse hist.puts kept.2 h.pulse ring) (replies_front w hist h) (records_front w hist h)
 
 pub returns-clause-alone : goal.returns-clause-alone
-returns-clause-alone c form was now w hist st done =
+returns-clause-alone c N form was now w hist st done =
     let h = st.holds in
     let host = c.hosts_have_run.ensures in
-    let kept = c.controllers_keep_to_epochs.ensures w.board hist.board h.board in
+    let kept = c.controllers_keep_to_epochs.ensures N w.board hist.board h.board in
     let over = kept.3 done.board in
-    let sent = c.hosts_have_sent.ensures hist.host was.job now.job was.console now.console h.host.conducted (host.finished w.host hist.host h.host done.host) st.job
-    (host.console w.host hist.host was.console now.console h.host st.console) in
-    let run = c.actors_that_end_make_a_run.ensures form was.job now.job (sinks was) (sinks now) (end_of hist.host) w.recorder.writer.failed (host_did hist.host) (board_did hist.board) (pulse_did hist.pulse hist.puts) (records hist.takes)
+    let sent = c.hosts_have_sent.ensures w.room hist.host was.job now.job was.console now.console h.host.conducted (host.finished w.room w.host hist.host h.host done.host) st.job
+    (host.console w.room w.host hist.host was.console now.console h.host st.console) in
+    let run = c.actors_that_end_make_a_run.ensures w.room (N - 1) form was.job now.job (sinks was) (sinks now) (end_of hist.host) w.recorder.writer.failed (host_did hist.host) (board_did hist.board) (pulse_did hist.pulse hist.puts) (records hist.takes)
     sent.0
-    (board_ran kept.0 hist.board (c.boards_have_run.ensures kept.0) kept.1 kept.2 over)
+    (board_ran (N - 1) kept.0 hist.board (c.boards_have_run.ensures (N - 1) kept.0) kept.1 kept.2 over)
     (c.pulses_have_run.ensures w.pulse hist.pulse hist.puts h.pulse (sym h.pulse.end ∙ done.pulse))
     (c.recorders_have_run.ensures.whole form w.recorder hist.takes was.steps now.steps st.wrote done.recorder)
     (connected w hist kept.0 h kept.2) (passed_some w hist kept.0 h kept.2 over) (replies_front w hist h) (records_front w hist h) in
@@ -49,4 +49,4 @@ returns-clause-alone c form was now w hist st done =
     }
 
 pub returns-clause-whole : goal.returns-clause-whole
-returns-clause-whole c form was now w hist st done = (returns-clause-alone c form was now w hist st done).run
+returns-clause-whole c N form was now w hist st done = (returns-clause-alone c N form was now w hist st done).run

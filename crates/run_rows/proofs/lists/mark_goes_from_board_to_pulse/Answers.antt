@@ -12,14 +12,14 @@ first_may : MayPublish [] (pieces.Mark (Dwell 1))
 first_may = record { running = refl; going = refl; follows = omega arith; few = omega arith; room = omega arith }
 
 pub publish-requires : goal.publish-requires
-publish-requires g c = (([], []), [], c.fresh-lists.ensures, first_may)
+publish-requires g c = (omega arith, (([], []), [], c.fresh-lists.ensures, first_may))
 
 pub piece-requires : goal.piece-requires
-piece-requires g c = (([], published (pieces.Mark (Dwell 1)) ∷ []), [], c.in-Ok.ensures.ok ([], []) [] c.fresh-lists.ensures first_may, refl)
+piece-requires g c = (omega arith, (([], published (pieces.Mark (Dwell 1)) ∷ []), [], c.in-Ok.ensures.ok ([], []) [] c.fresh-lists.ensures first_may, refl))
 
 pub tick_done-requires : goal.tick_done-requires
 tick_done-requires g c =
     let j = c.in-Ok.ensures.ok ([], []) [] c.fresh-lists.ensures first_may in
     let q = c.in-Some.ensures.some ([], published (pieces.Mark (Dwell 1)) ∷ []) [] j refl in
     let more : 0 < length (ticks_of c.in-Some.piece) = subst (λ (p : Piece). 0 < length (ticks_of p)) (sym c.in-Mark.is) (omega arith) in
-    (([], published (pieces.Mark (Dwell 1)) ∷ []), got c.in-Some.piece ∷ [], q, more)
+    (omega arith, (([], published (pieces.Mark (Dwell 1)) ∷ []), got c.in-Some.piece ∷ [], q, more))

@@ -1,4 +1,4 @@
-use Rattle.std.proofs.Common.{[], refl}
+use Rattle.std.proofs.Common.{[], refl, arith}
 use Rattle.serial_ring.specs.Ends.{link_of_board}
 use Rattle.realtime_flags.specs.Ends.{taken_in}
 use Rattle.motion_ring.specs.Ends.{ring_of_out}
@@ -8,7 +8,7 @@ use Rattle.thread_rig.proofs.board.begin_board.Goals as goal
 pub turn-requires : goal.turn-requires
 turn-requires g c =
     let port = c.args.side.now.link in
-    record { stands = ((link_of_board port.end, taken_in port.flags, ring_of_out port.pieces), goes [] [], (refl, refl, refl, c.requires.did, c.requires.sees), c.requires.fits, refl) }
+    (omega arith, ((link_of_board port.end, taken_in port.flags, ring_of_out port.pieces), goes [] [], (refl, refl, refl, c.requires.did, c.requires.sees), c.requires.fits, refl))
 
 pub returns-clause-runs : goal.returns-clause-runs
 returns-clause-runs g c =

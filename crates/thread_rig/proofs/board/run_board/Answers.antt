@@ -1,3 +1,4 @@
+use Rattle.std.proofs.Common.{arith}
 use Rattle.serial_ring.specs.Ends.{link_of_board}
 use Rattle.realtime_flags.specs.Ends.{taken_in}
 use Rattle.motion_ring.specs.Ends.{ring_of_out}
@@ -10,7 +11,7 @@ pub turn-requires : goal.turn-requires
 turn-requires g c =
     let i = c.loop.invariant c.requires.0 c.requires.1 in
     let port = c.requires.0.link in
-    record { stands = ((link_of_board port.end, taken_in port.flags, ring_of_out port.pieces), i.epochs, (i.link, i.flags, i.pieces, i.did, i.sees), i.fits, i.between) }
+    (omega arith, ((link_of_board port.end, taken_in port.flags, ring_of_out port.pieces), i.epochs, (i.link, i.flags, i.pieces, i.did, i.sees), i.fits, i.between))
 
 pub loop-preserved : goal.loop-preserved
 loop-preserved g c = λ before r.

@@ -1,14 +1,14 @@
-use Rattle.std.proofs.Common.{None, sym}
+use Rattle.std.proofs.Common.{None, sym, arith}
 use Rattle.stream_host.specs.Steps.{port_log}
 use Rattle.actor_turns.specs.Worlds.{devices}
 use Rattle.actor_turns.proofs.Arms.{holds_on, turns_on, board_moves}
 use Rattle.actor_turns.proofs.world.World.turn_board.Goals as goal
 
 pub turn-requires : goal.turn-requires
-turn-requires c = let i = c.self.invariant in record { stands = ((port_log i.0.host, i.0.pulse), i.0.board, i.1.joined, i.1.board, i.1.board_between) }
+turn-requires g c = let i = c.self.invariant in (omega arith, ((port_log i.0.host, i.0.pulse), i.0.board, i.1.joined, i.1.board, i.1.board_between))
 
 pub invariant_of-self : goal.invariant_of-self
-invariant_of-self c = holds_on _ _ _ _ _ _ (board_moves _ _ _ _ (devices (record { left = None; faults = 0 }) (record { held = None; faults = 0 }) (record { held = None; faults = 0 })) c.turn.ensures.goes_on) c.self.invariant
+invariant_of-self g c = holds_on _ _ _ _ _ _ (board_moves _ _ _ _ (devices (record { left = None; faults = 0 }) (record { held = None; faults = 0 }) (record { held = None; faults = 0 })) c.turn.ensures.goes_on) c.self.invariant
 
 pub returns-clause-goes_on : goal.returns-clause-goes_on
-returns-clause-goes_on c now = let v = sym c.self.view_is in rw v (turns_on _ _ _ _ _ _ (board_moves _ _ _ _ now c.turn.ensures.goes_on))
+returns-clause-goes_on g c now = let v = sym c.self.view_is in rw v (turns_on _ _ _ _ _ _ (board_moves _ _ _ _ now c.turn.ensures.goes_on))

@@ -1,7 +1,7 @@
 use Rattle.thread_rig.proofs.rig.Rig.join.Goals as goal
 
 pub returns : goal.returns
-returns c = record {
+returns g c = record {
   link = c.join_link.ensures;
   words = c.join_flags.ensures.0;
   flags = c.join_flags.ensures.1;

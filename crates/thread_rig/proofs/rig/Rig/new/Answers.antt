@@ -16,7 +16,7 @@ use Rattle.thread_rig.specs.BoardSides.{BoardIsNew}
 use Rattle.thread_rig.proofs.rig.Rig.new.Goals as goal
 
 pub returns-clause-fresh : goal.returns-clause-fresh
-returns-clause-fresh c =
+returns-clause-fresh g c =
     let host = c.new-2.ensures in
     let board = c.new-4.ensures in
     let pulse = c.new-6.ensures in
@@ -26,9 +26,9 @@ returns-clause-fresh c =
     let pieces = c.in_ok-out.ensures in
     let records = c.in_ok-records_out.ensures in record {
       meets = record {
-        link = ap (λ (s : HostSide). link_of_host s.link.end) host ∙ (link.link ∙ sym (ap (λ (s : BoardSide). link_of_board s.link.end) board));
-        flags = ap (λ (s : HostSide). raised_in s.link.flags) host ∙ (flags.table ∙ sym (ap (λ (s : BoardSide). taken_in s.link.flags) board));
-        pieces = ap (λ (s : BoardSide). ring_of_out s.link.pieces) board ∙ (pieces.ring ∙ sym (ap (λ (s : PulseSide). ring_of_in s.pieces.end) pulse));
+        link = ap (λ (s : HostSide g.row.RX). link_of_host s.link.end) host ∙ (link.link ∙ sym (ap (λ (s : BoardSide g.row.RX g.row.N). link_of_board s.link.end) board));
+        flags = ap (λ (s : HostSide g.row.RX). raised_in s.link.flags) host ∙ (flags.table ∙ sym (ap (λ (s : BoardSide g.row.RX g.row.N). taken_in s.link.flags) board));
+        pieces = ap (λ (s : BoardSide g.row.RX g.row.N). ring_of_out s.link.pieces) board ∙ (pieces.ring ∙ sym (ap (λ (s : PulseSide). ring_of_in s.pieces.end) pulse));
         records = subst (λ (s : PulseSide). IsPair s.records.end c.new-8.result.side.records.end) (sym pulse)
             (subst (λ (s : RecorderSide). IsPair c.in_ok-records_out.records_out.end s.records.end) (sym recorder) records.pair);
       };
@@ -62,4 +62,4 @@ returns-clause-fresh c =
     }
 
 pub returns-clause-form : goal.returns-clause-form
-returns-clause-form c = ap (λ (s : RecorderSide). s.recorder.form) c.new-8.ensures ∙ ap (λ (v : Recording). v.form) c.new-7.ensures.fresh
+returns-clause-form g c = ap (λ (s : RecorderSide). s.recorder.form) c.new-8.ensures ∙ ap (λ (v : Recording). v.form) c.new-7.ensures.fresh

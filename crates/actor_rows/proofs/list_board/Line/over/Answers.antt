@@ -1,5 +1,0 @@
-use Rattle.std.proofs.Common.{[], refl, rules}
-use Rattle.actor_rows.proofs.list_board.Line.over.Goals as goal
-
-pub invariant_of-result : goal.invariant_of-result
-invariant_of-result c = ([], search rules, c.new.ensures, refl)
