@@ -1,10 +1,12 @@
 -- The order of turns that the words name.
-use Rattle.std.specs.Prelude.{◌≡◌, ℕ, Bool, List}
+use Rattle.std.specs.Prelude.{◌≡◌, ℕ, ◌-◌, Bool, List}
 use Rattle.outside.specs.Causes.{SinkState}
 use Rattle.run_law.specs.declared.RunEnd.{RunEnd}
 use Rattle.epoch_law.specs.Devices.{Devices, devices, HasRun}
+use Rattle.command_line.specs.declared.Buffers.TheVariants.{Standard}
 use Rattle.command_line.specs.declared.Order.{Order}
 use Rattle.command_line.specs.declared.Order.TheVariants.{Threads, Lockstep, Paced}
+use Rattle.command_line.specs.declared.StreamOptions.{StreamOptions}
 use Rattle.step_record.specs.declared.forms.Form.{Form}
 use Rattle.step_record.specs.declared.forms.Form.TheVariants.{One}
 use Rattle.demo_job.specs.Jobs.{job_text}
@@ -12,17 +14,19 @@ use Rattle.run_status.specs.declared.Status.{Status}
 use Rattle.run_status.specs.Ends.{status_of}
 use Rattle.run_status.specs.Demos.{keeps_nothing, generated}
 use Rattle.actor_turns.specs.Orders.{IsLockstepRun, IsPacedRun}
+use Rattle.grbl_app.specs.Sizes.{room_of, slots_of}
 
--- A run of a job whose steps have this form and whose turns came in this order: of a seed, or at a pace. Threads take them in any.
-abbrev pub GoesBy : Form → Order → Devices → Devices → RunEnd → Type 0
-GoesBy form Threads was now end = HasRun form was now end
-GoesBy form (Lockstep seed) was now end = IsLockstepRun form seed was now end
-GoesBy form Paced was now end = IsPacedRun form was now end
+-- A run of a job over a link and a plan of these sizes, whose steps have this form and whose turns came in this order: of a seed, or at
+-- a pace. Threads take them in any.
+abbrev pub GoesBy : (room slots : ℕ) → Form → Order → Devices → Devices → RunEnd → Type 0
+GoesBy room slots form Threads was now end = HasRun room (slots - 1) form was now end
+GoesBy room slots form (Lockstep seed) was now end = IsLockstepRun room slots form seed was now end
+GoesBy room slots form Paced was now end = IsPacedRun room slots form was now end
 
--- that, and its status
-pub record EndsInOrder (form : Form) (order : Order) (was now : Devices) (status : Status) : Type 0 where
+-- that, by the options of a stream, and its status
+pub record EndsInOrder (options : StreamOptions) (was now : Devices) (status : Status) : Type 0 where
   pub end : RunEnd
-  pub goes : GoesBy form order was now end
+  pub goes : GoesBy (room_of options.buffers) (slots_of options.buffers) options.form options.order was now end
   pub status_is : status ≡ status_of end
 
 -- A run of the generated job of n moves in the order that n gives as a seed, with steps of form 1 and a console that keeps nothing. Its status is that
@@ -30,6 +34,6 @@ pub record EndsInOrder (form : Form) (order : Order) (was now : Devices) (status
 pub record IsOrderedDemo (n : ℕ) (steps_was steps_is : SinkState) (status : Status) : Type 0 where
   pub end : RunEnd
   pub left : List ℕ
-  pub goes : IsLockstepRun One n (devices (generated (job_text n)) keeps_nothing steps_was) (devices (generated left) keeps_nothing steps_is) end
+  pub goes : IsLockstepRun (room_of Standard) (slots_of Standard) One n (devices (generated (job_text n)) keeps_nothing steps_was) (devices (generated left) keeps_nothing steps_is) end
   pub console_failed : Bool
   pub status_is : status ≡ status_of (record end { console_failed = console_failed })

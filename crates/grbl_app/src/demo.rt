@@ -5,10 +5,12 @@ ghost use Rattle.run_status.specs.Demos.{IsDemo};
 ghost use Rattle.grbl_app.specs.Orders.{IsOrderedDemo};
 
 use actor_turns::run_in_lockstep;
+use controller::PLAN_SLOTS;
 use demo_job::{Answers, DemoJob, NoConsole, tell_summary};
 use outside::{OutOfMemory, Sink};
 use run_law::RunEnd;
 use run_status::{Status, status_of};
+use serial_ring::RECEIVE_ROOM;
 use std::alloc::Global;
 use std::sync::Wait;
 use step_record::Form;
@@ -28,7 +30,7 @@ pub(crate) fn run_demo<R: Wait, Co: Sink, St: Sink>(
     ensures untouched { OnErr result ((console.new ≡ console.old) × (steps.new ≡ steps.old)) }
 {
     let mut job = DemoJob::new(moves);
-    let end = run_in_lockstep(
+    let end = run_in_lockstep::<_, _, _, _, RECEIVE_ROOM, PLAN_SLOTS>(
         rt,
         alloc,
         Form::One,

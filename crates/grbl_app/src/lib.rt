@@ -8,27 +8,27 @@ ghost use Rattle.command_line.specs.Command.{Asks, IsNamed, Refuses};
 ghost use Rattle.command_line.specs.declared.Task.TheVariants as tasks;
 ghost use Rattle.epoch_law.specs.Devices.{devices};
 ghost use Rattle.run_status.specs.Demos.{IsDemo};
+ghost use Rattle.grbl_app.specs.Sizes.{setup_of};
 ghost use Rattle.grbl_app.specs.Orders.{EndsInOrder, IsOrderedDemo};
 ghost use Rattle.run_status.specs.Statuses.{HasItsCause, CanFail, AreOne, TellsFaults};
-ghost use Rattle.run_status.specs.Ends.{EndsWith, IsWhole, IsWholeRun, IsAlarmedRun, IsFaultless, TookMore, HasLongLine, HasNotBegun, JobWasRun, HasCauses};
+ghost use Rattle.run_status.specs.Ends.{EndsWith, IsWhole, IsFaultless, HasNotBegun, JobWasRun, HasCauses};
 
 mod demo;
 mod runs;
 
 pub use command_line::accepted_words;
-use command_line::{Order, Task, WordsFault, read_words};
+use command_line::{StreamOptions, Task, WordsFault, read_words};
 use demo::run_demo;
 pub use demo_job::demo_line;
 use outside::{Gate, OutOfMemory, Sink, Source};
 use run_status::status_of;
-pub use run_status::{Status, exit_number, put_fault};
+pub use run_status::{Status, exit_number, put_fault, statuses_have_their_causes};
 use runs::run_job;
 use std::alloc::Global;
 use std::sync::Wait;
 use std::thread::Threads;
-use step_record::Form;
 
-/// Streams a job, with steps of a form: in lockstep where a seed gives the order of the turns, at a pace, or in four threads. Where
+/// Streams a job as the options say: in lockstep where a seed gives the order of the turns, at a pace, or in four threads. Where
 /// there is no room, no device is touched.
 fn stream<
     R: Threads + Wait + Sync,
@@ -39,26 +39,25 @@ fn stream<
 >(
     rt: &R,
     alloc: Global,
-    order: Order,
-    form: Form,
+    options: StreamOptions,
     job: &mut So,
     console: &mut Co,
     steps: &mut St,
     gate: &G,
 ) -> Result<Status, OutOfMemory>
-    ensures run { IfOk result (λ status. EndsWith form (So.state job.old) (So.state job.new)
+    ensures run { IfOk result (λ status. EndsWith (setup_of options) (So.state job.old) (So.state job.new)
         (record { console = Co.state console.old; steps = St.state steps.old })
         (record { console = Co.state console.new; steps = St.state steps.new }) status) }
-    ensures causes { IfOk result (λ status. HasCauses form (So.state job.old) (So.state job.new)
+    ensures causes { IfOk result (λ status. HasCauses (setup_of options) (So.state job.old) (So.state job.new)
         (record { console = Co.state console.old; steps = St.state steps.old })
         (record { console = Co.state console.new; steps = St.state steps.new }) status) }
-    ensures its_cause { IfOk result (λ status. HasItsCause form (So.state job.old) (So.state job.new)
+    ensures its_cause { IfOk result (λ status. HasItsCause (setup_of options) (So.state job.old) (So.state job.new)
         (record { console = Co.state console.old; steps = St.state steps.old })
         (record { console = Co.state console.new; steps = St.state steps.new }) status) }
-    ensures order { IfOk result (λ status. EndsInOrder form order (devices (So.state job.old) (Co.state console.old) (St.state steps.old)) (devices (So.state job.new) (Co.state console.new) (St.state steps.new)) status) }
+    ensures order { IfOk result (λ status. EndsInOrder options (devices (So.state job.old) (Co.state console.old) (St.state steps.old)) (devices (So.state job.new) (Co.state console.new) (St.state steps.new)) status) }
     ensures untouched { OnErr result ((job.new ≡ job.old) × (console.new ≡ console.old) × (steps.new ≡ steps.old)) }
 {
-    let end = run_job(rt, alloc, order, form, job, console, steps, gate)?;
+    let end = run_job(rt, alloc, options, job, console, steps, gate)?;
     Ok(status_of(&end))
 }
 
@@ -72,8 +71,9 @@ fn stream<
 /// to its end. Each of the four actors has a thread of its own, and passes the gate before each turn. Where a thread can't be
 /// started, its actor goes before or behind another one, and such a run may wait for ever. With `--lockstep SEED` the four
 /// take turns on this thread, in an order that the seed gives, and pass no gate. With `--paced` they do so too, the host and the
-/// board first, and the motion where these two wait, so that its plan is kept full. With `--compact` the steps are in form 2, in
-/// which equal events that stand together are one line; else, as for `demo`, each record has its line.
+/// board first, and the motion where these two wait, so that its plan is kept full. With `--wide` the link has room for 255 bytes, and
+/// the plan for 35 blocks; else, as for `demo`, for 128 and 15. With `--compact` the steps are in form 2, in which equal events that
+/// stand together are one line; else, as for `demo`, each record has its line.
 ///
 /// `demo N`: the generated job of N moves is run in lockstep, with N as the seed. The console takes one line on the run, and the
 /// job is left as it is.
@@ -100,28 +100,18 @@ pub fn run_grbl<
     ensures untouched { HasNotBegun result →
         (So.state job.new ≡ So.state job.old) × (Co.state console.new ≡ Co.state console.old) × (St.state steps.new ≡ St.state steps.old) }
 
-    // A fault comes only where its device's count of faults rose, and the job is cut only where it is too large or a line is
-    // too long.
-    ensures source_fault { (order : _) (form : _) → Asks (tasks.Stream order form) (map (λ w. w.now) words.now) → result ≡ Status.SourceFault → Rose (So.state job.old).faults (So.state job.new).faults }
+    // A fault of console or steps comes only where its device's count of faults rose, in the demo too.
     ensures console_fault { result ≡ Status.ConsoleFault → Rose (Co.state console.old).faults (Co.state console.new).faults }
     ensures steps_fault { result ≡ Status.StepsFault → Rose (St.state steps.old).faults (St.state steps.new).faults }
-    ensures too_large { (order : _) (form : _) → Asks (tasks.Stream order form) (map (λ w. w.now) words.now) → result ≡ Status.TooLarge → TookMore (So.state job.old) (So.state job.new) }
-    ensures long_line { (order : _) (form : _) (k : ℕ) → Asks (tasks.Stream order form) (map (λ w. w.now) words.now) → result ≡ Status.LongLine k → HasLongLine (So.state job.old) (So.state job.new) k }
-
-    // An alarm comes only of a line beyond a soft limit, the last that was begun. The console has the whole text of the replies, the
-    // alarm at last, and the steps that of the records.
-    ensures alarm { (order : _) (form : _) (k : ℕ) → Asks (tasks.Stream order form) (map (λ w. w.now) words.now) → result ≡ Status.Alarm k → IsAlarmedRun form (So.state job.old) (So.state job.new)
-        (record { console = Co.state console.old; steps = St.state steps.old })
-        (record { console = Co.state console.new; steps = St.state steps.new }) k }
 
     // A run ends with the first status of the table whose cause there is, and with no other. Words that are refused end with
     // Usage, or, as any words may, with OutOfMemory.
-    ensures its_cause { (order : _) (form : _) → Asks (tasks.Stream order form) (map (λ w. w.now) words.now) → JobWasRun result → HasItsCause form (So.state job.old) (So.state job.new)
+    ensures its_cause { (options : _) → Asks (tasks.Stream options) (map (λ w. w.now) words.now) → JobWasRun result → HasItsCause (setup_of options) (So.state job.old) (So.state job.new)
         (record { console = Co.state console.old; steps = St.state steps.old })
         (record { console = Co.state console.new; steps = St.state steps.new }) result }
-    ensures no_other { (order : _) (form : _) (bytes : List ℕ) (status : Status) → Asks (tasks.Stream order form) (map (λ w. w.now) words.now) → JobWasRun result → (So.state job.old).left ≡ Some bytes →
+    ensures no_other { (options : _) (bytes : List ℕ) (status : Status) → Asks (tasks.Stream options) (map (λ w. w.now) words.now) → JobWasRun result → (So.state job.old).left ≡ Some bytes →
         CanFail (So.state job.old) (record { console = Co.state console.old; steps = St.state steps.old }) →
-        HasItsCause form (So.state job.old) (So.state job.new)
+        HasItsCause (setup_of options) (So.state job.old) (So.state job.new)
         (record { console = Co.state console.old; steps = St.state steps.old })
         (record { console = Co.state console.new; steps = St.state steps.new }) status → AreOne result status }
     ensures first_fault { JobWasRun result → CanFail (So.state job.old) (record { console = Co.state console.old; steps = St.state steps.old }) →
@@ -132,13 +122,8 @@ pub fn run_grbl<
     // For every job and every interleaving of the threads' atomic steps, in each epoch the recorded step events are, in order and
     // each once, a prefix of the Bresenham events of its lines answered `ok`, and all of them where no reset, alarm or record fault
     // ends it; cancels keep a prefix of the jogs; after a cancel or reset moves start there; holds, resumes and overrides change
-    // no event.
-    ensures run { (order : _) (form : _) → Asks (tasks.Stream order form) (map (λ w. w.now) words.now) → JobWasRun result → EndsWith form (So.state job.old) (So.state job.new)
-        (record { console = Co.state console.old; steps = St.state steps.old })
-        (record { console = Co.state console.new; steps = St.state steps.new }) result }
-
-    // All of the job was read, scanned and sent, no line raised an alarm, and both texts are whole.
-    ensures whole_run { (order : _) (form : _) → Asks (tasks.Stream order form) (map (λ w. w.now) words.now) → IsWhole result → IsWholeRun form (So.state job.old) (So.state job.new)
+    // no event. What that says of a status is the law `statuses_have_their_causes`: a whole run, an alarm's, a job that is cut.
+    ensures run { (options : _) → Asks (tasks.Stream options) (map (λ w. w.now) words.now) → JobWasRun result → EndsWith (setup_of options) (So.state job.old) (So.state job.new)
         (record { console = Co.state console.old; steps = St.state steps.old })
         (record { console = Co.state console.new; steps = St.state steps.new }) result }
 
@@ -148,15 +133,15 @@ pub fn run_grbl<
         (record { console = Co.state console.new; steps = St.state steps.new }) }
 
     // A job whose lines are all accepted is done, where no device fails.
-    ensures complete { (order : _) (form : _) → Asks (tasks.Stream order form) (map (λ w. w.now) words.now) → ¬ Refuses (map (λ w. w.now) words.now) → IsAcceptedJob (So.state job.old) →
+    ensures complete { (options : _) → Asks (tasks.Stream options) (map (λ w. w.now) words.now) → ¬ Refuses (map (λ w. w.now) words.now) → IsAcceptedJob (So.state job.old) →
         ¬ Rose (So.state job.old).faults (So.state job.new).faults →
         ¬ Rose (Co.state console.old).faults (Co.state console.new).faults →
         ¬ Rose (St.state steps.old).faults (St.state steps.new).faults →
         (result ≡ Status.Done) ⊎ (result ≡ Status.OutOfMemory) }
 
     // The turns are those of the order that the words name, of the seed or at a pace, and the steps are of their form.
-    ensures order { (order : _) (form : _) → Asks (tasks.Stream order form) (map (λ w. w.now) words.now) → JobWasRun result →
-        EndsInOrder form order (devices (So.state job.old) (Co.state console.old) (St.state steps.old)) (devices (So.state job.new) (Co.state console.new) (St.state steps.new)) result }
+    ensures order { (options : _) → Asks (tasks.Stream options) (map (λ w. w.now) words.now) → JobWasRun result →
+        EndsInOrder options (devices (So.state job.old) (Co.state console.old) (St.state steps.old)) (devices (So.state job.new) (Co.state console.new) (St.state steps.new)) result }
 
     // The demo runs the generated job, all of whose lines are accepted, in the order of its number, and leaves the source as it
     // is.
@@ -171,8 +156,8 @@ pub fn run_grbl<
         Err(WordsFault::OutOfMemory) => return Status::OutOfMemory,
     };
     match task {
-        Task::Stream(order, form) => {
-            match stream(rt, alloc, order, form, job, console, steps, gate) {
+        Task::Stream(options) => {
+            match stream(rt, alloc, options, job, console, steps, gate) {
                 Ok(status) => status,
                 Err(OutOfMemory) => Status::OutOfMemory,
             }

@@ -1,7 +1,9 @@
 -- The generated job is accepted, and so it is carried out whole.
+use Rattle.status_report.specs.Answering.{receive_room}
 use Rattle.std.proofs.Common.{◌≡◌, ℕ, ◌+◌, ◌≤◌, Bool, true, false, List, [], ◌∷◌, ◌++◌, length, map, refl, sym, ap, ◌∙◌, subst, arith}
 use Rattle.std.specs.List.{AllByRecursion, count_by, flat_map, list_any}
-use Rattle.step_record.specs.declared.forms.Form.{Form}
+use Rattle.planner_runs.specs.Runs.{most_blocks}
+use Rattle.run_status.specs.Setups.{Setup}
 use Rattle.step_record.specs.declared.forms.Form.TheVariants.{One}
 use Rattle.outside.specs.Causes.{SourceState}
 use Rattle.gcode_words.specs.Stripping.{plain}
@@ -77,8 +79,12 @@ one_part p last (l ∷ ls) (a_line o ∷ ps) few g = ap (onto_first o) (one_part
 one_part p last [] (a_broken o ∷ ps) few g = absurd g
 one_part p last (l ∷ ls) (a_broken o ∷ ps) few g = none_broken (behind_broken p o) last ls ps refl g.1
 
+-- how the demo is set up
+abbrev demo_setup : Setup
+demo_setup = record { room = receive_room; blocks = most_blocks; form = One }
+
 -- what a run of the generated job is
-pub record RunsWhole (n : ℕ) (form : Form) (job_was job_is : SourceState) (was is : Sinks) (end : RunEnd) (run : IsRun form job_was job_is was is end) : Type 0 where
+pub record RunsWhole (n : ℕ) (job_was job_is : SourceState) (was is : Sinks) (end : RunEnd) (run : IsRun receive_room most_blocks One job_was job_is was is end) : Type 0 where
   pub stop : end.stop ≡ stops.End
   pub errors : end.errors ≡ 0
   pub answered : end.answered ≡ n + 3
@@ -92,8 +98,8 @@ never_failed : (t : Bool) → (t ≡ true → 1 ≤ 0) → t ≡ false
 never_failed false rose = refl
 never_failed true rose = absurd (let low = rose refl in omega arith)
 
-pub runs_whole : (n : ℕ) (left : List ℕ) (was is : Sinks) (end : RunEnd) → 1 ≤ n → n ≤ 100000 → (run : IsRun One (generated (job_text n)) (generated left) was is end)
-    → RunsWhole n One (generated (job_text n)) (generated left) was is end run
+pub runs_whole : (n : ℕ) (left : List ℕ) (was is : Sinks) (end : RunEnd) → 1 ≤ n → n ≤ 100000 → (run : IsRun receive_room most_blocks One (generated (job_text n)) (generated left) was is end)
+    → RunsWhole n (generated (job_text n)) (generated left) was is end run
 runs_whole n left was is end some most run =
     let of = accepted n run.fits.first some most run.fits.opens in
     let follows = subst (λ ls. rules.Follows false (start run.fits.first) (map plain ls) (map line_passed of.outcomes) of.last) (sym of.cut) of.follows in
@@ -114,9 +120,9 @@ runs_whole n left was is end some most run =
       calm = of.within;
     } in
     let read : end.source_failed ≡ false = never_failed end.source_failed run.ending.source in
-    let done = complete One (generated (job_text n)) (generated left) was is end run job read in
+    let done = complete demo_setup (generated (job_text n)) (generated left) was is end run job read in
     let sent : run.lines ≡ job_lines n = done.sent ∙ of.cut in
-    let all = sent_all One (generated (job_text n)) (generated left) was is end run read done.stop in
+    let all = sent_all demo_setup (generated (job_text n)) (generated left) was is end run read done.stop in
     let lines : lines_of run.scanned ≡ job_lines n = ap lines_of (sym all.all ∙ done.all) ∙ of.cut in
     let none : slows_in run.scanned ≡ 0 = subst NoneSlows (sym lines) (none_slows (job_lines n) of.calm) in
     let resets : NoneResets (lines_of run.scanned) = subst NoneResets (sym lines) (none_resets (job_lines n) of.calm) in

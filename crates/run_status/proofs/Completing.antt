@@ -28,7 +28,7 @@ use Rattle.run_texts.specs.Fronts.{BeginsWith}
 use Rattle.run_texts.specs.Points.{Point, opening, behind_line, behind_broken}
 use Rattle.run_texts.specs.Sent.{Sent, sent_of, sent_by, resets_of, has_reset, behind_reset}
 use Rattle.run_texts.specs.Sent.Sent.{a_text, a_stop}
-use Rattle.step_record.specs.declared.forms.Form.{Form}
+use Rattle.run_status.specs.Setups.{Setup}
 use Rattle.stream_host.specs.declared.Reading.{Reading}
 use Rattle.stream_host.specs.declared.Reading.TheVariants.{Ended, Failed, Large, Stopped}
 use Rattle.stream_host.specs.declared.Stop.TheVariants.{End}
@@ -319,9 +319,9 @@ none_behind : (whole front rest : List (List ℕ)) → whole ≡ front ++ rest �
 none_behind whole front rest is same =
     nil_from_length rest (let e = ap length is in let a = length-append front rest in let s = ap length same in omega (arith, e, a, s))
 
-pub complete : (form : Form) (job_was job_is : SourceState) (was is : Sinks) (end : RunEnd) (run : IsRun form job_was job_is was is end) (job : IsAcceptedJob job_was)
+pub complete : (setup : Setup) (job_was job_is : SourceState) (was is : Sinks) (end : RunEnd) (run : IsRun setup.room setup.blocks setup.form job_was job_is was is end) (job : IsAcceptedJob job_was)
     → end.source_failed ≡ false → IsComplete job.bytes run.read run.lines job.outcomes (lines_in run.fits.course) end
-complete form job_was job_is was is end run job well =
+complete setup job_was job_is was is end run job well =
     let front = read_front job_was.left job_is.left job.bytes run.read job.told run.sending.taken in
     let few : length run.read ≤ largest_job =
     (let e = ap length front.0.is in let a = length-append run.read front.0.rest in let f = job.few in omega arith) in

@@ -3,7 +3,7 @@ use Rattle.std.proofs.Common.{◌≡◌, ◌≢◌, ℕ, zero, suc, ◌≤◌, i
 use Rattle.std.specs.List.{AllByRecursion, list_any}
 use Rattle.std.proofs.lemmas.Bool.Decides.{nat_tests}
 use Rattle.std.proofs.lemmas.List.{nil_from_length, take_all}
-use Rattle.step_record.specs.declared.forms.Form.{Form}
+use Rattle.run_status.specs.Setups.{Setup}
 use Rattle.outside.specs.Causes.{SourceState}
 use Rattle.run_rules.specs.Lines.{lines_of}
 use Rattle.run_rules.specs.Readings.{largest_job, job_of}
@@ -49,17 +49,17 @@ none_left text lines rest (inl is) all = by_length (nat_lt 0 (length rest)) refl
 none_left text lines rest (inr over) all = over.1
 
 -- all of it was read, and each of its lines sent
-pub record SentAll (form : Form) (job_was job_is : SourceState) (was is : Sinks) (end : RunEnd) (run : IsRun form job_was job_is was is end) : Type 0 where
+pub record SentAll (setup : Setup) (job_was job_is : SourceState) (was is : Sinks) (end : RunEnd) (run : IsRun setup.room setup.blocks setup.form job_was job_is was is end) : Type 0 where
   pub over : run.reading ≡ Ended
   pub few : length run.read ≤ largest_job
   pub lines : run.lines ≡ lines_of run.read
   pub all : run.read ≡ run.scanned
   pub rest : run.rest ≡ []
 
-pub sent_all : (form : Form) (job_was job_is : SourceState) (was is : Sinks) (end : RunEnd) (run : IsRun form job_was job_is was is end) → end.source_failed ≡ false → end.stop ≡ stops.End
-    → SentAll form job_was job_is was is end run
-sent_all form job_was job_is was is end run well stop =
-    let by = by_end form job_was job_is was is end run stop in
+pub sent_all : (setup : Setup) (job_was job_is : SourceState) (was is : Sinks) (end : RunEnd) (run : IsRun setup.room setup.blocks setup.form job_was job_is was is end) → end.source_failed ≡ false → end.stop ≡ stops.End
+    → SentAll setup job_was job_is was is end run
+sent_all setup job_was job_is was is end run well stop =
+    let by = by_end setup job_was job_is was is end run stop in
     let sent = run.sending.sent by.none in
     let why = end_means run.reading run.scanned by.end in
     let leaves = sent.scans.whole why.short in
@@ -90,10 +90,10 @@ errors_have_run zero = tt
 errors_have_run (suc n) = tt
 
 -- by what failed, and why no more of the job was sent
-by_cases : (form : Form) (job_was job_is : SourceState) (was is : Sinks) (end : RunEnd) (run : IsRun form job_was job_is was is end) (steps_failed console_failed source_failed : Bool) (stop : Stop)
+by_cases : (setup : Setup) (job_was job_is : SourceState) (was is : Sinks) (end : RunEnd) (run : IsRun setup.room setup.blocks setup.form job_was job_is was is end) (steps_failed console_failed source_failed : Bool) (stop : Stop)
     → end.steps_failed ≡ steps_failed → end.console_failed ≡ console_failed → end.source_failed ≡ source_failed → end.stop ≡ stop
-    → HasCauses form job_was job_is was is (cond steps_failed StepsFault (cond console_failed ConsoleFault (cond source_failed SourceFault (by_stop stop end.errors))))
-by_cases form job_was job_is was is end run true cf nf stop es ec en et = record {
+    → HasCauses setup job_was job_is was is (cond steps_failed StepsFault (cond console_failed ConsoleFault (cond source_failed SourceFault (by_stop stop end.errors))))
+by_cases setup job_was job_is was is end run true cf nf stop es ec en et = record {
   has_run = tt;
   source = λ e. absurd cc;
   console = λ e. absurd cc;
@@ -105,7 +105,7 @@ by_cases form job_was job_is was is end run true cf nf stop es ec en et = record
   faultless = λ w. absurd w;
   complete = λ job source console steps. absurd (steps (run.recording.steps.cause es));
 }
-by_cases form job_was job_is was is end run false true nf stop es ec en et = record {
+by_cases setup job_was job_is was is end run false true nf stop es ec en et = record {
   has_run = tt;
   source = λ e. absurd cc;
   console = λ e. run.telling.console.cause ec;
@@ -117,7 +117,7 @@ by_cases form job_was job_is was is end run false true nf stop es ec en et = rec
   faultless = λ w. absurd w;
   complete = λ job source console steps. absurd (console (run.telling.console.cause ec));
 }
-by_cases form job_was job_is was is end run false false true stop es ec en et = record {
+by_cases setup job_was job_is was is end run false false true stop es ec en et = record {
   has_run = tt;
   source = λ e. run.ending.source en;
   console = λ e. absurd cc;
@@ -129,7 +129,7 @@ by_cases form job_was job_is was is end run false false true stop es ec en et = 
   faultless = λ w. absurd w;
   complete = λ job source console steps. absurd (source (run.ending.source en));
 }
-by_cases form job_was job_is was is end run false false false stops.TooLarge es ec en et = record {
+by_cases setup job_was job_is was is end run false false false stops.TooLarge es ec en et = record {
   has_run = tt;
   source = λ e. absurd cc;
   console = λ e. absurd cc;
@@ -137,22 +137,22 @@ by_cases form job_was job_is was is end run false false false stops.TooLarge es 
   large = λ e. record {
     read = run.read;
     taken = run.sending.taken;
-    more = subst (λ r. MayHaveRead r (length run.read)) (large_means run.reading run.scanned (by_job form job_was job_is was is end run stops.TooLarge (λ e. cc) (λ j e. cc) et)) run.sending.so_far.fits;
+    more = subst (λ r. MayHaveRead r (length run.read)) (large_means run.reading run.scanned (by_job setup job_was job_is was is end run stops.TooLarge (λ e. cc) (λ j e. cc) et)) run.sending.so_far.fits;
   };
   long = λ k e. absurd cc;
   alarm = λ k e. absurd cc;
   whole = λ w. absurd w;
   faultless = λ w. absurd w;
-  complete = λ job source console steps. absurd (let e = sym (complete form job_was job_is was is end run job en).stop ∙ et in cc);
+  complete = λ job source console steps. absurd (let e = sym (complete setup job_was job_is was is end run job en).stop ∙ et in cc);
 }
-by_cases form job_was job_is was is end run false false false (stops.LongLine k) es ec en et = record {
+by_cases setup job_was job_is was is end run false false false (stops.LongLine k) es ec en et = record {
   has_run = tt;
   source = λ e. absurd cc;
   console = λ e. absurd cc;
   steps = λ e. absurd cc;
   large = λ e. absurd cc;
   long = λ j e.
-      let by = scanned_to_long form job_was job_is was is end run k et in let why = long_means k run.reading run.scanned (sym et ∙ by.cause) in let same : j ≡ k = cc in record {
+      let by = scanned_to_long setup job_was job_is was is end run k et in let why = long_means k run.reading run.scanned (sym et ∙ by.cause) in let same : j ≡ k = cc in record {
         read = run.read;
         reading = run.reading;
         scanned = run.scanned;
@@ -164,22 +164,22 @@ by_cases form job_was job_is was is end run false false false (stops.LongLine k)
   alarm = λ k e. absurd cc;
   whole = λ w. absurd w;
   faultless = λ w. absurd w;
-  complete = λ job source console steps. absurd (let e = sym (complete form job_was job_is was is end run job en).stop ∙ et in cc);
+  complete = λ job source console steps. absurd (let e = sym (complete setup job_was job_is was is end run job en).stop ∙ et in cc);
 }
-by_cases form job_was job_is was is end run false false false (stops.Alarm k) es ec en et = record {
+by_cases setup job_was job_is was is end run false false false (stops.Alarm k) es ec en et = record {
   has_run = tt;
   source = λ e. absurd cc;
   console = λ e. absurd cc;
   steps = λ e. absurd cc;
   large = λ e. absurd cc;
   long = λ j e. absurd cc;
-  alarm = λ j e. let same : k ≡ j = cc in subst (IsAlarmedRun form job_was job_is was is) same (halted_run form job_was job_is was is end run k es ec et);
+  alarm = λ j e. let same : k ≡ j = cc in subst (IsAlarmedRun setup job_was job_is was is) same (halted_run setup job_was job_is was is end run k es ec et);
   whole = λ w. absurd w;
   faultless = λ w. absurd w;
-  complete = λ job source console steps. absurd (let e = sym (complete form job_was job_is was is end run job en).stop ∙ et in cc);
+  complete = λ job source console steps. absurd (let e = sym (complete setup job_was job_is was is end run job en).stop ∙ et in cc);
 }
-by_cases form job_was job_is was is end run false false false stops.End es ec en et =
-    let none = by_errors_not end.errors in let all = sent_all form job_was job_is was is end run en et in let by = by_end form job_was job_is was is end run et in
+by_cases setup job_was job_is was is end run false false false stops.End es ec en et =
+    let none = by_errors_not end.errors in let all = sent_all setup job_was job_is was is end run en et in let by = by_end setup job_was job_is was is end run et in
     record {
       has_run = errors_have_run end.errors;
       source = λ e. absurd (none.0 e);
@@ -202,9 +202,9 @@ by_cases form job_was job_is was is end run false false false stops.End es ec en
         status_is = ap by_errors run.telling.errors;
       };
       faultless = λ w. record { source = run.ending.source_same en; console = run.telling.console.same ec; steps = run.recording.steps.same es };
-      complete = λ job source console steps. ap by_errors (complete form job_was job_is was is end run job en).errors;
+      complete = λ job source console steps. ap by_errors (complete setup job_was job_is was is end run job en).errors;
     }
 
-pub has_causes : (form : Form) (job_was job_is : SourceState) (was is : Sinks) (status : Status) → EndsWith form job_was job_is was is status → HasCauses form job_was job_is was is status
-has_causes form job_was job_is was is status ends =
-    rw ends.status_is (by_cases form job_was job_is was is ends.end ends.run ends.end.steps_failed ends.end.console_failed ends.end.source_failed ends.end.stop refl refl refl refl)
+pub has_causes : (setup : Setup) (job_was job_is : SourceState) (was is : Sinks) (status : Status) → EndsWith setup job_was job_is was is status → HasCauses setup job_was job_is was is status
+has_causes setup job_was job_is was is status ends =
+    rw ends.status_is (by_cases setup job_was job_is was is ends.end ends.run ends.end.steps_failed ends.end.console_failed ends.end.source_failed ends.end.stop refl refl refl refl)

@@ -2,7 +2,7 @@
 use Rattle.std.proofs.Common.{◌≡◌, ℕ, ◌+◌, Bool, true, false, cond, List, [], ◌∷◌, ◌++◌, length, append-nil, length-append, refl, sym, ap, ◌∙◌, arith}
 use Rattle.std.proofs.lemmas.List.Sums.{sum_by-append}
 use Rattle.std.specs.Io.KnownBytes.{Appends}
-use Rattle.step_record.specs.declared.forms.Form.{Form}
+use Rattle.run_status.specs.Setups.{Setup}
 use Rattle.step_record.specs.Forms.{text_in}
 use Rattle.outside.specs.Causes.{SourceState, SinkState}
 use Rattle.outside.specs.Writing.{Took}
@@ -168,10 +168,10 @@ numbered first sent course answered lost one alarm each same =
 
 -- ---- the run
 
-pub halted_run : (form : Form) (job_was job_is : SourceState) (was is : Sinks) (end : RunEnd) (run : IsRun form job_was job_is was is end) (k : ℕ)
-    → end.steps_failed ≡ false → end.console_failed ≡ false → end.stop ≡ stops.Alarm k → IsAlarmedRun form job_was job_is was is k
-halted_run form job_was job_is was is end run k es ec et =
-    let why = by_alarm form job_was job_is was is end run k et in
+pub halted_run : (setup : Setup) (job_was job_is : SourceState) (was is : Sinks) (end : RunEnd) (run : IsRun setup.room setup.blocks setup.form job_was job_is was is end) (k : ℕ)
+    → end.steps_failed ≡ false → end.console_failed ≡ false → end.stop ≡ stops.Alarm k → IsAlarmedRun setup job_was job_is was is k
+halted_run setup job_was job_is was is end run k es ec et =
+    let why = by_alarm setup job_was job_is was is end run k et in
     let alarm = ends_at (opening run.fits.first) run.fits.last (sent_of run.lines run.rest) run.fits.course refl (sym run.telling.alarm ∙ why.got) run.fits.follows in
     record {
       end = end;
@@ -180,5 +180,5 @@ halted_run form job_was job_is was is end run k es ec et =
       alarm = alarm;
       number = why.line ∙ numbered (opening run.fits.first) (sent_of run.lines run.rest) run.fits.course end.answered run.sending.forgotten refl alarm run.telling.each run.ending.lost;
       console = whole_text was.console is.console end.console_failed (replies_text run.replies) ec run.telling.console;
-      steps = whole_text was.steps is.steps end.steps_failed (text_in form run.records) es run.recording.steps;
+      steps = whole_text was.steps is.steps end.steps_failed (text_in setup.form run.records) es run.recording.steps;
     }

@@ -1,7 +1,7 @@
 -- Each status comes by its cause, and by that of no other.
 use Rattle.std.specs.Io.KnownBytes.{Consumes}
 use Rattle.std.proofs.Common.{◌≡◌, inl, inr, ℕ, zero, suc, ◌≤◌, Bool, true, false, cond, List, [], ◌++◌, length, Some, refl, sym, ap, ◌∙◌, subst, append-nil, arith}
-use Rattle.step_record.specs.declared.forms.Form.{Form}
+use Rattle.run_status.specs.Setups.{Setup}
 use Rattle.outside.specs.Causes.{Rose, SourceState}
 use Rattle.run_rules.specs.Readings.{largest_job, job_of}
 use Rattle.run_rules.specs.Told.{errors_in}
@@ -45,9 +45,9 @@ as_ended Failed text small = refl
 as_ended Large text small = absurd (small refl)
 as_ended Stopped text small = refl
 
-sends : (form : Form) (job_was job_is : SourceState) (was is : Sinks) (end : RunEnd) (run : IsRun form job_was job_is was is end) → IsScanned form job_was job_is was is end run → end.source_failed ≡ false → (run.reading ≡ Large → ⊥)
+sends : (setup : Setup) (job_was job_is : SourceState) (was is : Sinks) (end : RunEnd) (run : IsRun setup.room setup.blocks setup.form job_was job_is was is end) → IsScanned setup job_was job_is was is end run → end.source_failed ≡ false → (run.reading ≡ Large → ⊥)
     → SendsUpTo job_was job_is end.stop
-sends form job_was job_is was is end run by well small =
+sends setup job_was job_is was is end run by well small =
     let few : length run.read ≤ largest_job = not_over run.reading (length run.read) small run.sending.so_far.fits in
     let all : job_of run.read ≡ run.read = whole_job run.read few in
     let ends : ends_in run.scanned ≡ false → (by.scans.scans.left ≡ []) × (run.reading ≡ Ended) =
@@ -69,44 +69,44 @@ sends form job_was job_is was is end run by well small =
 not_large : (r : Reading) (stop : Stop) (text : List ℕ) → (stop ≡ stops.TooLarge → ⊥) → stop ≡ stop_by r text → r ≡ Large → ⊥
 not_large r stop text other is large = other (is ∙ ap (λ q. stop_by q text) large)
 
-by_number : (form : Form) (job_was job_is : SourceState) (was is : Sinks) (n : ℕ) → IsFaultless job_was job_is was is → SendsUpTo job_was job_is stops.End → IsWholeRun form job_was job_is was is (by_errors n)
-    → HasItsCause form job_was job_is was is (by_errors n)
-by_number form job_was job_is was is zero well sends whole = (well, sends, whole)
-by_number form job_was job_is was is (suc n) well sends whole = (well, sends, whole)
+by_number : (setup : Setup) (job_was job_is : SourceState) (was is : Sinks) (n : ℕ) → IsFaultless job_was job_is was is → SendsUpTo job_was job_is stops.End → IsWholeRun setup job_was job_is was is (by_errors n)
+    → HasItsCause setup job_was job_is was is (by_errors n)
+by_number setup job_was job_is was is zero well sends whole = (well, sends, whole)
+by_number setup job_was job_is was is (suc n) well sends whole = (well, sends, whole)
 
 whole_number : (n : ℕ) → IsWhole (by_errors n)
 whole_number zero = tt
 whole_number (suc n) = tt
 
 -- where no device failed, by why no more was sent
-by_why : (form : Form) (job_was job_is : SourceState) (was is : Sinks) (end : RunEnd) (run : IsRun form job_was job_is was is end) (stop : Stop) → end.source_failed ≡ false → end.stop ≡ stop
-    → IsFaultless job_was job_is was is → HasCauses form job_was job_is was is (by_stop stop end.errors) → HasItsCause form job_was job_is was is (by_stop stop end.errors)
-by_why form job_was job_is was is end run stops.TooLarge en et well causes = (well, causes.large refl)
-by_why form job_was job_is was is end run (stops.LongLine k) en et well causes =
-    let by = scanned_to_long form job_was job_is was is end run k et in
+by_why : (setup : Setup) (job_was job_is : SourceState) (was is : Sinks) (end : RunEnd) (run : IsRun setup.room setup.blocks setup.form job_was job_is was is end) (stop : Stop) → end.source_failed ≡ false → end.stop ≡ stop
+    → IsFaultless job_was job_is was is → HasCauses setup job_was job_is was is (by_stop stop end.errors) → HasItsCause setup job_was job_is was is (by_stop stop end.errors)
+by_why setup job_was job_is was is end run stops.TooLarge en et well causes = (well, causes.large refl)
+by_why setup job_was job_is was is end run (stops.LongLine k) en et well causes =
+    let by = scanned_to_long setup job_was job_is was is end run k et in
     let small = not_large run.reading end.stop run.scanned (λ e. absurd (let f = sym et ∙ e in cc)) by.cause in
-    (well, subst (SendsUpTo job_was job_is) et (sends form job_was job_is was is end run by en small))
-by_why form job_was job_is was is end run (stops.Alarm k) en et well causes = (well, causes.alarm k refl)
-by_why form job_was job_is was is end run stops.End en et well causes =
-    let by = scanned_to_end form job_was job_is was is end run et in
+    (well, subst (SendsUpTo job_was job_is) et (sends setup job_was job_is was is end run by en small))
+by_why setup job_was job_is was is end run (stops.Alarm k) en et well causes = (well, causes.alarm k refl)
+by_why setup job_was job_is was is end run stops.End en et well causes =
+    let by = scanned_to_end setup job_was job_is was is end run et in
     let small = not_large run.reading end.stop run.scanned (λ e. absurd (let f = sym et ∙ e in cc)) by.cause in
-    by_number form job_was job_is was is end.errors well (subst (SendsUpTo job_was job_is) et (sends form job_was job_is was is end run by en small)) (causes.whole (whole_number end.errors))
+    by_number setup job_was job_is was is end.errors well (subst (SendsUpTo job_was job_is) et (sends setup job_was job_is was is end run by en small)) (causes.whole (whole_number end.errors))
 
-by_faults : (form : Form) (job_was job_is : SourceState) (was is : Sinks) (end : RunEnd) (run : IsRun form job_was job_is was is end) (sf cf rf : Bool) (stop : Stop)
+by_faults : (setup : Setup) (job_was job_is : SourceState) (was is : Sinks) (end : RunEnd) (run : IsRun setup.room setup.blocks setup.form job_was job_is was is end) (sf cf rf : Bool) (stop : Stop)
     → end.steps_failed ≡ sf → end.console_failed ≡ cf → end.source_failed ≡ rf → end.stop ≡ stop
-    → HasCauses form job_was job_is was is (cond sf StepsFault (cond cf ConsoleFault (cond rf SourceFault (by_stop stop end.errors))))
-    → HasItsCause form job_was job_is was is (cond sf StepsFault (cond cf ConsoleFault (cond rf SourceFault (by_stop stop end.errors))))
-by_faults form job_was job_is was is end run true cf rf stop es ec en et causes = run.recording.steps.cause es
-by_faults form job_was job_is was is end run false true rf stop es ec en et causes = (run.recording.steps.same es, run.telling.console.cause ec)
-by_faults form job_was job_is was is end run false false true stop es ec en et causes = (run.recording.steps.same es, run.telling.console.same ec, run.ending.source en)
-by_faults form job_was job_is was is end run false false false stop es ec en et causes =
-    by_why form job_was job_is was is end run stop en et (record { source = run.ending.source_same en; console = run.telling.console.same ec; steps = run.recording.steps.same es }) causes
+    → HasCauses setup job_was job_is was is (cond sf StepsFault (cond cf ConsoleFault (cond rf SourceFault (by_stop stop end.errors))))
+    → HasItsCause setup job_was job_is was is (cond sf StepsFault (cond cf ConsoleFault (cond rf SourceFault (by_stop stop end.errors))))
+by_faults setup job_was job_is was is end run true cf rf stop es ec en et causes = run.recording.steps.cause es
+by_faults setup job_was job_is was is end run false true rf stop es ec en et causes = (run.recording.steps.same es, run.telling.console.cause ec)
+by_faults setup job_was job_is was is end run false false true stop es ec en et causes = (run.recording.steps.same es, run.telling.console.same ec, run.ending.source en)
+by_faults setup job_was job_is was is end run false false false stop es ec en et causes =
+    by_why setup job_was job_is was is end run stop en et (record { source = run.ending.source_same en; console = run.telling.console.same ec; steps = run.recording.steps.same es }) causes
 
-pub has_its_cause : (form : Form) (job_was job_is : SourceState) (was is : Sinks) (status : Status) → EndsWith form job_was job_is was is status → HasItsCause form job_was job_is was is status
-has_its_cause form job_was job_is was is status ends =
-    let causes : HasCauses form job_was job_is was is (status_of ends.end) = subst (HasCauses form job_was job_is was is) ends.status_is (has_causes form job_was job_is was is status ends) in
-    subst (HasItsCause form job_was job_is was is) (sym ends.status_is)
-    (by_faults form job_was job_is was is ends.end ends.run ends.end.steps_failed ends.end.console_failed ends.end.source_failed ends.end.stop refl refl refl refl causes)
+pub has_its_cause : (setup : Setup) (job_was job_is : SourceState) (was is : Sinks) (status : Status) → EndsWith setup job_was job_is was is status → HasItsCause setup job_was job_is was is status
+has_its_cause setup job_was job_is was is status ends =
+    let causes : HasCauses setup job_was job_is was is (status_of ends.end) = subst (HasCauses setup job_was job_is was is) ends.status_is (has_causes setup job_was job_is was is status ends) in
+    subst (HasItsCause setup job_was job_is was is) (sym ends.status_is)
+    (by_faults setup job_was job_is was is ends.end ends.run ends.end.steps_failed ends.end.console_failed ends.end.source_failed ends.end.stop refl refl refl refl causes)
 
 -- ---- and of no other
 
@@ -119,29 +119,29 @@ record IsBy (stop : Stop) (status : Status) : Type 0 where
   is : status ≡ by_stop stop errors
 
 -- why no more was sent of a job that is not too large: what was scanned of it says so, or an alarm came
-data Rest (form : Form) (job_was job_is : SourceState) (was is : Sinks) (status : Status) : Type 0 where
-  sent : (stop : Stop) → IsBy stop status → SendsUpTo job_was job_is stop → Rest form job_was job_is was is status
-  halted : (k : ℕ) → status ≡ Alarm k → IsAlarmedRun form job_was job_is was is k → Rest form job_was job_is was is status
+data Rest (setup : Setup) (job_was job_is : SourceState) (was is : Sinks) (status : Status) : Type 0 where
+  sent : (stop : Stop) → IsBy stop status → SendsUpTo job_was job_is stop → Rest setup job_was job_is was is status
+  halted : (k : ℕ) → status ≡ Alarm k → IsAlarmedRun setup job_was job_is was is k → Rest setup job_was job_is was is status
 
 -- the rows of the table, with those of a job that is not too large as one
-data Row (form : Form) (job_was job_is : SourceState) (was is : Sinks) (status : Status) : Type 0 where
-  steps : status ≡ StepsFault → Rose was.steps.faults is.steps.faults → Row form job_was job_is was is status
-  console : status ≡ ConsoleFault → is.steps.faults ≡ was.steps.faults → Rose was.console.faults is.console.faults → Row form job_was job_is was is status
-  source : status ≡ SourceFault → is.steps.faults ≡ was.steps.faults → is.console.faults ≡ was.console.faults → Rose job_was.faults job_is.faults → Row form job_was job_is was is status
-  large : status ≡ TooLarge → IsFaultless job_was job_is was is → TookMore job_was job_is → Row form job_was job_is was is status
-  of_job : IsFaultless job_was job_is was is → Rest form job_was job_is was is status → Row form job_was job_is was is status
+data Row (setup : Setup) (job_was job_is : SourceState) (was is : Sinks) (status : Status) : Type 0 where
+  steps : status ≡ StepsFault → Rose was.steps.faults is.steps.faults → Row setup job_was job_is was is status
+  console : status ≡ ConsoleFault → is.steps.faults ≡ was.steps.faults → Rose was.console.faults is.console.faults → Row setup job_was job_is was is status
+  source : status ≡ SourceFault → is.steps.faults ≡ was.steps.faults → is.console.faults ≡ was.console.faults → Rose job_was.faults job_is.faults → Row setup job_was job_is was is status
+  large : status ≡ TooLarge → IsFaultless job_was job_is was is → TookMore job_was job_is → Row setup job_was job_is was is status
+  of_job : IsFaultless job_was job_is was is → Rest setup job_was job_is was is status → Row setup job_was job_is was is status
 
-row_of : (form : Form) (job_was job_is : SourceState) (was is : Sinks) (status : Status) → HasItsCause form job_was job_is was is status → Row form job_was job_is was is status
-row_of form job_was job_is was is StepsFault cause = steps refl cause
-row_of form job_was job_is was is ConsoleFault cause = console refl cause.0 cause.1
-row_of form job_was job_is was is SourceFault cause = source refl cause.0 cause.1 cause.2
-row_of form job_was job_is was is TooLarge cause = large refl cause.0 cause.1
-row_of form job_was job_is was is (LongLine k) cause = of_job cause.0 (sent (stops.LongLine k) (record { errors = 0; is = refl }) cause.1)
-row_of form job_was job_is was is (Alarm k) cause = of_job cause.0 (halted k refl cause.1)
-row_of form job_was job_is was is (LineErrors n) cause = of_job cause.0 (sent stops.End (record { errors = errors_in (lines_in cause.2.run.fits.course); is = cause.2.status_is }) cause.1)
-row_of form job_was job_is was is Done cause = of_job cause.0 (sent stops.End (record { errors = errors_in (lines_in cause.2.run.fits.course); is = cause.2.status_is }) cause.1)
-row_of form job_was job_is was is Usage cause = absurd cause
-row_of form job_was job_is was is OutOfMemory cause = absurd cause
+row_of : (setup : Setup) (job_was job_is : SourceState) (was is : Sinks) (status : Status) → HasItsCause setup job_was job_is was is status → Row setup job_was job_is was is status
+row_of setup job_was job_is was is StepsFault cause = steps refl cause
+row_of setup job_was job_is was is ConsoleFault cause = console refl cause.0 cause.1
+row_of setup job_was job_is was is SourceFault cause = source refl cause.0 cause.1 cause.2
+row_of setup job_was job_is was is TooLarge cause = large refl cause.0 cause.1
+row_of setup job_was job_is was is (LongLine k) cause = of_job cause.0 (sent (stops.LongLine k) (record { errors = 0; is = refl }) cause.1)
+row_of setup job_was job_is was is (Alarm k) cause = of_job cause.0 (halted k refl cause.1)
+row_of setup job_was job_is was is (LineErrors n) cause = of_job cause.0 (sent stops.End (record { errors = errors_in (lines_in cause.2.run.fits.course); is = cause.2.status_is }) cause.1)
+row_of setup job_was job_is was is Done cause = of_job cause.0 (sent stops.End (record { errors = errors_in (lines_in cause.2.run.fits.course); is = cause.2.status_is }) cause.1)
+row_of setup job_was job_is was is Usage cause = absurd cause
+row_of setup job_was job_is was is OutOfMemory cause = absurd cause
 
 -- what was read is no more than a job may have
 record ReadsWithin (job_was job_is : SourceState) : Type 0 where
@@ -149,9 +149,9 @@ record ReadsWithin (job_was job_is : SourceState) : Type 0 where
   taken : Consumes job_was.left job_is.left read
   few : length read ≤ largest_job
 
-within : (form : Form) (job_was job_is : SourceState) (was is : Sinks) (status : Status) → Rest form job_was job_is was is status → ReadsWithin job_was job_is
-within form job_was job_is was is status (sent stop by sends) = record { read = sends.read; taken = sends.taken; few = sends.few }
-within form job_was job_is was is status (halted k is_limit run) =
+within : (setup : Setup) (job_was job_is : SourceState) (was is : Sinks) (status : Status) → Rest setup job_was job_is was is status → ReadsWithin job_was job_is
+within setup job_was job_is was is status (sent stop by sends) = record { read = sends.read; taken = sends.taken; few = sends.few }
+within setup job_was job_is was is status (halted k is_limit run) =
     let small = (end_means run.run.reading run.run.scanned (sym run.going)).small in
     record { read = run.run.read; taken = run.run.sending.taken; few = not_over run.run.reading (length run.run.read) small run.run.sending.so_far.fits }
 
@@ -182,81 +182,81 @@ of_stop job_was job_is (stops.LongLine k) a by sends = subst IsOfJob (sym by.is)
 of_stop job_was job_is stops.TooLarge a by sends = absurd (let e = large_means Ended sends.scanned sends.cause in cc)
 of_stop job_was job_is (stops.Alarm k) a by sends = subst IsOfJob (sym by.is) tt
 
-of_rest : (form : Form) (job_was job_is : SourceState) (was is : Sinks) (a : Status) → Rest form job_was job_is was is a → IsOfJob a
-of_rest form job_was job_is was is a (sent stop by sends) = of_stop job_was job_is stop a by sends
-of_rest form job_was job_is was is a (halted k e run) = subst IsOfJob (sym e) tt
+of_rest : (setup : Setup) (job_was job_is : SourceState) (was is : Sinks) (a : Status) → Rest setup job_was job_is was is a → IsOfJob a
+of_rest setup job_was job_is was is a (sent stop by sends) = of_stop job_was job_is stop a by sends
+of_rest setup job_was job_is was is a (halted k e run) = subst IsOfJob (sym e) tt
 
-one_rest : (form : Form) (job_was job_is : SourceState) (was is : Sinks) (bytes : List ℕ) (a b : Status) → job_was.left ≡ Some bytes → Rest form job_was job_is was is a → Rest form job_was job_is was is b → AreOne a b
-one_rest form job_was job_is was is bytes a b told (sent stop e sends) (sent other f sends_too) =
+one_rest : (setup : Setup) (job_was job_is : SourceState) (was is : Sinks) (bytes : List ℕ) (a b : Status) → job_was.left ≡ Some bytes → Rest setup job_was job_is was is a → Rest setup job_was job_is was is b → AreOne a b
+one_rest setup job_was job_is was is bytes a b told (sent stop e sends) (sent other f sends_too) =
     let same : stop ≡ other = one_stop job_was job_is bytes stop other told sends sends_too in
     by_one_stop stop a b e (subst (λ s. IsBy s b) (sym same) f)
-one_rest form job_was job_is was is bytes a b told (sent stop e sends) (halted k f run) = inr (inr (inr (subst IsAlarm (sym f) tt), of_stop job_was job_is stop a e sends, subst IsOfJob (sym f) tt))
-one_rest form job_was job_is was is bytes a b told (halted k e run) other = inr (inr (inl (subst IsAlarm (sym e) tt), subst IsOfJob (sym e) tt, of_rest form job_was job_is was is b other))
+one_rest setup job_was job_is was is bytes a b told (sent stop e sends) (halted k f run) = inr (inr (inr (subst IsAlarm (sym f) tt), of_stop job_was job_is stop a e sends, subst IsOfJob (sym f) tt))
+one_rest setup job_was job_is was is bytes a b told (halted k e run) other = inr (inr (inl (subst IsAlarm (sym e) tt), subst IsOfJob (sym e) tt, of_rest setup job_was job_is was is b other))
 
-one_row : (form : Form) (job_was job_is : SourceState) (was is : Sinks) (bytes : List ℕ) (a b : Status) → job_was.left ≡ Some bytes → CanFail job_was was
-    → Row form job_was job_is was is a → Row form job_was job_is was is b → AreOne a b
-one_row form job_was job_is was is bytes a b told can (steps e rose) (steps f rose_too) = inl (e ∙ sym f)
-one_row form job_was job_is was is bytes a b told can (steps e rose) (console f same rose_too) = not_both _ _ can.steps same rose
-one_row form job_was job_is was is bytes a b told can (steps e rose) (source f same same_too rose_too) = not_both _ _ can.steps same rose
-one_row form job_was job_is was is bytes a b told can (steps e rose) (large f well more) = not_both _ _ can.steps well.steps rose
-one_row form job_was job_is was is bytes a b told can (steps e rose) (of_job well rest) = not_both _ _ can.steps well.steps rose
-one_row form job_was job_is was is bytes a b told can (console e same rose) (steps f rose_too) = not_both _ _ can.steps same rose_too
-one_row form job_was job_is was is bytes a b told can (console e same rose) (console f same_too rose_too) = inl (e ∙ sym f)
-one_row form job_was job_is was is bytes a b told can (console e same rose) (source f steps_same same_too rose_too) = not_both _ _ can.console same_too rose
-one_row form job_was job_is was is bytes a b told can (console e same rose) (large f well more) = not_both _ _ can.console well.console rose
-one_row form job_was job_is was is bytes a b told can (console e same rose) (of_job well rest) = not_both _ _ can.console well.console rose
-one_row form job_was job_is was is bytes a b told can (source e same same_too rose) (steps f rose_too) = not_both _ _ can.steps same rose_too
-one_row form job_was job_is was is bytes a b told can (source e same same_too rose) (console f steps_same rose_too) = not_both _ _ can.console same_too rose_too
-one_row form job_was job_is was is bytes a b told can (source e same same_too rose) (source f steps_same console_same rose_too) = inl (e ∙ sym f)
-one_row form job_was job_is was is bytes a b told can (source e same same_too rose) (large f well more) = not_both _ _ can.source well.source rose
-one_row form job_was job_is was is bytes a b told can (source e same same_too rose) (of_job well rest) = not_both _ _ can.source well.source rose
-one_row form job_was job_is was is bytes a b told can (large e well more) (steps f rose) = not_both _ _ can.steps well.steps rose
-one_row form job_was job_is was is bytes a b told can (large e well more) (console f same rose) = not_both _ _ can.console well.console rose
-one_row form job_was job_is was is bytes a b told can (large e well more) (source f same same_too rose) = not_both _ _ can.source well.source rose
-one_row form job_was job_is was is bytes a b told can (large e well more) (large f well_too more_too) = inl (e ∙ sym f)
-one_row form job_was job_is was is bytes a b told can (large e well more) (of_job well_too rest) = not_within job_was job_is bytes told more (within form job_was job_is was is b rest)
-one_row form job_was job_is was is bytes a b told can (of_job well rest) (steps f rose) = not_both _ _ can.steps well.steps rose
-one_row form job_was job_is was is bytes a b told can (of_job well rest) (console f same rose) = not_both _ _ can.console well.console rose
-one_row form job_was job_is was is bytes a b told can (of_job well rest) (source f same same_too rose) = not_both _ _ can.source well.source rose
-one_row form job_was job_is was is bytes a b told can (of_job well rest) (large f well_too more) = not_within job_was job_is bytes told more (within form job_was job_is was is a rest)
-one_row form job_was job_is was is bytes a b told can (of_job well rest) (of_job well_too other) = one_rest form job_was job_is was is bytes a b told rest other
+one_row : (setup : Setup) (job_was job_is : SourceState) (was is : Sinks) (bytes : List ℕ) (a b : Status) → job_was.left ≡ Some bytes → CanFail job_was was
+    → Row setup job_was job_is was is a → Row setup job_was job_is was is b → AreOne a b
+one_row setup job_was job_is was is bytes a b told can (steps e rose) (steps f rose_too) = inl (e ∙ sym f)
+one_row setup job_was job_is was is bytes a b told can (steps e rose) (console f same rose_too) = not_both _ _ can.steps same rose
+one_row setup job_was job_is was is bytes a b told can (steps e rose) (source f same same_too rose_too) = not_both _ _ can.steps same rose
+one_row setup job_was job_is was is bytes a b told can (steps e rose) (large f well more) = not_both _ _ can.steps well.steps rose
+one_row setup job_was job_is was is bytes a b told can (steps e rose) (of_job well rest) = not_both _ _ can.steps well.steps rose
+one_row setup job_was job_is was is bytes a b told can (console e same rose) (steps f rose_too) = not_both _ _ can.steps same rose_too
+one_row setup job_was job_is was is bytes a b told can (console e same rose) (console f same_too rose_too) = inl (e ∙ sym f)
+one_row setup job_was job_is was is bytes a b told can (console e same rose) (source f steps_same same_too rose_too) = not_both _ _ can.console same_too rose
+one_row setup job_was job_is was is bytes a b told can (console e same rose) (large f well more) = not_both _ _ can.console well.console rose
+one_row setup job_was job_is was is bytes a b told can (console e same rose) (of_job well rest) = not_both _ _ can.console well.console rose
+one_row setup job_was job_is was is bytes a b told can (source e same same_too rose) (steps f rose_too) = not_both _ _ can.steps same rose_too
+one_row setup job_was job_is was is bytes a b told can (source e same same_too rose) (console f steps_same rose_too) = not_both _ _ can.console same_too rose_too
+one_row setup job_was job_is was is bytes a b told can (source e same same_too rose) (source f steps_same console_same rose_too) = inl (e ∙ sym f)
+one_row setup job_was job_is was is bytes a b told can (source e same same_too rose) (large f well more) = not_both _ _ can.source well.source rose
+one_row setup job_was job_is was is bytes a b told can (source e same same_too rose) (of_job well rest) = not_both _ _ can.source well.source rose
+one_row setup job_was job_is was is bytes a b told can (large e well more) (steps f rose) = not_both _ _ can.steps well.steps rose
+one_row setup job_was job_is was is bytes a b told can (large e well more) (console f same rose) = not_both _ _ can.console well.console rose
+one_row setup job_was job_is was is bytes a b told can (large e well more) (source f same same_too rose) = not_both _ _ can.source well.source rose
+one_row setup job_was job_is was is bytes a b told can (large e well more) (large f well_too more_too) = inl (e ∙ sym f)
+one_row setup job_was job_is was is bytes a b told can (large e well more) (of_job well_too rest) = not_within job_was job_is bytes told more (within setup job_was job_is was is b rest)
+one_row setup job_was job_is was is bytes a b told can (of_job well rest) (steps f rose) = not_both _ _ can.steps well.steps rose
+one_row setup job_was job_is was is bytes a b told can (of_job well rest) (console f same rose) = not_both _ _ can.console well.console rose
+one_row setup job_was job_is was is bytes a b told can (of_job well rest) (source f same same_too rose) = not_both _ _ can.source well.source rose
+one_row setup job_was job_is was is bytes a b told can (of_job well rest) (large f well_too more) = not_within job_was job_is bytes told more (within setup job_was job_is was is a rest)
+one_row setup job_was job_is was is bytes a b told can (of_job well rest) (of_job well_too other) = one_rest setup job_was job_is was is bytes a b told rest other
 
-pub one_cause : (form : Form) (job_was job_is : SourceState) (was is : Sinks) (bytes : List ℕ) (a b : Status) → job_was.left ≡ Some bytes → CanFail job_was was
-    → HasItsCause form job_was job_is was is a → HasItsCause form job_was job_is was is b → AreOne a b
-one_cause form job_was job_is was is bytes a b told can one other =
-    one_row form job_was job_is was is bytes a b told can (row_of form job_was job_is was is a one) (row_of form job_was job_is was is b other)
+pub one_cause : (setup : Setup) (job_was job_is : SourceState) (was is : Sinks) (bytes : List ℕ) (a b : Status) → job_was.left ≡ Some bytes → CanFail job_was was
+    → HasItsCause setup job_was job_is was is a → HasItsCause setup job_was job_is was is b → AreOne a b
+one_cause setup job_was job_is was is bytes a b told can one other =
+    one_row setup job_was job_is was is bytes a b told can (row_of setup job_was job_is was is a one) (row_of setup job_was job_is was is b other)
 
 -- ---- faults, whether or not the source tells its bytes
 
-faults_by : (form : Form) (job_was job_is : SourceState) (was is : Sinks) (a : Status) → CanFail job_was was → Row form job_was job_is was is a → TellsFaults job_was job_is was is a
-faults_by form job_was job_is was is a can (steps e rose) = record {
+faults_by : (setup : Setup) (job_was job_is : SourceState) (was is : Sinks) (a : Status) → CanFail job_was was → Row setup job_was job_is was is a → TellsFaults job_was job_is was is a
+faults_by setup job_was job_is was is a can (steps e rose) = record {
   steps = λ r. e;
   console = λ same r. not_both _ _ can.steps same rose;
   source = λ same same_too r. not_both _ _ can.steps same rose;
 }
-faults_by form job_was job_is was is a can (console e same rose) = record {
+faults_by setup job_was job_is was is a can (console e same rose) = record {
   steps = λ r. not_both _ _ can.steps same r;
   console = λ s r. e;
   source = λ s same_too r. not_both _ _ can.console same_too rose;
 }
-faults_by form job_was job_is was is a can (source e same same_too rose) = record {
+faults_by setup job_was job_is was is a can (source e same same_too rose) = record {
   steps = λ r. not_both _ _ can.steps same r;
   console = λ s r. not_both _ _ can.console same_too r;
   source = λ s t r. e;
 }
-faults_by form job_was job_is was is a can (large e well more) = record {
+faults_by setup job_was job_is was is a can (large e well more) = record {
   steps = λ r. not_both _ _ can.steps well.steps r;
   console = λ s r. not_both _ _ can.console well.console r;
   source = λ s t r. not_both _ _ can.source well.source r;
 }
-faults_by form job_was job_is was is a can (of_job well rest) = record {
+faults_by setup job_was job_is was is a can (of_job well rest) = record {
   steps = λ r. not_both _ _ can.steps well.steps r;
   console = λ s r. not_both _ _ can.console well.console r;
   source = λ s t r. not_both _ _ can.source well.source r;
 }
 
-pub tells_faults : (form : Form) (job_was job_is : SourceState) (was is : Sinks) (status : Status) → CanFail job_was was → HasItsCause form job_was job_is was is status → TellsFaults job_was job_is was is status
-tells_faults form job_was job_is was is status can cause = faults_by form job_was job_is was is status can (row_of form job_was job_is was is status cause)
+pub tells_faults : (setup : Setup) (job_was job_is : SourceState) (was is : Sinks) (status : Status) → CanFail job_was was → HasItsCause setup job_was job_is was is status → TellsFaults job_was job_is was is status
+tells_faults setup job_was job_is was is status can cause = faults_by setup job_was job_is was is status can (row_of setup job_was job_is was is status cause)
 
 -- of the generated job, in place of which the source is left as it is
 demo_by : (n : ℕ) (job : SourceState) (was is : Sinks) (status : Status) → CanFail job was → (demo : IsDemo n was.console is.console was.steps is.steps status) (sf cf : Bool)

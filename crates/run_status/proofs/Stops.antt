@@ -1,7 +1,7 @@
 -- Why no more of a job was sent: by the job itself, or by an alarm.
 use Rattle.std.proofs.Common.{◌≡◌, ℕ, ◌+◌, Bool, true, false, cond, List, length, refl, sym, ◌∙◌}
 use Rattle.std.specs.List.{list_any, take_while}
-use Rattle.step_record.specs.declared.forms.Form.{Form}
+use Rattle.run_status.specs.Setups.{Setup}
 use Rattle.outside.specs.Causes.{SourceState}
 use Rattle.run_rules.specs.Lines.{lines_of}
 use Rattle.run_rules.specs.Readings.{job_of}
@@ -111,38 +111,38 @@ other_is false n (stops.Alarm k) told some other e = e
 
 -- ---- of a run
 
-pub by_end : (form : Form) (job_was job_is : SourceState) (was is : Sinks) (end : RunEnd) (run : IsRun form job_was job_is was is end) → end.stop ≡ stops.End
+pub by_end : (setup : Setup) (job_was job_is : SourceState) (was is : Sinks) (end : RunEnd) (run : IsRun setup.room setup.blocks setup.form job_was job_is was is end) → end.stop ≡ stops.End
     → IsByEnd (has_alarm run.replies) (stop_by run.reading run.scanned)
-by_end form job_was job_is was is end run et = end_is (has_alarm run.replies) (end.answered + run.sending.forgotten) (stop_by run.reading run.scanned) (sym et ∙ run.ending.stop)
+by_end setup job_was job_is was is end run et = end_is (has_alarm run.replies) (end.answered + run.sending.forgotten) (stop_by run.reading run.scanned) (sym et ∙ run.ending.stop)
 
-pub by_alarm : (form : Form) (job_was job_is : SourceState) (was is : Sinks) (end : RunEnd) (run : IsRun form job_was job_is was is end) (k : ℕ) → end.stop ≡ stops.Alarm k
+pub by_alarm : (setup : Setup) (job_was job_is : SourceState) (was is : Sinks) (end : RunEnd) (run : IsRun setup.room setup.blocks setup.form job_was job_is was is end) (k : ℕ) → end.stop ≡ stops.Alarm k
     → IsByAlarm (has_alarm run.replies) (end.answered + run.sending.forgotten) k (stop_by run.reading run.scanned)
-by_alarm form job_was job_is was is end run k et =
+by_alarm setup job_was job_is was is end run k et =
     alarm_is (has_alarm run.replies) (end.answered + run.sending.forgotten) k (stop_by run.reading run.scanned) (λ j e. never_alarm j run.reading run.scanned e) (sym et ∙ run.ending.stop)
 
-pub by_job : (form : Form) (job_was job_is : SourceState) (was is : Sinks) (end : RunEnd) (run : IsRun form job_was job_is was is end) (told : Stop)
+pub by_job : (setup : Setup) (job_was job_is : SourceState) (was is : Sinks) (end : RunEnd) (run : IsRun setup.room setup.blocks setup.form job_was job_is was is end) (told : Stop)
     → (told ≡ stops.End → ⊥) → ((k : ℕ) → told ≡ stops.Alarm k → ⊥) → end.stop ≡ told → told ≡ stop_by run.reading run.scanned
-by_job form job_was job_is was is end run told some other et =
+by_job setup job_was job_is was is end run told some other et =
     other_is (has_alarm run.replies) (end.answered + run.sending.forgotten) (stop_by run.reading run.scanned) told some other (sym et ∙ run.ending.stop)
 
 -- The job was scanned up to where the sending ends, and that is why no more of it was sent.
-pub record IsScanned (form : Form) (job_was job_is : SourceState) (was is : Sinks) (end : RunEnd) (run : IsRun form job_was job_is was is end) : Type 0 where
+pub record IsScanned (setup : Setup) (job_was job_is : SourceState) (was is : Sinks) (end : RunEnd) (run : IsRun setup.room setup.blocks setup.form job_was job_is was is end) : Type 0 where
   pub scans : MayScan run.reading (job_of run.read) run.scanned
   pub cause : end.stop ≡ stop_by run.reading run.scanned
 
 -- at its end
-pub scanned_to_end : (form : Form) (job_was job_is : SourceState) (was is : Sinks) (end : RunEnd) (run : IsRun form job_was job_is was is end) → end.stop ≡ stops.End → IsScanned form job_was job_is was is end run
-scanned_to_end form job_was job_is was is end run et =
-    let sent = run.sending.sent (by_end form job_was job_is was is end run et).none in
+pub scanned_to_end : (setup : Setup) (job_was job_is : SourceState) (was is : Sinks) (end : RunEnd) (run : IsRun setup.room setup.blocks setup.form job_was job_is was is end) → end.stop ≡ stops.End → IsScanned setup job_was job_is was is end run
+scanned_to_end setup job_was job_is was is end run et =
+    let sent = run.sending.sent (by_end setup job_was job_is was is end run et).none in
     record { scans = sent.scans; cause = sent.cause }
 
 -- in a line that is too long
 long_is_whole : (r : Reading) (job text : List ℕ) → ScansFront job text → list_any is_long (lines_of text) ≡ true → MayScan r job text
 long_is_whole r job text scans some = record { scans = scans; whole = λ none. absurd (let e = sym some ∙ none in cc) }
 
-pub scanned_to_long : (form : Form) (job_was job_is : SourceState) (was is : Sinks) (end : RunEnd) (run : IsRun form job_was job_is was is end) (k : ℕ) → end.stop ≡ stops.LongLine k
-    → IsScanned form job_was job_is was is end run
-scanned_to_long form job_was job_is was is end run k et =
-    let cause = by_job form job_was job_is was is end run (stops.LongLine k) (λ e. cc) (λ j e. cc) et in
+pub scanned_to_long : (setup : Setup) (job_was job_is : SourceState) (was is : Sinks) (end : RunEnd) (run : IsRun setup.room setup.blocks setup.form job_was job_is was is end) (k : ℕ) → end.stop ≡ stops.LongLine k
+    → IsScanned setup job_was job_is was is end run
+scanned_to_long setup job_was job_is was is end run k et =
+    let cause = by_job setup job_was job_is was is end run (stops.LongLine k) (λ e. cc) (λ j e. cc) et in
     let why = long_means k run.reading run.scanned cause in
     record { scans = long_is_whole run.reading (job_of run.read) run.scanned run.sending.so_far.scans why.0; cause = et ∙ cause }

@@ -1,4 +1,6 @@
 -- A run of the generated job.
+use Rattle.status_report.specs.Answering.{receive_room}
+use Rattle.planner_runs.specs.Runs.{most_blocks}
 use Rattle.std.specs.Prelude.{◌≡◌, ℕ, Bool, false, cond, List, [], ◌∷◌, Some, None}
 use Rattle.outside.specs.Causes.{SourceState, SinkState}
 use Rattle.outside.specs.Writing.{Took}
@@ -31,7 +33,7 @@ generated left = record { left = Some left; faults = 0 }
 pub record IsDemo (n : ℕ) (console_was console_is steps_was steps_is : SinkState) (status : Status) : Type 0 where
   pub end : RunEnd
   pub left : List ℕ
-  pub run : IsRun One (generated (job_text n)) (generated left)
+  pub run : IsRun receive_room most_blocks One (generated (job_text n)) (generated left)
       (record { console = keeps_nothing; steps = steps_was }) (record { console = keeps_nothing; steps = steps_is }) end
   pub sent : run.lines ≡ job_lines n
   pub accepted : end.errors ≡ 0

@@ -3,7 +3,7 @@ use Rattle.std.specs.Prelude.{◌≡◌, ℕ, zero, suc, ◌+◌, ◌≤◌, con
 use Rattle.std.specs.List.{list_any, take_while}
 use Rattle.std.specs.Io.KnownBytes.{Appends, Consumes, IsAtEnd}
 use Rattle.outside.specs.Causes.{Rose, SourceState}
-use Rattle.step_record.specs.declared.forms.Form.{Form}
+use Rattle.run_status.specs.Setups.{Setup}
 use Rattle.step_record.specs.Forms.{text_in}
 use Rattle.run_rules.specs.Lines.{lines_of}
 use Rattle.run_rules.specs.Readings.{largest_job, job_of}
@@ -47,9 +47,9 @@ status_of end =
     cond end.steps_failed StepsFault (cond end.console_failed ConsoleFault (cond end.source_failed SourceFault (by_stop end.stop end.errors)))
 
 -- A run of the job, whatever failed, and its status.
-pub record EndsWith (form : Form) (job_was job_is : SourceState) (was is : Sinks) (status : Status) : Type 0 where
+pub record EndsWith (setup : Setup) (job_was job_is : SourceState) (was is : Sinks) (status : Status) : Type 0 where
   pub end : RunEnd
-  pub run : IsRun form job_was job_is was is end
+  pub run : IsRun setup.room setup.blocks setup.form job_was job_is was is end
   pub status_is : status ≡ status_of end
 
 abbrev pub IsWhole : Status → Type 0
@@ -60,9 +60,9 @@ IsWhole _ = ⊥
 -- A run that went to its end. All of the job was read and scanned, each of its lines was sent, and no line raised an alarm. The console
 -- has the whole text of the replies, and the steps that of the records. The status tells how many lines were refused. What the replies
 -- and records are, and by which course of the job, is what is so of each run.
-pub record IsWholeRun (form : Form) (job_was job_is : SourceState) (was is : Sinks) (status : Status) : Type 0 where
+pub record IsWholeRun (setup : Setup) (job_was job_is : SourceState) (was is : Sinks) (status : Status) : Type 0 where
   pub end : RunEnd
-  pub run : IsRun form job_was job_is was is end
+  pub run : IsRun setup.room setup.blocks setup.form job_was job_is was is end
   pub at_end : IsAtEnd job_is.left
   pub few : length run.read ≤ largest_job
   pub scanned : run.scanned ≡ run.read
@@ -70,7 +70,7 @@ pub record IsWholeRun (form : Form) (job_was job_is : SourceState) (was is : Sin
   pub rest : run.rest ≡ []
   pub calm : run.fits.last.before.alarmed ≡ false
   pub console : Appends was.console.held is.console.held (replies_text run.replies)
-  pub steps : Appends was.steps.held is.steps.held (text_in form run.records)
+  pub steps : Appends was.steps.held is.steps.held (text_in setup.form run.records)
   pub status_is : status ≡ by_errors (errors_in (lines_in run.fits.course))
 
 -- What was sent takes a course that ends with an alarm. What was passed before leads to a point at which no line has raised one, and the
@@ -90,14 +90,14 @@ pub record EndsInAlarm (from : Point) (sent : List Sent) (course : List Passed) 
 -- A run that the alarm of line k ended. Nothing in what was scanned of the job ends the sending, and the course of the job ends with the
 -- alarm of that line. The console has the whole text of the replies, and the steps that of the records. What the replies and records are
 -- is what is so of each run.
-pub record IsAlarmedRun (form : Form) (job_was job_is : SourceState) (was is : Sinks) (k : ℕ) : Type 0 where
+pub record IsAlarmedRun (setup : Setup) (job_was job_is : SourceState) (was is : Sinks) (k : ℕ) : Type 0 where
   pub end : RunEnd
-  pub run : IsRun form job_was job_is was is end
+  pub run : IsRun setup.room setup.blocks setup.form job_was job_is was is end
   pub going : stop_by run.reading run.scanned ≡ stops.End
   pub alarm : EndsInAlarm (opening run.fits.first) (sent_of run.lines run.rest) run.fits.course
   pub number : k ≡ alarm.point.before.number
   pub console : Appends was.console.held is.console.held (replies_text run.replies)
-  pub steps : Appends was.steps.held is.steps.held (text_in form run.records)
+  pub steps : Appends was.steps.held is.steps.held (text_in setup.form run.records)
 
 -- more bytes were read than a job may have, and no more than the rest of the piece that has the first of them
 pub record TookMore (job_was job_is : SourceState) : Type 0 where
@@ -134,15 +134,15 @@ pub record IsFaultless (job_was job_is : SourceState) (was is : Sinks) : Type 0 
   pub steps : is.steps.faults ≡ was.steps.faults
 
 -- a status and its cause, what a run to the end has done, and which runs end with `Done`
-pub record HasCauses (form : Form) (job_was job_is : SourceState) (was is : Sinks) (status : Status) : Type 0 where
+pub record HasCauses (setup : Setup) (job_was job_is : SourceState) (was is : Sinks) (status : Status) : Type 0 where
   pub has_run : JobWasRun status
   pub source : status ≡ SourceFault → Rose job_was.faults job_is.faults
   pub console : status ≡ ConsoleFault → Rose was.console.faults is.console.faults
   pub steps : status ≡ StepsFault → Rose was.steps.faults is.steps.faults
   pub large : status ≡ TooLarge → TookMore job_was job_is
   pub long : (k : ℕ) → status ≡ LongLine k → HasLongLine job_was job_is k
-  pub alarm : (k : ℕ) → status ≡ Alarm k → IsAlarmedRun form job_was job_is was is k
-  pub whole : IsWhole status → IsWholeRun form job_was job_is was is status
+  pub alarm : (k : ℕ) → status ≡ Alarm k → IsAlarmedRun setup job_was job_is was is k
+  pub whole : IsWhole status → IsWholeRun setup job_was job_is was is status
   pub faultless : IsWhole status → IsFaultless job_was job_is was is
   pub complete : IsAcceptedJob job_was → ¬ Rose job_was.faults job_is.faults
       → ¬ Rose was.console.faults is.console.faults → ¬ Rose was.steps.faults is.steps.faults → status ≡ Done

@@ -6,7 +6,7 @@ use Rattle.run_status.specs.declared.Status.TheVariants.{Done, LineErrors, Usage
 abbrev pub fault_text : Status → List ℕ
 fault_text Done = []
 fault_text (LineErrors n) = decimal n ++ codes " lines refused\n"
-fault_text Usage = codes "usage: grbl stream [--lockstep SEED] [--compact] | grbl demo N\n"
+fault_text Usage = codes "usage: grbl stream [--lockstep SEED] [--wide] [--compact] | grbl demo N\n"
 fault_text SourceFault = codes "fault: the job could not be read\n"
 fault_text ConsoleFault = codes "fault: the console could not be written\n"
 fault_text StepsFault = codes "fault: the steps could not be written\n"

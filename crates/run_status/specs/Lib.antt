@@ -1,3 +1,4 @@
+pub mod Setups
 pub mod Ends
 pub mod Faults
 pub mod Statuses

@@ -1,7 +1,7 @@
 -- When each status comes, as one table.
 use Rattle.std.specs.Prelude.{◌≡◌, ◌⊎◌, ℕ, ◌≤◌, ◌<◌, ◌-◌, ◌^◌, false, List, length}
 use Rattle.std.specs.Io.KnownBytes.{Consumes, IsAtEnd}
-use Rattle.step_record.specs.declared.forms.Form.{Form}
+use Rattle.run_status.specs.Setups.{Setup}
 use Rattle.outside.specs.Causes.{Rose, SourceState}
 use Rattle.run_rules.specs.Readings.{largest_job}
 use Rattle.stream_host.specs.declared.Reading.TheVariants.{Ended}
@@ -27,20 +27,20 @@ pub record SendsUpTo (job_was job_is : SourceState) (stop : Stop) : Type 0 where
 -- The cause of each status that a run ends with, from the one that is told first to the last. Where a row holds none of the rows
 -- above it does, but for that of an alarm: a line that is too long may stand behind the lines that were scanned before
 -- it. A count of faults that has not risen is as before.
-abbrev pub HasItsCause : Form → SourceState → SourceState → Sinks → Sinks → Status → Type 0
-HasItsCause form job_was job_is was is StepsFault = Rose was.steps.faults is.steps.faults
-HasItsCause form job_was job_is was is ConsoleFault = (is.steps.faults ≡ was.steps.faults) × Rose was.console.faults is.console.faults
-HasItsCause form job_was job_is was is SourceFault =
+abbrev pub HasItsCause : Setup → SourceState → SourceState → Sinks → Sinks → Status → Type 0
+HasItsCause setup job_was job_is was is StepsFault = Rose was.steps.faults is.steps.faults
+HasItsCause setup job_was job_is was is ConsoleFault = (is.steps.faults ≡ was.steps.faults) × Rose was.console.faults is.console.faults
+HasItsCause setup job_was job_is was is SourceFault =
     (is.steps.faults ≡ was.steps.faults) × (is.console.faults ≡ was.console.faults) × Rose job_was.faults job_is.faults
-HasItsCause form job_was job_is was is TooLarge = IsFaultless job_was job_is was is × TookMore job_was job_is
-HasItsCause form job_was job_is was is (LongLine k) = IsFaultless job_was job_is was is × SendsUpTo job_was job_is (stops.LongLine k)
-HasItsCause form job_was job_is was is (Alarm k) = IsFaultless job_was job_is was is × IsAlarmedRun form job_was job_is was is k
-HasItsCause form job_was job_is was is (LineErrors n) =
-    IsFaultless job_was job_is was is × SendsUpTo job_was job_is stops.End × IsWholeRun form job_was job_is was is (LineErrors n)
-HasItsCause form job_was job_is was is Done = IsFaultless job_was job_is was is × SendsUpTo job_was job_is stops.End × IsWholeRun form job_was job_is was is Done
+HasItsCause setup job_was job_is was is TooLarge = IsFaultless job_was job_is was is × TookMore job_was job_is
+HasItsCause setup job_was job_is was is (LongLine k) = IsFaultless job_was job_is was is × SendsUpTo job_was job_is (stops.LongLine k)
+HasItsCause setup job_was job_is was is (Alarm k) = IsFaultless job_was job_is was is × IsAlarmedRun setup job_was job_is was is k
+HasItsCause setup job_was job_is was is (LineErrors n) =
+    IsFaultless job_was job_is was is × SendsUpTo job_was job_is stops.End × IsWholeRun setup job_was job_is was is (LineErrors n)
+HasItsCause setup job_was job_is was is Done = IsFaultless job_was job_is was is × SendsUpTo job_was job_is stops.End × IsWholeRun setup job_was job_is was is Done
 -- no run ends so: none was begun
-HasItsCause form job_was job_is was is Usage = ⊥
-HasItsCause form job_was job_is was is OutOfMemory = ⊥
+HasItsCause setup job_was job_is was is Usage = ⊥
+HasItsCause setup job_was job_is was is OutOfMemory = ⊥
 
 -- a count of faults that is not at its last value
 abbrev pub CanRise : ℕ → Type 0

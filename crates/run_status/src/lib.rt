@@ -114,7 +114,7 @@ pub fn put_fault(s: &Status, out: &mut Text)
         Status::Done => {}
         Status::LineErrors(count) => put_numbered(b"", *count, b" lines refused\n", out),
         Status::Usage => append(
-            b"usage: grbl stream [--lockstep SEED] [--compact] | grbl demo N\n",
+            b"usage: grbl stream [--lockstep SEED] [--wide] [--compact] | grbl demo N\n",
             out,
         ),
         Status::SourceFault => append(b"fault: the job could not be read\n", out),

@@ -4,8 +4,9 @@ use Rattle.command_line.specs.declared.Task.TheVariants as tasks
 use Rattle.epoch_law.specs.Devices.{devices}
 use Rattle.run_status.specs.Demos.{IsDemo}
 use Rattle.grbl_app.specs.Orders.{EndsInOrder, IsOrderedDemo}
-use Rattle.grbl_app.proofs.Tasks.{no_stream, same_form, same_moves, same_order}
-use Rattle.run_status.specs.Ends.{EndsWith, IsAlarmedRun, IsWholeRun, JobWasRun}
+use Rattle.grbl_app.specs.Sizes.{setup_of}
+use Rattle.grbl_app.proofs.Tasks.{no_stream, same_moves, same_options}
+use Rattle.run_status.specs.Ends.{EndsWith, JobWasRun}
 use Rattle.run_status.specs.Statuses.{HasItsCause}
 use Rattle.run_status.proofs.Demos.{demo_causes, has_begun}
 use Rattle.run_status.proofs.Statuses.{one_cause, tells_faults, demo_tells_faults}
@@ -16,15 +17,15 @@ not_usage : {A : Type 0} → OutOfMemory ≡ Usage → A
 not_usage e = absurd cc
 
 pub returns-in-Ok-stream-clause-complete : goal.returns-in-Ok-stream-clause-complete
-returns-in-Ok-stream-clause-complete g c = λ order form asks words job source console steps. inl (c.in-Ok-stream.ensures.causes.complete job source console steps)
+returns-in-Ok-stream-clause-complete g c = λ options asks words job source console steps. inl (c.in-Ok-stream.ensures.causes.complete job source console steps)
 
 pub returns-in-Ok-stream-clause-no_other : goal.returns-in-Ok-stream-clause-no_other
-returns-in-Ok-stream-clause-no_other g c = λ order form bytes status asks run told can other.
-    one_cause form _ _ _ _ bytes _ status told can
-    (subst (λ f. HasItsCause f (g.So.Source.state c.args.job.now) (g.So.Source.state c.stream.new.job) (record { console = g.Co.Sink.state c.args.console.now; steps = g.St.Sink.state c.args.steps.now }) (record { console = g.Co.Sink.state c.stream.new.console; steps = g.St.Sink.state c.stream.new.steps }) c.in-Ok-stream.status) (same_form (map (λ w. w.now) c.args.words.now) c.in-Stream.order order c.in-Stream.form form (subst (λ task. Asks task (map (λ w. w.now) c.args.words.now)) c.in-Stream.is c.in-Ok.ensures.asked) asks) c.in-Ok-stream.ensures.its_cause) other
+returns-in-Ok-stream-clause-no_other g c = λ options bytes status asks run told can other.
+    one_cause (setup_of options) _ _ _ _ bytes _ status told can
+    (subst (λ o. HasItsCause (setup_of o) (g.So.Source.state c.args.job.now) (g.So.Source.state c.stream.new.job) (record { console = g.Co.Sink.state c.args.console.now; steps = g.St.Sink.state c.args.steps.now }) (record { console = g.Co.Sink.state c.stream.new.console; steps = g.St.Sink.state c.stream.new.steps }) c.in-Ok-stream.status) (same_options (map (λ w. w.now) c.args.words.now) c.in-Stream.options options (subst (λ task. Asks task (map (λ w. w.now) c.args.words.now)) c.in-Stream.is c.in-Ok.ensures.asked) asks) c.in-Ok-stream.ensures.its_cause) other
 
 pub returns-in-Ok-stream-clause-first_fault : goal.returns-in-Ok-stream-clause-first_fault
-returns-in-Ok-stream-clause-first_fault g c = λ run can. tells_faults c.in-Stream.form _ _ _ _ _ can c.in-Ok-stream.ensures.its_cause
+returns-in-Ok-stream-clause-first_fault g c = λ run can. tells_faults (setup_of c.in-Stream.options) _ _ _ _ _ can c.in-Ok-stream.ensures.its_cause
 
 pub returns-in-Ok-run_demo-clause-first_fault : goal.returns-in-Ok-run_demo-clause-first_fault
 returns-in-Ok-run_demo-clause-first_fault g c = λ run can. demo_tells_faults _ _ _ _ _ can c.in-Ok-run_demo.ensures.run
@@ -63,35 +64,20 @@ returns-in-Err-Refused-clause-refused g c = λ r. tt
 pub returns-in-Err-Refused-clause-untouched : goal.returns-in-Err-Refused-clause-untouched
 returns-in-Err-Refused-clause-untouched g c = λ none. (refl, refl, refl)
 
-pub returns-in-Err-Refused-clause-source_fault : goal.returns-in-Err-Refused-clause-source_fault
-returns-in-Err-Refused-clause-source_fault g c = λ order form asks e. absurd (subst JobWasRun (sym e) tt)
-
-pub returns-in-Err-Refused-clause-too_large : goal.returns-in-Err-Refused-clause-too_large
-returns-in-Err-Refused-clause-too_large g c = λ order form asks e. absurd (subst JobWasRun (sym e) tt)
-
 pub returns-in-Err-Refused-clause-console_fault : goal.returns-in-Err-Refused-clause-console_fault
 returns-in-Err-Refused-clause-console_fault g c = λ e. absurd (subst JobWasRun (sym e) tt)
 
 pub returns-in-Err-Refused-clause-steps_fault : goal.returns-in-Err-Refused-clause-steps_fault
 returns-in-Err-Refused-clause-steps_fault g c = λ e. absurd (subst JobWasRun (sym e) tt)
 
-pub returns-in-Err-Refused-clause-long_line : goal.returns-in-Err-Refused-clause-long_line
-returns-in-Err-Refused-clause-long_line g c = λ order form k asks e. absurd (subst JobWasRun (sym e) tt)
-
-pub returns-in-Err-Refused-clause-alarm : goal.returns-in-Err-Refused-clause-alarm
-returns-in-Err-Refused-clause-alarm g c = λ order form k asks e. absurd (subst JobWasRun (sym e) tt)
-
 pub returns-in-Err-Refused-clause-its_cause : goal.returns-in-Err-Refused-clause-its_cause
-returns-in-Err-Refused-clause-its_cause g c = λ order form asks run. absurd run
+returns-in-Err-Refused-clause-its_cause g c = λ options asks run. absurd run
 
 pub returns-in-Err-Refused-clause-run : goal.returns-in-Err-Refused-clause-run
-returns-in-Err-Refused-clause-run g c = λ order form asks run. absurd run
-
-pub returns-in-Err-Refused-clause-whole_run : goal.returns-in-Err-Refused-clause-whole_run
-returns-in-Err-Refused-clause-whole_run g c = λ order form asks run. absurd run
+returns-in-Err-Refused-clause-run g c = λ options asks run. absurd run
 
 pub returns-in-Err-Refused-clause-no_other : goal.returns-in-Err-Refused-clause-no_other
-returns-in-Err-Refused-clause-no_other g c = λ order form bytes status asks run. absurd run
+returns-in-Err-Refused-clause-no_other g c = λ options bytes status asks run. absurd run
 
 pub returns-in-Err-Refused-clause-first_fault : goal.returns-in-Err-Refused-clause-first_fault
 returns-in-Err-Refused-clause-first_fault g c = λ run. absurd run
@@ -109,16 +95,10 @@ pub returns-in-Err-OutOfMemory-clause-usage : goal.returns-in-Err-OutOfMemory-cl
 returns-in-Err-OutOfMemory-clause-usage g c = λ e. not_usage e
 
 pub returns-in-Err-OutOfMemory-clause-complete : goal.returns-in-Err-OutOfMemory-clause-complete
-returns-in-Err-OutOfMemory-clause-complete g c = λ order form asks words job source console steps. inr refl
+returns-in-Err-OutOfMemory-clause-complete g c = λ options asks words job source console steps. inr refl
 
 pub returns-in-Err-OutOfMemory-clause-untouched : goal.returns-in-Err-OutOfMemory-clause-untouched
 returns-in-Err-OutOfMemory-clause-untouched g c = λ none. (refl, refl, refl)
-
-pub returns-in-Err-OutOfMemory-clause-source_fault : goal.returns-in-Err-OutOfMemory-clause-source_fault
-returns-in-Err-OutOfMemory-clause-source_fault g c = λ order form asks e. absurd (subst JobWasRun (sym e) tt)
-
-pub returns-in-Err-OutOfMemory-clause-too_large : goal.returns-in-Err-OutOfMemory-clause-too_large
-returns-in-Err-OutOfMemory-clause-too_large g c = λ order form asks e. absurd (subst JobWasRun (sym e) tt)
 
 pub returns-in-Err-OutOfMemory-clause-console_fault : goal.returns-in-Err-OutOfMemory-clause-console_fault
 returns-in-Err-OutOfMemory-clause-console_fault g c = λ e. absurd (subst JobWasRun (sym e) tt)
@@ -126,23 +106,14 @@ returns-in-Err-OutOfMemory-clause-console_fault g c = λ e. absurd (subst JobWas
 pub returns-in-Err-OutOfMemory-clause-steps_fault : goal.returns-in-Err-OutOfMemory-clause-steps_fault
 returns-in-Err-OutOfMemory-clause-steps_fault g c = λ e. absurd (subst JobWasRun (sym e) tt)
 
-pub returns-in-Err-OutOfMemory-clause-long_line : goal.returns-in-Err-OutOfMemory-clause-long_line
-returns-in-Err-OutOfMemory-clause-long_line g c = λ order form k asks e. absurd (subst JobWasRun (sym e) tt)
-
-pub returns-in-Err-OutOfMemory-clause-alarm : goal.returns-in-Err-OutOfMemory-clause-alarm
-returns-in-Err-OutOfMemory-clause-alarm g c = λ order form k asks e. absurd (subst JobWasRun (sym e) tt)
-
 pub returns-in-Err-OutOfMemory-clause-its_cause : goal.returns-in-Err-OutOfMemory-clause-its_cause
-returns-in-Err-OutOfMemory-clause-its_cause g c = λ order form asks run. absurd run
+returns-in-Err-OutOfMemory-clause-its_cause g c = λ options asks run. absurd run
 
 pub returns-in-Err-OutOfMemory-clause-run : goal.returns-in-Err-OutOfMemory-clause-run
-returns-in-Err-OutOfMemory-clause-run g c = λ order form asks run. absurd run
-
-pub returns-in-Err-OutOfMemory-clause-whole_run : goal.returns-in-Err-OutOfMemory-clause-whole_run
-returns-in-Err-OutOfMemory-clause-whole_run g c = λ order form asks run. absurd run
+returns-in-Err-OutOfMemory-clause-run g c = λ options asks run. absurd run
 
 pub returns-in-Err-OutOfMemory-clause-no_other : goal.returns-in-Err-OutOfMemory-clause-no_other
-returns-in-Err-OutOfMemory-clause-no_other g c = λ order form bytes status asks run. absurd run
+returns-in-Err-OutOfMemory-clause-no_other g c = λ options bytes status asks run. absurd run
 
 pub returns-in-Err-OutOfMemory-clause-first_fault : goal.returns-in-Err-OutOfMemory-clause-first_fault
 returns-in-Err-OutOfMemory-clause-first_fault g c = λ run. absurd run
@@ -160,16 +131,10 @@ pub returns-in-Err-clause-usage : goal.returns-in-Err-clause-usage
 returns-in-Err-clause-usage g c = λ e. not_usage e
 
 pub returns-in-Err-clause-complete : goal.returns-in-Err-clause-complete
-returns-in-Err-clause-complete g c = λ order form asks words job source console steps. inr refl
+returns-in-Err-clause-complete g c = λ options asks words job source console steps. inr refl
 
 pub returns-in-Err-clause-untouched : goal.returns-in-Err-clause-untouched
 returns-in-Err-clause-untouched g c = λ none. let same = c.in-Err.ensures.untouched in (ap g.So.Source.state same.0, ap g.Co.Sink.state same.1, ap g.St.Sink.state same.2)
-
-pub returns-in-Err-clause-source_fault : goal.returns-in-Err-clause-source_fault
-returns-in-Err-clause-source_fault g c = λ order form asks e. absurd (subst JobWasRun (sym e) tt)
-
-pub returns-in-Err-clause-too_large : goal.returns-in-Err-clause-too_large
-returns-in-Err-clause-too_large g c = λ order form asks e. absurd (subst JobWasRun (sym e) tt)
 
 pub returns-in-Err-clause-console_fault : goal.returns-in-Err-clause-console_fault
 returns-in-Err-clause-console_fault g c = λ e. absurd (subst JobWasRun (sym e) tt)
@@ -177,23 +142,14 @@ returns-in-Err-clause-console_fault g c = λ e. absurd (subst JobWasRun (sym e) 
 pub returns-in-Err-clause-steps_fault : goal.returns-in-Err-clause-steps_fault
 returns-in-Err-clause-steps_fault g c = λ e. absurd (subst JobWasRun (sym e) tt)
 
-pub returns-in-Err-clause-long_line : goal.returns-in-Err-clause-long_line
-returns-in-Err-clause-long_line g c = λ order form k asks e. absurd (subst JobWasRun (sym e) tt)
-
-pub returns-in-Err-clause-alarm : goal.returns-in-Err-clause-alarm
-returns-in-Err-clause-alarm g c = λ order form k asks e. absurd (subst JobWasRun (sym e) tt)
-
 pub returns-in-Err-clause-its_cause : goal.returns-in-Err-clause-its_cause
-returns-in-Err-clause-its_cause g c = λ order form asks run. absurd run
+returns-in-Err-clause-its_cause g c = λ options asks run. absurd run
 
 pub returns-in-Err-clause-run : goal.returns-in-Err-clause-run
-returns-in-Err-clause-run g c = λ order form asks run. absurd run
-
-pub returns-in-Err-clause-whole_run : goal.returns-in-Err-clause-whole_run
-returns-in-Err-clause-whole_run g c = λ order form asks run. absurd run
+returns-in-Err-clause-run g c = λ options asks run. absurd run
 
 pub returns-in-Err-clause-no_other : goal.returns-in-Err-clause-no_other
-returns-in-Err-clause-no_other g c = λ order form bytes status asks run. absurd run
+returns-in-Err-clause-no_other g c = λ options bytes status asks run. absurd run
 
 pub returns-in-Err-clause-first_fault : goal.returns-in-Err-clause-first_fault
 returns-in-Err-clause-first_fault g c = λ run. absurd run
@@ -211,16 +167,10 @@ pub returns-in-Err-run_demo-clause-usage : goal.returns-in-Err-run_demo-clause-u
 returns-in-Err-run_demo-clause-usage g c = λ e. not_usage e
 
 pub returns-in-Err-run_demo-clause-complete : goal.returns-in-Err-run_demo-clause-complete
-returns-in-Err-run_demo-clause-complete g c = λ order form asks words job source console steps. inr refl
+returns-in-Err-run_demo-clause-complete g c = λ options asks words job source console steps. inr refl
 
 pub returns-in-Err-run_demo-clause-untouched : goal.returns-in-Err-run_demo-clause-untouched
 returns-in-Err-run_demo-clause-untouched g c = λ none. let same = c.in-Err-run_demo.ensures.untouched in (refl, ap g.Co.Sink.state same.0, ap g.St.Sink.state same.1)
-
-pub returns-in-Err-run_demo-clause-source_fault : goal.returns-in-Err-run_demo-clause-source_fault
-returns-in-Err-run_demo-clause-source_fault g c = λ order form asks e. absurd (subst JobWasRun (sym e) tt)
-
-pub returns-in-Err-run_demo-clause-too_large : goal.returns-in-Err-run_demo-clause-too_large
-returns-in-Err-run_demo-clause-too_large g c = λ order form asks e. absurd (subst JobWasRun (sym e) tt)
 
 pub returns-in-Err-run_demo-clause-console_fault : goal.returns-in-Err-run_demo-clause-console_fault
 returns-in-Err-run_demo-clause-console_fault g c = λ e. absurd (subst JobWasRun (sym e) tt)
@@ -228,23 +178,14 @@ returns-in-Err-run_demo-clause-console_fault g c = λ e. absurd (subst JobWasRun
 pub returns-in-Err-run_demo-clause-steps_fault : goal.returns-in-Err-run_demo-clause-steps_fault
 returns-in-Err-run_demo-clause-steps_fault g c = λ e. absurd (subst JobWasRun (sym e) tt)
 
-pub returns-in-Err-run_demo-clause-long_line : goal.returns-in-Err-run_demo-clause-long_line
-returns-in-Err-run_demo-clause-long_line g c = λ order form k asks e. absurd (subst JobWasRun (sym e) tt)
-
-pub returns-in-Err-run_demo-clause-alarm : goal.returns-in-Err-run_demo-clause-alarm
-returns-in-Err-run_demo-clause-alarm g c = λ order form k asks e. absurd (subst JobWasRun (sym e) tt)
-
 pub returns-in-Err-run_demo-clause-its_cause : goal.returns-in-Err-run_demo-clause-its_cause
-returns-in-Err-run_demo-clause-its_cause g c = λ order form asks run. absurd run
+returns-in-Err-run_demo-clause-its_cause g c = λ options asks run. absurd run
 
 pub returns-in-Err-run_demo-clause-run : goal.returns-in-Err-run_demo-clause-run
-returns-in-Err-run_demo-clause-run g c = λ order form asks run. absurd run
-
-pub returns-in-Err-run_demo-clause-whole_run : goal.returns-in-Err-run_demo-clause-whole_run
-returns-in-Err-run_demo-clause-whole_run g c = λ order form asks run. absurd run
+returns-in-Err-run_demo-clause-run g c = λ options asks run. absurd run
 
 pub returns-in-Err-run_demo-clause-no_other : goal.returns-in-Err-run_demo-clause-no_other
-returns-in-Err-run_demo-clause-no_other g c = λ order form bytes status asks run. absurd run
+returns-in-Err-run_demo-clause-no_other g c = λ options bytes status asks run. absurd run
 
 pub returns-in-Err-run_demo-clause-first_fault : goal.returns-in-Err-run_demo-clause-first_fault
 returns-in-Err-run_demo-clause-first_fault g c = λ run. absurd run
@@ -264,93 +205,61 @@ returns-in-Ok-stream-clause-usage g c = λ e. absurd (subst JobWasRun e c.in-Ok-
 pub returns-in-Ok-stream-clause-untouched : goal.returns-in-Ok-stream-clause-untouched
 returns-in-Ok-stream-clause-untouched g c = λ none. has_begun c.in-Ok-stream.status c.in-Ok-stream.ensures.causes.has_run none
 
-pub returns-in-Ok-stream-clause-source_fault : goal.returns-in-Ok-stream-clause-source_fault
-returns-in-Ok-stream-clause-source_fault g c = λ order form asks e. c.in-Ok-stream.ensures.causes.source e
-
 pub returns-in-Ok-stream-clause-console_fault : goal.returns-in-Ok-stream-clause-console_fault
 returns-in-Ok-stream-clause-console_fault g c = c.in-Ok-stream.ensures.causes.console
 
 pub returns-in-Ok-stream-clause-steps_fault : goal.returns-in-Ok-stream-clause-steps_fault
 returns-in-Ok-stream-clause-steps_fault g c = c.in-Ok-stream.ensures.causes.steps
 
-pub returns-in-Ok-stream-clause-too_large : goal.returns-in-Ok-stream-clause-too_large
-returns-in-Ok-stream-clause-too_large g c = λ order form asks e. c.in-Ok-stream.ensures.causes.large e
-
-pub returns-in-Ok-stream-clause-long_line : goal.returns-in-Ok-stream-clause-long_line
-returns-in-Ok-stream-clause-long_line g c = λ order form k asks e. c.in-Ok-stream.ensures.causes.long k e
-
-pub returns-in-Ok-stream-clause-alarm : goal.returns-in-Ok-stream-clause-alarm
-returns-in-Ok-stream-clause-alarm g c = λ order form k asks e.
-    subst (λ f. IsAlarmedRun f (g.So.Source.state c.args.job.now) (g.So.Source.state c.stream.new.job) (record { console = g.Co.Sink.state c.args.console.now; steps = g.St.Sink.state c.args.steps.now }) (record { console = g.Co.Sink.state c.stream.new.console; steps = g.St.Sink.state c.stream.new.steps }) k) (same_form (map (λ w. w.now) c.args.words.now) c.in-Stream.order order c.in-Stream.form form (subst (λ task. Asks task (map (λ w. w.now) c.args.words.now)) c.in-Stream.is c.in-Ok.ensures.asked) asks) (c.in-Ok-stream.ensures.causes.alarm k e)
-
 pub returns-in-Ok-stream-clause-its_cause : goal.returns-in-Ok-stream-clause-its_cause
-returns-in-Ok-stream-clause-its_cause g c = λ order form asks run.
-    subst (λ f. HasItsCause f (g.So.Source.state c.args.job.now) (g.So.Source.state c.stream.new.job) (record { console = g.Co.Sink.state c.args.console.now; steps = g.St.Sink.state c.args.steps.now }) (record { console = g.Co.Sink.state c.stream.new.console; steps = g.St.Sink.state c.stream.new.steps }) c.in-Ok-stream.status) (same_form (map (λ w. w.now) c.args.words.now) c.in-Stream.order order c.in-Stream.form form (subst (λ task. Asks task (map (λ w. w.now) c.args.words.now)) c.in-Stream.is c.in-Ok.ensures.asked) asks) c.in-Ok-stream.ensures.its_cause
+returns-in-Ok-stream-clause-its_cause g c = λ options asks run.
+    subst (λ o. HasItsCause (setup_of o) (g.So.Source.state c.args.job.now) (g.So.Source.state c.stream.new.job) (record { console = g.Co.Sink.state c.args.console.now; steps = g.St.Sink.state c.args.steps.now }) (record { console = g.Co.Sink.state c.stream.new.console; steps = g.St.Sink.state c.stream.new.steps }) c.in-Ok-stream.status) (same_options (map (λ w. w.now) c.args.words.now) c.in-Stream.options options (subst (λ task. Asks task (map (λ w. w.now) c.args.words.now)) c.in-Stream.is c.in-Ok.ensures.asked) asks) c.in-Ok-stream.ensures.its_cause
 
 pub returns-in-Ok-stream-clause-run : goal.returns-in-Ok-stream-clause-run
-returns-in-Ok-stream-clause-run g c = λ order form asks run.
-    subst (λ f. EndsWith f (g.So.Source.state c.args.job.now) (g.So.Source.state c.stream.new.job) (record { console = g.Co.Sink.state c.args.console.now; steps = g.St.Sink.state c.args.steps.now }) (record { console = g.Co.Sink.state c.stream.new.console; steps = g.St.Sink.state c.stream.new.steps }) c.in-Ok-stream.status) (same_form (map (λ w. w.now) c.args.words.now) c.in-Stream.order order c.in-Stream.form form (subst (λ task. Asks task (map (λ w. w.now) c.args.words.now)) c.in-Stream.is c.in-Ok.ensures.asked) asks) c.in-Ok-stream.ensures.run
-
-pub returns-in-Ok-stream-clause-whole_run : goal.returns-in-Ok-stream-clause-whole_run
-returns-in-Ok-stream-clause-whole_run g c = λ order form asks whole.
-    subst (λ f. IsWholeRun f (g.So.Source.state c.args.job.now) (g.So.Source.state c.stream.new.job) (record { console = g.Co.Sink.state c.args.console.now; steps = g.St.Sink.state c.args.steps.now }) (record { console = g.Co.Sink.state c.stream.new.console; steps = g.St.Sink.state c.stream.new.steps }) c.in-Ok-stream.status) (same_form (map (λ w. w.now) c.args.words.now) c.in-Stream.order order c.in-Stream.form form (subst (λ task. Asks task (map (λ w. w.now) c.args.words.now)) c.in-Stream.is c.in-Ok.ensures.asked) asks) (c.in-Ok-stream.ensures.causes.whole whole)
+returns-in-Ok-stream-clause-run g c = λ options asks run.
+    subst (λ o. EndsWith (setup_of o) (g.So.Source.state c.args.job.now) (g.So.Source.state c.stream.new.job) (record { console = g.Co.Sink.state c.args.console.now; steps = g.St.Sink.state c.args.steps.now }) (record { console = g.Co.Sink.state c.stream.new.console; steps = g.St.Sink.state c.stream.new.steps }) c.in-Ok-stream.status) (same_options (map (λ w. w.now) c.args.words.now) c.in-Stream.options options (subst (λ task. Asks task (map (λ w. w.now) c.args.words.now)) c.in-Stream.is c.in-Ok.ensures.asked) asks) c.in-Ok-stream.ensures.run
 
 pub returns-in-Ok-stream-clause-faultless : goal.returns-in-Ok-stream-clause-faultless
 returns-in-Ok-stream-clause-faultless g c = c.in-Ok-stream.ensures.causes.faultless
 
 pub returns-in-Ok-stream-clause-demo : goal.returns-in-Ok-stream-clause-demo
-returns-in-Ok-stream-clause-demo g c = λ n asks run. absurd (no_stream (map (λ w. w.now) c.args.words.now) c.in-Stream.order c.in-Stream.form n asks (subst (λ task. Asks task (map (λ w. w.now) c.args.words.now)) c.in-Stream.is c.in-Ok.ensures.asked))
+returns-in-Ok-stream-clause-demo g c = λ n asks run. absurd (no_stream (map (λ w. w.now) c.args.words.now) c.in-Stream.options n asks (subst (λ task. Asks task (map (λ w. w.now) c.args.words.now)) c.in-Stream.is c.in-Ok.ensures.asked))
 
 pub returns-in-Ok-run_demo-clause-refused : goal.returns-in-Ok-run_demo-clause-refused
 returns-in-Ok-run_demo-clause-refused g c = λ r. absurd (c.in-Ok.ensures.accepted refl r)
 
-pub returns-in-Ok-run_demo-clause-source_fault : goal.returns-in-Ok-run_demo-clause-source_fault
-returns-in-Ok-run_demo-clause-source_fault g c = λ order form asks. absurd (no_stream (map (λ w. w.now) c.args.words.now) order form c.in-Demo.moves (subst (λ task. Asks task (map (λ w. w.now) c.args.words.now)) c.in-Demo.is c.in-Ok.ensures.asked) asks)
-
-pub returns-in-Ok-run_demo-clause-too_large : goal.returns-in-Ok-run_demo-clause-too_large
-returns-in-Ok-run_demo-clause-too_large g c = λ order form asks. absurd (no_stream (map (λ w. w.now) c.args.words.now) order form c.in-Demo.moves (subst (λ task. Asks task (map (λ w. w.now) c.args.words.now)) c.in-Demo.is c.in-Ok.ensures.asked) asks)
-
 pub returns-in-Ok-run_demo-clause-its_cause : goal.returns-in-Ok-run_demo-clause-its_cause
-returns-in-Ok-run_demo-clause-its_cause g c = λ order form asks. absurd (no_stream (map (λ w. w.now) c.args.words.now) order form c.in-Demo.moves (subst (λ task. Asks task (map (λ w. w.now) c.args.words.now)) c.in-Demo.is c.in-Ok.ensures.asked) asks)
+returns-in-Ok-run_demo-clause-its_cause g c = λ options asks. absurd (no_stream (map (λ w. w.now) c.args.words.now) options c.in-Demo.moves (subst (λ task. Asks task (map (λ w. w.now) c.args.words.now)) c.in-Demo.is c.in-Ok.ensures.asked) asks)
 
 pub returns-in-Ok-run_demo-clause-run : goal.returns-in-Ok-run_demo-clause-run
-returns-in-Ok-run_demo-clause-run g c = λ order form asks. absurd (no_stream (map (λ w. w.now) c.args.words.now) order form c.in-Demo.moves (subst (λ task. Asks task (map (λ w. w.now) c.args.words.now)) c.in-Demo.is c.in-Ok.ensures.asked) asks)
-
-pub returns-in-Ok-run_demo-clause-whole_run : goal.returns-in-Ok-run_demo-clause-whole_run
-returns-in-Ok-run_demo-clause-whole_run g c = λ order form asks. absurd (no_stream (map (λ w. w.now) c.args.words.now) order form c.in-Demo.moves (subst (λ task. Asks task (map (λ w. w.now) c.args.words.now)) c.in-Demo.is c.in-Ok.ensures.asked) asks)
+returns-in-Ok-run_demo-clause-run g c = λ options asks. absurd (no_stream (map (λ w. w.now) c.args.words.now) options c.in-Demo.moves (subst (λ task. Asks task (map (λ w. w.now) c.args.words.now)) c.in-Demo.is c.in-Ok.ensures.asked) asks)
 
 pub returns-in-Ok-run_demo-clause-complete : goal.returns-in-Ok-run_demo-clause-complete
-returns-in-Ok-run_demo-clause-complete g c = λ order form asks. absurd (no_stream (map (λ w. w.now) c.args.words.now) order form c.in-Demo.moves (subst (λ task. Asks task (map (λ w. w.now) c.args.words.now)) c.in-Demo.is c.in-Ok.ensures.asked) asks)
-
-pub returns-in-Ok-run_demo-clause-long_line : goal.returns-in-Ok-run_demo-clause-long_line
-returns-in-Ok-run_demo-clause-long_line g c = λ order form k asks. absurd (no_stream (map (λ w. w.now) c.args.words.now) order form c.in-Demo.moves (subst (λ task. Asks task (map (λ w. w.now) c.args.words.now)) c.in-Demo.is c.in-Ok.ensures.asked) asks)
-
-pub returns-in-Ok-run_demo-clause-alarm : goal.returns-in-Ok-run_demo-clause-alarm
-returns-in-Ok-run_demo-clause-alarm g c = λ order form k asks. absurd (no_stream (map (λ w. w.now) c.args.words.now) order form c.in-Demo.moves (subst (λ task. Asks task (map (λ w. w.now) c.args.words.now)) c.in-Demo.is c.in-Ok.ensures.asked) asks)
+returns-in-Ok-run_demo-clause-complete g c = λ options asks. absurd (no_stream (map (λ w. w.now) c.args.words.now) options c.in-Demo.moves (subst (λ task. Asks task (map (λ w. w.now) c.args.words.now)) c.in-Demo.is c.in-Ok.ensures.asked) asks)
 
 pub returns-in-Ok-run_demo-clause-no_other : goal.returns-in-Ok-run_demo-clause-no_other
-returns-in-Ok-run_demo-clause-no_other g c = λ order form bytes status asks. absurd (no_stream (map (λ w. w.now) c.args.words.now) order form c.in-Demo.moves (subst (λ task. Asks task (map (λ w. w.now) c.args.words.now)) c.in-Demo.is c.in-Ok.ensures.asked) asks)
+returns-in-Ok-run_demo-clause-no_other g c = λ options bytes status asks. absurd (no_stream (map (λ w. w.now) c.args.words.now) options c.in-Demo.moves (subst (λ task. Asks task (map (λ w. w.now) c.args.words.now)) c.in-Demo.is c.in-Ok.ensures.asked) asks)
 
 pub returns-in-Err-Refused-clause-order : goal.returns-in-Err-Refused-clause-order
-returns-in-Err-Refused-clause-order g c = λ order form asks run. absurd run
+returns-in-Err-Refused-clause-order g c = λ options asks run. absurd run
 
 pub returns-in-Err-Refused-clause-demo_order : goal.returns-in-Err-Refused-clause-demo_order
 returns-in-Err-Refused-clause-demo_order g c = λ n asks run. absurd run
 
 pub returns-in-Err-OutOfMemory-clause-order : goal.returns-in-Err-OutOfMemory-clause-order
-returns-in-Err-OutOfMemory-clause-order g c = λ order form asks run. absurd run
+returns-in-Err-OutOfMemory-clause-order g c = λ options asks run. absurd run
 
 pub returns-in-Err-OutOfMemory-clause-demo_order : goal.returns-in-Err-OutOfMemory-clause-demo_order
 returns-in-Err-OutOfMemory-clause-demo_order g c = λ n asks run. absurd run
 
 pub returns-in-Err-clause-order : goal.returns-in-Err-clause-order
-returns-in-Err-clause-order g c = λ order form asks run. absurd run
+returns-in-Err-clause-order g c = λ options asks run. absurd run
 
 pub returns-in-Err-clause-demo_order : goal.returns-in-Err-clause-demo_order
 returns-in-Err-clause-demo_order g c = λ n asks run. absurd run
 
 pub returns-in-Err-run_demo-clause-order : goal.returns-in-Err-run_demo-clause-order
-returns-in-Err-run_demo-clause-order g c = λ order form asks run. absurd run
+returns-in-Err-run_demo-clause-order g c = λ options asks run. absurd run
 
 pub returns-in-Err-run_demo-clause-demo_order : goal.returns-in-Err-run_demo-clause-demo_order
 returns-in-Err-run_demo-clause-demo_order g c = λ n asks run. absurd run
@@ -374,19 +283,18 @@ pub returns-in-Ok-run_demo-clause-told : goal.returns-in-Ok-run_demo-clause-told
 returns-in-Ok-run_demo-clause-told g c = λ unnamed. let none = c.in-Ok.ensures.unnamed unnamed in absurd (cc)
 
 pub returns-in-Ok-stream-clause-order : goal.returns-in-Ok-stream-clause-order
-returns-in-Ok-stream-clause-order g c = λ order form asks run.
+returns-in-Ok-stream-clause-order g c = λ options asks run.
     let words = map (λ w. w.now) c.args.words.now in
-    let its : Asks (tasks.Stream c.in-Stream.order c.in-Stream.form) words = subst (λ task. Asks task words) c.in-Stream.is c.in-Ok.ensures.asked in
+    let its : Asks (tasks.Stream c.in-Stream.options) words = subst (λ task. Asks task words) c.in-Stream.is c.in-Ok.ensures.asked in
     let was = devices (g.So.Source.state c.args.job.now) (g.Co.Sink.state c.args.console.now) (g.St.Sink.state c.args.steps.now) in
     let now = devices (g.So.Source.state c.stream.new.job) (g.Co.Sink.state c.stream.new.console) (g.St.Sink.state c.stream.new.steps) in
-    subst (λ o. EndsInOrder form o was now c.in-Ok-stream.status) (same_order words c.in-Stream.order order c.in-Stream.form form its asks)
-    (subst (λ f. EndsInOrder f c.in-Stream.order was now c.in-Ok-stream.status) (same_form words c.in-Stream.order order c.in-Stream.form form its asks) c.in-Ok-stream.ensures.order)
+    subst (λ o. EndsInOrder o was now c.in-Ok-stream.status) (same_options words c.in-Stream.options options its asks) c.in-Ok-stream.ensures.order
 
 pub returns-in-Ok-run_demo-clause-order : goal.returns-in-Ok-run_demo-clause-order
-returns-in-Ok-run_demo-clause-order g c = λ order form asks. absurd (no_stream (map (λ w. w.now) c.args.words.now) order form c.in-Demo.moves (subst (λ task. Asks task (map (λ w. w.now) c.args.words.now)) c.in-Demo.is c.in-Ok.ensures.asked) asks)
+returns-in-Ok-run_demo-clause-order g c = λ options asks. absurd (no_stream (map (λ w. w.now) c.args.words.now) options c.in-Demo.moves (subst (λ task. Asks task (map (λ w. w.now) c.args.words.now)) c.in-Demo.is c.in-Ok.ensures.asked) asks)
 
 pub returns-in-Ok-stream-clause-demo_order : goal.returns-in-Ok-stream-clause-demo_order
-returns-in-Ok-stream-clause-demo_order g c = λ n asks run. absurd (no_stream (map (λ w. w.now) c.args.words.now) c.in-Stream.order c.in-Stream.form n asks (subst (λ task. Asks task (map (λ w. w.now) c.args.words.now)) c.in-Stream.is c.in-Ok.ensures.asked))
+returns-in-Ok-stream-clause-demo_order g c = λ n asks run. absurd (no_stream (map (λ w. w.now) c.args.words.now) c.in-Stream.options n asks (subst (λ task. Asks task (map (λ w. w.now) c.args.words.now)) c.in-Stream.is c.in-Ok.ensures.asked))
 
 pub returns-in-Ok-run_demo-clause-demo_order : goal.returns-in-Ok-run_demo-clause-demo_order
 returns-in-Ok-run_demo-clause-demo_order g c = λ n asks run.

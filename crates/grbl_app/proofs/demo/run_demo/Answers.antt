@@ -1,3 +1,5 @@
+use Rattle.status_report.specs.Answering.{receive_room}
+use Rattle.planner_runs.specs.Runs.{most_blocks}
 use Rattle.std.proofs.Common.{◌≡◌, ◌∙◌, ◌+◌, not, Ok, Err, refl, subst, arith}
 use Rattle.std.specs.declared.result.Result.{Result}
 use Rattle.std.specs.Result.{is_ok, is_err}
@@ -21,7 +23,7 @@ returns-clause-run g c =
     let ran = c.in_ok-end.ensures.run in
     let end = c.in_ok-end.end in
     let left = c.run_in_lockstep.new.job in
-    let run = subst (λ (text : List ℕ). IsRun One (generated text) (generated left)
+    let run = subst (λ (text : List ℕ). IsRun receive_room most_blocks One (generated text) (generated left)
     (record { console = keeps_nothing; steps = g.St.Sink.state c.args.steps.now })
     (record { console = keeps_nothing; steps = g.St.Sink.state c.run_in_lockstep.new.steps }) end) c.new-job.ensures ran in
     let whole = runs_whole c.args.moves left _ _ end c.requires.moves.0 c.requires.moves.1 run in
@@ -46,7 +48,7 @@ pub returns-clause-order : goal.returns-clause-order
 returns-clause-order g c = record {
   end = c.in_ok-end.end;
   left = c.run_in_lockstep.new.job;
-  goes = subst (λ (text : List ℕ). IsLockstepRun One c.args.moves (devices (generated text) keeps_nothing (g.St.Sink.state c.args.steps.now))
+  goes = subst (λ (text : List ℕ). IsLockstepRun receive_room (most_blocks + 1) One c.args.moves (devices (generated text) keeps_nothing (g.St.Sink.state c.args.steps.now))
       (devices (generated c.run_in_lockstep.new.job) keeps_nothing (g.St.Sink.state c.run_in_lockstep.new.steps)) c.in_ok-end.end) c.new-job.ensures c.in_ok-end.ensures.order;
   console_failed = c.is_err-console_failed.result;
   status_is = c.status_of.ensures;
