@@ -34,7 +34,7 @@ use Rattle.audit_course.specs.declared.LastTask.TheVariants.{Nothing}
 use Rattle.audit_course.specs.declared.Progress.{Progress}
 use Rattle.audit_course.specs.declared.judge.CourseJudge.{CourseJudge}
 use Rattle.audit_course.specs.Progressing.{last_behind, has_ticks, has_halt, IsNew}
-use Rattle.audit_course.specs.SoFar.{GoesTo, IsSoFar, OfLine, MayBegin, Knows, FindsRight, FindsStill, left_to_tell}
+use Rattle.audit_course.specs.SoFar.{GoesTo, HasJudged, OfLine, MayBegin, Knows, FindsRight, FindsStill, left_to_tell}
 use Rattle.audit_course.proofs.Going.{by_line, by_broken}
 use Rattle.audit_course.proofs.Finding.{still_may, stands_becomes, busy_becomes, locked_becomes}
 use Rattle.audit_course.proofs.Outcomes.{SaysOf, becomes_says, locked_says}
@@ -69,7 +69,7 @@ making_more k ticks more moves others o e f =
     ap (λ (rs : List Record). record (making k ticks moves) { owed = rs; left = (all_moves k.next ++ moves) ++ moves_of (asks o.work) }) one
     ∙ ap (λ (ms : List PlannedMove). record (making k ticks moves) { owed = rest_of k.latest ++ (all_ticks k.next ++ (ticks ++ more)); left = ms }) two
 
-asked_more : (j : CourseJudge) (first : State) (sent : List Sent) (replies : List Reply) (records : List Record) (s : IsSoFar j first sent replies records) → j.work.left ≡ [] → j.lost ≡ false → (s.ticks ≡ []) × (s.moves ≡ [])
+asked_more : (j : CourseJudge) (first : State) (sent : List Sent) (replies : List Reply) (records : List Record) (s : HasJudged j first sent replies records) → j.work.left ≡ [] → j.lost ≡ false → (s.ticks ≡ []) × (s.moves ≡ [])
 asked_more j first sent replies records s done kept = let a = s.asked kept in (a.0 ∙ ap (λ (ts : List Task). ticks_of_all (asks ts)) done, a.1 ∙ ap (λ (ts : List Task). moves_of (asks ts)) done)
 
 pub or_true : (a b : Bool) → b ≡ true → (a || b) ≡ true
@@ -106,6 +106,7 @@ line_of j k p hand kept o w was b judged work kind moved jog_moved answered in_h
   jogged = ap (jogged_behind o.kind) was.jogged ∙ sym jogged;
   alarmed = ap (λ (u : Bool). not u && is_limit o.answer) (sym answered);
   unheld = λ e. absurd (let f : false ≡ true = sym answered ∙ e in cc);
+  unsettles = λ e. absurd (let f : false ≡ true = sym answered ∙ e in cc);
   none = λ e. absurd (let f : true ≡ false = sym in_hand ∙ e in cc);
   are = ((refl, refl, sym kind), tt);
 } where
@@ -122,11 +123,11 @@ any_last [] o e = or_true' (raises_alarm o) e where
   or_true' false f = f
 any_last (x ∷ os) o e = or_true (raises_alarm x) (list_any raises_alarm (os ++ o ∷ [])) (any_last os o e)
 
-pub line_begun : (j k : CourseJudge) (kept : List ℕ) (o : Outcome) (w : Interpreting) (first : State) (sent : List Sent) (replies : List Reply) (records : List Record) (s : IsSoFar j first sent replies records)
+pub line_begun : (j k : CourseJudge) (kept : List ℕ) (o : Outcome) (w : Interpreting) (first : State) (sent : List Sent) (replies : List Reply) (records : List Record) (s : HasJudged j first sent replies records)
     → MayBegin j → IsJudged j s.point true kept o w k.line → kind_told k.line.accepted ≡ o.kind
     → k.jogged ≡ jogged_behind o.kind j.jogged → k.locked ≡ (j.locked && not (is_unlock (kind_of kept)))
     → k ≡ record j { work = w; state = o.next; locked = k.locked; has_line = true; in_hand = true; jogged = k.jogged; line = k.line }
-    → IsSoFar k first (sent ++ a_text kept ∷ []) replies records
+    → HasJudged k first (sent ++ a_text kept ∷ []) replies records
 line_begun j k kept o w first sent replies records s b judged kind jogged locked is = record {
   point = behind_line s.point kept o;
   number = ap (λ (n : ℕ). n + 1) s.number ∙ sym (ap (λ (i : Interpreting). i.number) work);
@@ -208,6 +209,7 @@ broken_of j k p hand kept o w was b judged work kind moved jog_moved broken in_h
   jogged = was.jogged ∙ sym jogged;
   alarmed = no_alarm j p hand was b ∙ ap (λ (u : Bool). not u && has_halt o.work) (sym broken);
   unheld = λ e. refl;
+  unsettles = λ e. refl;
   none = λ e. absurd (let f : true ≡ false = sym in_hand ∙ e in cc);
   are = tt;
 } where
@@ -221,10 +223,10 @@ broken_of j k p hand kept o w was b judged work kind moved jog_moved broken in_h
   moves_first true c e = refl
   moves_first false c e = absurd cc
 
-pub line_broken : (j k : CourseJudge) (kept : List ℕ) (o : Outcome) (w : Interpreting) (first : State) (sent : List Sent) (replies : List Reply) (records : List Record) (s : IsSoFar j first sent replies records)
+pub line_broken : (j k : CourseJudge) (kept : List ℕ) (o : Outcome) (w : Interpreting) (first : State) (sent : List Sent) (replies : List Reply) (records : List Record) (s : HasJudged j first sent replies records)
     → MayBegin j → IsJudged j s.point false kept o w k.line → kind_told k.line.accepted ≡ kind_told Code
     → k ≡ record j { work = w; has_line = true; unanswered = true; in_hand = true; line = k.line }
-    → IsSoFar k first (sent ++ a_text kept ∷ []) replies records
+    → HasJudged k first (sent ++ a_text kept ∷ []) replies records
 line_broken j k kept o w first sent replies records s b judged kind is = record {
   point = behind_broken s.point o;
   number = ap (λ (n : ℕ). n + 1) s.number ∙ sym (ap (λ (i : Interpreting). i.number) work);
@@ -287,7 +289,7 @@ says_at p kept o is = by_either p.locked _ _ _ (λ e. locked_says p.before kept 
 pub says_still : (p : Point) (kept : List ℕ) (o : Outcome) → BecomesAt false p kept o → SaysOf o
 says_still p kept o is = by_either p.locked _ _ _ (λ e. locked_says p.before kept o) (λ e still. becomes_says p.before kept o (still_may p.before kept o still)) is
 
-pub known_at : (j : CourseJudge) (first : State) (sent : List Sent) (replies : List Reply) (records : List Record) (s : IsSoFar j first sent replies records) → MayBegin j → Knows j s.point
+pub known_at : (j : CourseJudge) (first : State) (sent : List Sent) (replies : List Reply) (records : List Record) (s : HasJudged j first sent replies records) → MayBegin j → Knows j s.point
 known_at j first sent replies records s b =
     let calm : s.line.settles ≡ false = (s.line.none b.closed).1 in
     record { locked = s.locked; moved = λ e. s.line.moved e calm; jog_moved = λ e. s.line.jog_moved e calm; jogged = s.line.jogged }
@@ -296,7 +298,7 @@ known_at j first sent replies records s b =
 pub since_at : Point → Since
 since_at p = record { moved = p.before.moved; jog_moved = p.before.jog_moved; jogged = p.before.jogged; alarmed = p.before.alarmed }
 
-pub stands_there : (j : CourseJudge) (first : State) (sent : List Sent) (replies : List Reply) (records : List Record) (s : IsSoFar j first sent replies records) → MayBegin j → stands_before j.work (since_at s.point) ≡ s.point.before
+pub stands_there : (j : CourseJudge) (first : State) (sent : List Sent) (replies : List Reply) (records : List Record) (s : HasJudged j first sent replies records) → MayBegin j → stands_before j.work (since_at s.point) ≡ s.point.before
 unfolding since_at
 stands_there j first sent replies records s b =
     ap (λ (n : ℕ). before_line n j.work.state (since_at s.point)) (sym s.number)
@@ -313,10 +315,10 @@ taken_false false A B e b = b
 -- ---- as the code has it
 
 pub line_answered : (j : CourseJudge) (machine : Machine) (w : Interpreting) (state : State) (locked jogged : Bool) (l : Progress) (accepted : Accepted) (kept : List ℕ) (first : State) (sent : List Sent) (replies : List Reply) (records : List Record)
-    → IsSoFar j first sent replies records → MayBegin j
+    → HasJudged j first sent replies records → MayBegin j
     → ((since : Since) → (o : Outcome) × Found machine (stands_before j.work since) kept o × (w ≡ record { state = o.next; number = j.work.number + 1; left = o.work }) × (kind_told accepted ≡ o.kind))
     → FindsRight j machine kept → state ≡ w.state → IsNew l → l.accepted ≡ accepted → jogged ≡ jogged_behind (kind_told accepted) j.jogged → locked ≡ (j.locked && not (is_unlock (kind_of kept)))
-    → IsSoFar (record j { work = w; state = state; locked = locked; has_line = true; in_hand = true; jogged = jogged; line = l }) first (sent ++ a_text kept ∷ []) replies records
+    → HasJudged (record j { work = w; state = state; locked = locked; has_line = true; in_hand = true; jogged = jogged; line = l }) first (sent ++ a_text kept ∷ []) replies records
 line_answered j machine w state locked jogged l accepted kept first sent replies records s b judged finds state_is new accepted_is jogged_is locked_is =
     let o = judged (since_at s.point) in
     let found : Found machine s.point.before kept o.0 = subst (λ (x : Before). Found machine x kept o.0) (stands_there j first sent replies records s b) o.1 in
@@ -329,10 +331,10 @@ line_answered j machine w state locked jogged l accepted kept first sent replies
     (ap (λ (x : State). record j { work = w; state = x; locked = locked; has_line = true; in_hand = true; jogged = jogged; line = l }) next)
 
 pub line_unanswered : (j : CourseJudge) (machine : Machine) (w : Interpreting) (l : Progress) (accepted : Accepted) (kept : List ℕ) (first : State) (sent : List Sent) (replies : List Reply) (records : List Record)
-    → IsSoFar j first sent replies records → MayBegin j
+    → HasJudged j first sent replies records → MayBegin j
     → ((since : Since) → (o : Outcome) × Found machine (stands_before j.work since) kept o × (w ≡ record { state = o.next; number = j.work.number + 1; left = o.work }) × (kind_told accepted ≡ o.kind))
     → FindsStill j machine kept → IsNew l → l.accepted ≡ Code
-    → IsSoFar (record j { work = w; has_line = true; unanswered = true; in_hand = true; line = l }) first (sent ++ a_text kept ∷ []) replies records
+    → HasJudged (record j { work = w; has_line = true; unanswered = true; in_hand = true; line = l }) first (sent ++ a_text kept ∷ []) replies records
 line_unanswered j machine w l accepted kept first sent replies records s b judged finds new code =
     let o = judged (since_at s.point) in
     let found : Found machine s.point.before kept o.0 = subst (λ (x : Before). Found machine x kept o.0) (stands_there j first sent replies records s b) o.1 in

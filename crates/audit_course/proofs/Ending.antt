@@ -37,7 +37,7 @@ use Rattle.audit_course.specs.declared.LastTask.TheVariants.{Nothing}
 use Rattle.audit_course.specs.declared.Progress.{Progress}
 use Rattle.audit_course.specs.declared.judge.CourseJudge.{CourseJudge}
 use Rattle.audit_course.specs.Progressing.{last_behind, has_ticks, has_halt, fresh}
-use Rattle.audit_course.specs.SoFar.{GoesTo, IsSoFar, IsOver, AddsReset, OfLine, MayLose, MayCut, MayReset, MayEnd, left_to_tell}
+use Rattle.audit_course.specs.SoFar.{GoesTo, HasJudged, IsOver, AddsReset, OfLine, MayLose, MayCut, MayReset, MayEnd, left_to_tell}
 use Rattle.audit_course.proofs.Going.{by_a_cut, by_a_reset, at_end}
 use Rattle.audit_course.proofs.Outcomes.{telling_halts}
 use Rattle.audit_course.proofs.Parting.{idle_owes}
@@ -146,9 +146,9 @@ mark_events records r e =
 
 -- ---- a cut
 
-pub part_cut : (j : CourseJudge) (k : ℕ) (w : Interpreting) (state : State) (first : State) (sent : List Sent) (replies : List Reply) (records : List Record) (s : IsSoFar j first sent replies records)
+pub part_cut : (j : CourseJudge) (k : ℕ) (w : Interpreting) (state : State) (first : State) (sent : List Sent) (replies : List Reply) (records : List Record) (s : HasJudged j first sent replies records)
     → MayCut j k → state ≡ (at_place j.place (record s.point.before { state = j.state })).state → w ≡ record j.work { state = state }
-    → IsSoFar (record j { work = w; state = state; part = nothing_known; cuts = j.cuts + 1; has_line = false; lost = false; jogs = true; unsettled = true }) first sent replies (records ++ ending_record (by_cut k j.place) ∷ [])
+    → HasJudged (record j { work = w; state = state; part = nothing_known; cuts = j.cuts + 1; has_line = false; lost = false; jogs = true; unsettled = true }) first sent replies (records ++ ending_record (by_cut k j.place) ∷ [])
 part_cut j k w state first sent replies records s may state_is is = record {
   point = behind_cut j.place s.point;
   number = s.number ∙ sym (ap (λ (i : Interpreting). i.number) is);
@@ -229,6 +229,7 @@ part_cut j k w state first sent replies records s may state_is is = record {
     jogged = s.line.jogged;
     alarmed = s.line.alarmed;
     unheld = λ e. refl;
+    unsettles = s.line.unsettles;
     none = λ e. (refl, (s.line.none may.ends.closed).1);
     are = tt;
   } where
@@ -276,9 +277,9 @@ abbrev pub reset_here : CourseJudge → ℕ → ℕ → Bool → Bool → Reset
 reset_here j k dropped alarm locked = record { number = k; dropped = dropped; alarm = alarm; locked = locked; at = j.place }
 
 pub part_reset : (j : CourseJudge) (k dropped : ℕ) (alarm locked : Bool) (lines : List (List ℕ)) (w : Interpreting) (state : State) (first : State) (sent : List Sent) (replies : List Reply) (records : List Record)
-    (s : IsSoFar j first sent replies records) → MayReset j k alarm → dropped ≡ length lines → locked ≡ (alarm || j.locked) → state ≡ reset_state j.place j.state
+    (s : HasJudged j first sent replies records) → MayReset j k alarm → dropped ≡ length lines → locked ≡ (alarm || j.locked) → state ≡ reset_state j.place j.state
     → w ≡ record { state = state; number = k + dropped + 1; left = telling (greeting alarm locked) }
-    → IsSoFar (record j { work = w; state = state; part = nothing_known; locked = locked; has_line = false; unanswered = false; lost = false; jogs = true; unsettled = true; moved = false; jog_moved = false; jogged = false; line = fresh false })
+    → HasJudged (record j { work = w; state = state; part = nothing_known; locked = locked; has_line = false; unanswered = false; lost = false; jogs = true; unsettled = true; moved = false; jog_moved = false; jogged = false; line = fresh false })
     first (sent ++ (map a_text lines ++ a_stop ∷ [])) replies (records ++ kinds.Mark (ResetMark k) ∷ [])
 part_reset j k dropped alarm locked lines w state first sent replies records s may count locked_is state_is is = record {
   point = behind_the_reset (reset_here j k dropped alarm locked) s.point;
@@ -306,6 +307,7 @@ part_reset j k dropped alarm locked lines w state first sent replies records s m
     jogged = refl;
     alarmed = refl;
     unheld = λ e. refl;
+    unsettles = λ e. refl;
     none = λ e. (refl, refl);
     are = tt;
   };
@@ -380,7 +382,7 @@ left_so : (b : Bool) → either b (behind_reset [] ≡ []) (◌≡◌ {A = List 
 left_so true = refl
 left_so false = refl
 
-pub course_over : (j : CourseJudge) (first : State) (sent : List Sent) (replies : List Reply) (records : List Record) (s : IsSoFar j first sent replies records) → MayEnd j → IsOver j first sent replies records
+pub course_over : (j : CourseJudge) (first : State) (sent : List Sent) (replies : List Reply) (records : List Record) (s : HasJudged j first sent replies records) → MayEnd j → IsOver j first sent replies records
 course_over j first sent replies records s may = record {
   last = s.point;
   number = s.number;
@@ -412,14 +414,14 @@ course_over j first sent replies records s may = record {
 -- ---- as the code has it
 
 pub cut_made : (j : CourseJudge) (k : ℕ) (w : Interpreting) (state : State) (part : Known) (first : State) (sent : List Sent) (replies : List Reply) (records : List Record)
-    → IsSoFar j first sent replies records → MayCut j k → state ≡ record j.state { parser = rebased j.state.parser j.place j.state.settings.limits.per_mm }
+    → HasJudged j first sent replies records → MayCut j k → state ≡ record j.state { parser = rebased j.state.parser j.place j.state.settings.limits.per_mm }
     → w ≡ record j.work { state = record j.work.state { parser = rebased j.work.state.parser j.place j.work.state.settings.limits.per_mm } } → part ≡ nothing_known
-    → IsSoFar (record j { work = w; state = state; part = part; cuts = j.cuts + 1; has_line = false; lost = false; jogs = true; unsettled = true }) first sent replies (records ++ ending_record (by_cut k j.place) ∷ [])
+    → HasJudged (record j { work = w; state = state; part = part; cuts = j.cuts + 1; has_line = false; lost = false; jogs = true; unsettled = true }) first sent replies (records ++ ending_record (by_cut k j.place) ∷ [])
 cut_made j k w state part first sent replies records s may state_is work part_is =
     let same : j.work.state ≡ j.state = sym (s.same_state may.answered) in
     let here : w ≡ record j.work { state = state } =
     work ∙ ap (λ (x : State). record j.work { state = record x { parser = rebased x.parser j.place x.settings.limits.per_mm } }) same ∙ ap (λ (x : State). record j.work { state = x }) (sym state_is) in
-    subst (λ (x : Known). IsSoFar (record j { work = w; state = state; part = x; cuts = j.cuts + 1; has_line = false; lost = false; jogs = true; unsettled = true }) first sent replies (records ++ ending_record (by_cut k j.place) ∷ [])) (sym part_is)
+    subst (λ (x : Known). HasJudged (record j { work = w; state = state; part = x; cuts = j.cuts + 1; has_line = false; lost = false; jogs = true; unsettled = true }) first sent replies (records ++ ending_record (by_cut k j.place) ∷ [])) (sym part_is)
     (part_cut j k w state first sent replies records s may state_is here)
 
 pub reset_made : (j : CourseJudge) (k dropped : ℕ) (alarm locked : Bool) (w : Interpreting) (state : State) (part : Known) (line : Progress)
@@ -430,8 +432,8 @@ reset_made j k dropped alarm locked w state part line may locked_is state_is ope
     let number : j.work.number + dropped ≡ k + dropped + 1 = (let n = may.number in omega (arith, n)) in
     let here : w ≡ record { state = state; number = k + dropped + 1; left = telling (greeting alarm locked) } =
     opened ∙ ap (λ (n : ℕ). record { state = state; number = n; left = telling (greeting alarm locked) }) number in
-    subst (λ (x : Known). IsSoFar (record j { work = w; state = state; part = x; locked = locked; has_line = false; unanswered = false; lost = false; jogs = true; unsettled = true; moved = false; jog_moved = false; jogged = false; line = line })
+    subst (λ (x : Known). HasJudged (record j { work = w; state = state; part = x; locked = locked; has_line = false; unanswered = false; lost = false; jogs = true; unsettled = true; moved = false; jog_moved = false; jogged = false; line = line })
     first (sent ++ (map a_text lines ++ a_stop ∷ [])) replies (records ++ kinds.Mark (ResetMark k) ∷ [])) (sym part_is)
-    (subst (λ (l : Progress). IsSoFar (record j { work = w; state = state; part = nothing_known; locked = locked; has_line = false; unanswered = false; lost = false; jogs = true; unsettled = true; moved = false; jog_moved = false; jogged = false; line = l })
+    (subst (λ (l : Progress). HasJudged (record j { work = w; state = state; part = nothing_known; locked = locked; has_line = false; unanswered = false; lost = false; jogs = true; unsettled = true; moved = false; jog_moved = false; jogged = false; line = l })
     first (sent ++ (map a_text lines ++ a_stop ∷ [])) replies (records ++ kinds.Mark (ResetMark k) ∷ [])) (sym new)
     (part_reset j k dropped alarm locked lines w state first sent replies records s may count locked_is state_is here))

@@ -19,7 +19,7 @@ use Rattle.audit_course.specs.declared.LastTask.TheVariants.{Nothing}
 use Rattle.audit_course.specs.declared.Progress.{Progress}
 use Rattle.audit_course.specs.declared.judge.CourseJudge.{CourseJudge}
 use Rattle.audit_course.specs.Progressing.{last_behind, has_ticks, has_halt, IsNew}
-use Rattle.audit_course.specs.SoFar.{GoesTo, IsSoFar}
+use Rattle.audit_course.specs.SoFar.{GoesTo, HasJudged}
 
 -- what a judge knows then
 abbrev pub opened : Interpreting → State → Known → Progress → CourseJudge
@@ -44,7 +44,7 @@ opened w state part line = record {
 }
 
 pub opens_so_far : (first : State) (w : Interpreting) (state : State) (part : Known) (line : Progress) → state ≡ first → w.state ≡ first → w.number ≡ 1 → w.left ≡ [] → part ≡ nothing_known → IsNew line → line.accepted ≡ Neither
-    → IsSoFar (opened w state part line) first [] [] []
+    → HasJudged (opened w state part line) first [] [] []
 opens_so_far first w state part line state_is work number left part_is new accepted = record {
   point = opening first;
   number = sym number;
@@ -71,6 +71,7 @@ opens_so_far first w state part line state_is work number left part_is new accep
     jogged = refl;
     alarmed = refl;
     unheld = λ e. refl;
+    unsettles = λ e. refl;
     none = λ e. (refl, refl);
     are = tt;
   };
@@ -95,6 +96,6 @@ opens_so_far first w state part line state_is work number left part_is new accep
   plus_none n = omega arith
 
 pub opened_so_far : (w : Interpreting) (state : State) (part : Known) (line : Progress) → IsOpening w.state → IsOpening state → w.number ≡ 1 → w.left ≡ [] → part ≡ nothing_known → IsNew line → line.accepted ≡ Neither
-    → (first : State) × IsOpening first × IsSoFar (opened w state part line) first [] [] []
+    → (first : State) × IsOpening first × HasJudged (opened w state part line) first [] [] []
 opened_so_far w state part line here there number left part_is new accepted =
     (w.state, here, opens_so_far w.state w state part line (one_opening state w.state there here) refl number left part_is new accepted)

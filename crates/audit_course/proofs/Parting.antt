@@ -28,7 +28,7 @@ use Rattle.audit_course.specs.declared.LastTask.TheVariants.{Nothing, Move, Rest
 use Rattle.audit_course.specs.declared.Progress.{Progress}
 use Rattle.audit_course.specs.declared.judge.CourseJudge.{CourseJudge}
 use Rattle.audit_course.specs.Progressing.{last_behind, has_ticks, has_halt, not_rest, stays_on, moved_now, fresh}
-use Rattle.audit_course.specs.SoFar.{GoesTo, IsSoFar, OfLine, MayLose, IsIdle, left_to_tell}
+use Rattle.audit_course.specs.SoFar.{GoesTo, HasJudged, OfLine, MayLose, IsIdle, left_to_tell}
 
 -- ---- a record
 
@@ -64,13 +64,14 @@ same_line j k p hand o work line moved jog_moved jogged unanswered in_hand = rec
   jogged = o.jogged ∙ sym jogged;
   alarmed = o.alarmed ∙ ap (λ (b : Bool). not b && o.limit) (sym unanswered);
   unheld = λ e. o.unheld (sym unanswered ∙ e);
+  unsettles = λ e. o.unsettles (sym unanswered ∙ e);
   none = λ e. o.none (sym in_hand ∙ e);
   are = subst (λ (l : Progress). AllByRecursion (λ (x : Outcome). (x.work ≡ o.work) × (x.settles ≡ o.settles) × (x.kind ≡ kind_told l.accepted)) hand) (sym line) o.are;
 }
 
-pub record_taken : (j : CourseJudge) (r : Record) (part : Known) (place : Steps3) (events : ℕ) (first : State) (sent : List Sent) (replies : List Reply) (records : List Record) → IsSoFar j first sent replies records
+pub record_taken : (j : CourseJudge) (r : Record) (part : Known) (place : Steps3) (events : ℕ) (first : State) (sent : List Sent) (replies : List Reply) (records : List Record) → HasJudged j first sent replies records
     → Goes j.part r part → place ≡ moved_by j.place (r ∷ []) → events ≡ j.events + length (events_among (r ∷ []))
-    → IsSoFar (record j { part = part; place = place; events = events }) first sent replies (records ++ r ∷ [])
+    → HasJudged (record j { part = part; place = place; events = events }) first sent replies (records ++ r ∷ [])
 record_taken j r part place events first sent replies records s goes here count = record {
   point = s.point;
   number = s.number;
@@ -125,6 +126,13 @@ stays_so j p hand o done e = by (accepted_code (kind_told j.line.accepted)) refl
   by false f = o.other f
   by true f = o.stays (λ r. rest_or j.line.last (sym (ap (λ (b : Bool). not b || not_rest j.line.last) f) ∙ e) (last ∙ r))
 
+-- so it does not where it is not answered
+stays_by : (j : CourseJudge) (p : Point) (hand : List Outcome) (o : OfLine j p hand) → j.work.left ≡ [] → (j.unanswered || stays_on j.line) ≡ true → o.settles ≡ false
+stays_by j p hand o done e = by j.unanswered refl e where
+  by : (u : Bool) → j.unanswered ≡ u → (u || stays_on j.line) ≡ true → o.settles ≡ false
+  by true u e = o.unsettles u
+  by false u e = stays_so j p hand o done e
+
 by_and : (a b : Bool) → (a && b) ≡ true → (a ≡ true) × (b ≡ true)
 by_and true b e = (refl, e)
 by_and false b e = absurd cc
@@ -148,10 +156,10 @@ all_by P Q f [] a = tt
 all_by P Q f (x ∷ xs) a = (f x a.0, all_by P Q f xs a.1)
 
 -- that goes on behind a line that is over, where nothing is owed or what may be left out is told
-pub line_closed : (j : CourseJudge) (l : Progress) (moved jog_moved jogs unsettled : Bool) (first : State) (sent : List Sent) (replies : List Reply) (records : List Record) (s : IsSoFar j first sent replies records)
+pub line_closed : (j : CourseJudge) (l : Progress) (moved jog_moved jogs unsettled : Bool) (first : State) (sent : List Sent) (replies : List Reply) (records : List Record) (s : HasJudged j first sent replies records)
     → j.work.left ≡ [] → l ≡ fresh j.line.halts
-    → moved ≡ moved_now (accepted_code (kind_told j.line.accepted)) j.line j.moved → jog_moved ≡ moved_now (accepted_jog (kind_told j.line.accepted)) j.line j.jog_moved
-    → ((made : MayLose (record j { jogs = jogs; unsettled = unsettled }) s.since [] s.made) → IsSoFar (record j { line = l; in_hand = false; moved = moved; jog_moved = jog_moved; jogs = jogs; unsettled = unsettled }) first sent replies records)
+    → moved ≡ moved_now j.unanswered (accepted_code (kind_told j.line.accepted)) j.line j.moved → jog_moved ≡ moved_now j.unanswered (accepted_jog (kind_told j.line.accepted)) j.line j.jog_moved
+    → ((made : MayLose (record j { jogs = jogs; unsettled = unsettled }) s.since [] s.made) → HasJudged (record j { line = l; in_hand = false; moved = moved; jog_moved = jog_moved; jogs = jogs; unsettled = unsettled }) first sent replies records)
 line_closed j l moved jog_moved jogs unsettled first sent replies records s done new is_moved is_jog loses = record {
   point = s.point;
   number = s.number;
@@ -172,18 +180,19 @@ line_closed j l moved jog_moved jogs unsettled first sent replies records s done
     other = λ e. refl;
     stays = λ e. refl;
     moved = λ e n.
-        let b = by_and (stays_on j.line) (accepted_code (kind_told j.line.accepted) && j.line.moves || j.moved) (sym is_moved ∙ e) in
-        let stay = stays_so j s.point s.hand s.line done b.0 in
+        let b = by_and (j.unanswered || stays_on j.line) (accepted_code (kind_told j.line.accepted) && j.line.moves || j.moved) (sym is_moved ∙ e) in
+        let stay = stays_by j s.point s.hand s.line done b.0 in
         by_or (accepted_code (kind_told j.line.accepted)) j.line.moves j.moved b.1 (λ c m. s.line.moves_now stay c (moves_done m)) (λ m. s.line.moved m stay);
     jog_moved = λ e n.
-        let b = by_and (stays_on j.line) (accepted_jog (kind_told j.line.accepted) && j.line.moves || j.jog_moved) (sym is_jog ∙ e) in
-        let stay = stays_so j s.point s.hand s.line done b.0 in
+        let b = by_and (j.unanswered || stays_on j.line) (accepted_jog (kind_told j.line.accepted) && j.line.moves || j.jog_moved) (sym is_jog ∙ e) in
+        let stay = stays_by j s.point s.hand s.line done b.0 in
         by_or (accepted_jog (kind_told j.line.accepted)) j.line.moves j.jog_moved b.1 (λ c m. s.line.jogs_now stay c (moves_done m)) (λ m. s.line.jog_moved m stay);
     moves_now = λ n e m. absurd (let f : false ≡ true = sym (ap (λ (p : Progress). accepted_code (kind_told p.accepted)) new) ∙ e in cc);
     jogs_now = λ n e m. absurd (let f : false ≡ true = sym (ap (λ (p : Progress). accepted_jog (kind_told p.accepted)) new) ∙ e in cc);
     jogged = s.line.jogged;
     alarmed = s.line.alarmed;
     unheld = λ e. refl;
+    unsettles = λ e. refl;
     none = λ e. (refl, refl);
     are = tt;
   };
@@ -209,19 +218,19 @@ none_of : (xs ys : List Record) → xs ++ ys ≡ [] → (xs ≡ []) × (ys ≡ [
 none_of [] ys e = (refl, e)
 none_of (x ∷ xs) ys e = absurd cc
 
-pub idle_owes : (j : CourseJudge) (first : State) (sent : List Sent) (replies : List Reply) (records : List Record) (s : IsSoFar j first sent replies records) → IsIdle j → (making j.part s.ticks s.moves).owed ≡ []
+pub idle_owes : (j : CourseJudge) (first : State) (sent : List Sent) (replies : List Reply) (records : List Record) (s : HasJudged j first sent replies records) → IsIdle j → (making j.part s.ticks s.moves).owed ≡ []
 idle_owes j first sent replies records s i =
     let a = s.asked i.kept in
     let ticks : s.ticks ≡ [] = a.0 ∙ ap (λ (ts : List Task). ticks_of_all (asks ts)) i.done in
     let n = none_of (rest_of j.part.latest) (all_ticks j.part.next) i.none in
     ap (λ (rs : List Record). rs ++ (all_ticks j.part.next ++ s.ticks)) n.0 ∙ ap (λ (rs : List Record). rs ++ s.ticks) n.1 ∙ ticks
 
-bare : (j : CourseJudge) (first : State) (sent : List Sent) (replies : List Reply) (records : List Record) (s : IsSoFar j first sent replies records) → j.unanswered ≡ false → IsMade s.since s.made (making j.part s.ticks s.moves)
+bare : (j : CourseJudge) (first : State) (sent : List Sent) (replies : List Reply) (records : List Record) (s : HasJudged j first sent replies records) → j.unanswered ≡ false → IsMade s.since s.made (making j.part s.ticks s.moves)
 bare j first sent replies records s answered =
     subst (λ (os : List Outcome). IsMade os s.made (making j.part s.ticks s.moves)) (ap (λ (os : List Outcome). s.since ++ os) (s.none_begun answered) ∙ append-nil s.since) s.is_made
 
 -- then no line has lost a tick
-pub idle_loses : (j : CourseJudge) (jogs unsettled : Bool) (first : State) (sent : List Sent) (replies : List Reply) (records : List Record) (s : IsSoFar j first sent replies records) → IsIdle j
+pub idle_loses : (j : CourseJudge) (jogs unsettled : Bool) (first : State) (sent : List Sent) (replies : List Reply) (records : List Record) (s : HasJudged j first sent replies records) → IsIdle j
     → MayLose (record j { jogs = jogs; unsettled = unsettled }) s.since [] s.made
 idle_loses j jogs unsettled first sent replies records s i = record {
   closed = s.since;
@@ -233,7 +242,7 @@ idle_loses j jogs unsettled first sent replies records s i = record {
 }
 
 -- and else the line at hand may have
-pub other_loses : (j : CourseJudge) (first : State) (sent : List Sent) (replies : List Reply) (records : List Record) (s : IsSoFar j first sent replies records) → j.work.left ≡ []
+pub other_loses : (j : CourseJudge) (first : State) (sent : List Sent) (replies : List Reply) (records : List Record) (s : HasJudged j first sent replies records) → j.work.left ≡ []
     → MayLose (record j { jogs = j.jogs && (accepted_jog (kind_told j.line.accepted) || not j.line.asks); unsettled = j.unsettled && (j.unanswered || stays_on j.line) }) s.since [] s.made
 other_loses j first sent replies records s done = record {
   closed = s.loses.closed;
@@ -265,15 +274,15 @@ jogs_now j idle = idle || (j.jogs && (accepted_jog (kind_told j.line.accepted) |
 abbrev unsettled_now : CourseJudge → Bool → Bool
 unsettled_now j idle = idle || (j.unsettled && (j.unanswered || stays_on j.line))
 
-loses_by : (j : CourseJudge) (idle : Bool) (first : State) (sent : List Sent) (replies : List Reply) (records : List Record) (s : IsSoFar j first sent replies records) → j.work.left ≡ [] → (idle ≡ true → IsIdle j)
+loses_by : (j : CourseJudge) (idle : Bool) (first : State) (sent : List Sent) (replies : List Reply) (records : List Record) (s : HasJudged j first sent replies records) → j.work.left ≡ [] → (idle ≡ true → IsIdle j)
     → MayLose (record j { jogs = jogs_now j idle; unsettled = unsettled_now j idle }) s.since [] s.made
 loses_by j true first sent replies records s done is = idle_loses j true true first sent replies records s (is refl)
 loses_by j false first sent replies records s done is = other_loses j first sent replies records s done
 
-pub closes : (j : CourseJudge) (idle : Bool) (l : Progress) (moved jog_moved jogs unsettled : Bool) (first : State) (sent : List Sent) (replies : List Reply) (records : List Record) → IsSoFar j first sent replies records
+pub closes : (j : CourseJudge) (idle : Bool) (l : Progress) (moved jog_moved jogs unsettled : Bool) (first : State) (sent : List Sent) (replies : List Reply) (records : List Record) → HasJudged j first sent replies records
     → j.work.left ≡ [] → (idle ≡ true → IsIdle j) → l ≡ fresh j.line.halts → jogs ≡ jogs_now j idle → unsettled ≡ unsettled_now j idle
-    → moved ≡ moved_now (accepted_code (kind_told j.line.accepted)) j.line j.moved → jog_moved ≡ moved_now (accepted_jog (kind_told j.line.accepted)) j.line j.jog_moved
-    → IsSoFar (record j { line = l; in_hand = false; moved = moved; jog_moved = jog_moved; jogs = jogs; unsettled = unsettled }) first sent replies records
+    → moved ≡ moved_now j.unanswered (accepted_code (kind_told j.line.accepted)) j.line j.moved → jog_moved ≡ moved_now j.unanswered (accepted_jog (kind_told j.line.accepted)) j.line j.jog_moved
+    → HasJudged (record j { line = l; in_hand = false; moved = moved; jog_moved = jog_moved; jogs = jogs; unsettled = unsettled }) first sent replies records
 closes j idle l moved jog_moved jogs unsettled first sent replies records s done is new jogs_is unsettled_is moved_is jog_is =
     line_closed j l moved jog_moved jogs unsettled first sent replies records s done new moved_is jog_is
     (subst (λ (b : Bool). MayLose (record j { jogs = b; unsettled = unsettled }) s.since [] s.made) (sym jogs_is)

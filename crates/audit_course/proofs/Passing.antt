@@ -29,8 +29,8 @@ use Rattle.audit_course.specs.declared.LastTask.{LastTask}
 use Rattle.audit_course.specs.declared.LastTask.TheVariants.{Nothing, Rest}
 use Rattle.audit_course.specs.declared.Progress.{Progress}
 use Rattle.audit_course.specs.declared.judge.CourseJudge.{CourseJudge}
-use Rattle.audit_course.specs.Progressing.{last_behind, asks_ticks, has_ticks, is_halt, has_halt, Counts, IsQuiet, IsItemOf}
-use Rattle.audit_course.specs.SoFar.{GoesTo, IsSoFar, OfLine, left_to_tell}
+use Rattle.audit_course.specs.Progressing.{last_behind, asks_ticks, has_ticks, is_halt, has_halt, Counts, IsUnseen, IsItemOf}
+use Rattle.audit_course.specs.SoFar.{GoesTo, HasJudged, OfLine, left_to_tell}
 use Rattle.audit_course.proofs.Saying.{last_on, or_on}
 
 -- ---- a task is done
@@ -57,6 +57,7 @@ counted j k p hand t o next left counts moved jog_moved jogged unanswered in_han
   jogged = o.jogged ∙ sym jogged;
   alarmed = o.alarmed ∙ ap (λ (b : Bool). not b && o.limit) (sym unanswered);
   unheld = λ e. o.unheld (sym unanswered ∙ e);
+  unsettles = λ e. o.unsettles (sym unanswered ∙ e);
   none = λ e. o.none (sym in_hand ∙ e);
   are = are;
 } where
@@ -79,12 +80,12 @@ told_on replies now left told = ap (λ (rs : List Reply). replies ++ rs) (append
 
 -- A task is done, which tells something or nothing, and asks for what the part is to have from then on.
 pub task_done : (j : CourseJudge) (t : Task) (w : Interpreting) (l : Progress) (part : Known) (lost : Bool) (first : State) (sent : List Sent) (replies now : List Reply) (records : List Record)
-    (ticks : List Record) (moves : List PlannedMove) (s : IsSoFar j first sent replies records)
+    (ticks : List Record) (moves : List PlannedMove) (s : HasJudged j first sent replies records)
     → IsNextOf t j.work.left → w ≡ record j.work { left = drop 1 j.work.left } → Counts j.line l t
     → left_to_tell j ≡ now ++ cond j.unanswered [] (tells (drop 1 j.work.left))
     → (lost ≡ false → (ticks ≡ ticks_of_all (asks (drop 1 j.work.left))) × (moves ≡ moves_of (asks (drop 1 j.work.left))))
     → IsMade (s.since ++ s.begun) s.made (making part ticks moves)
-    → IsSoFar (record j { work = w; line = l; part = part; lost = lost }) first sent (replies ++ now) records
+    → HasJudged (record j { work = w; line = l; part = part; lost = lost }) first sent (replies ++ now) records
 task_done j t w l part lost first sent replies now records ticks moves s next is counts tell_now asked made = record {
   point = s.point;
   number = s.number ∙ sym (ap (λ (i : Interpreting). i.number) is);
@@ -132,9 +133,9 @@ none_told true rs e = refl
 none_told false rs e = absurd cc
 
 -- a reply is told
-pub reply_told : (j : CourseJudge) (r : Reply) (w : Interpreting) (l : Progress) (first : State) (sent : List Sent) (replies : List Reply) (records : List Record) → IsSoFar j first sent replies records
+pub reply_told : (j : CourseJudge) (r : Reply) (w : Interpreting) (l : Progress) (first : State) (sent : List Sent) (replies : List Reply) (records : List Record) → HasJudged j first sent replies records
     → IsNextOf (tell r) j.work.left → j.unanswered ≡ false → w ≡ record j.work { left = drop 1 j.work.left } → Counts j.line l (tell r)
-    → IsSoFar (record j { work = w; line = l }) first sent (replies ++ r ∷ []) records
+    → HasJudged (record j { work = w; line = l }) first sent (replies ++ r ∷ []) records
 reply_told j r w l first sent replies records s next answered is counts =
     task_done j (tell r) w l j.part j.lost first sent replies (r ∷ []) records s.ticks s.moves s next is counts
     (ap (λ (ts : List Task). cond j.unanswered [] (tells ts)) next ∙ first_told j.unanswered r (tells (drop 1 j.work.left)) answered)
@@ -158,11 +159,11 @@ quiet_ticks t ts e = flat_map-append ticks_of_one (asked_by_task t) (asks ts) �
 quiet_moves : (t : Task) (ts : List Task) → moves_of (asked_by_task t) ≡ [] → moves_of (asks (t ∷ ts)) ≡ moves_of (asks ts)
 quiet_moves t ts e = flat_map-append move_of (asked_by_task t) (asks ts) ∙ ap (λ (ms : List PlannedMove). ms ++ moves_of (asks ts)) e
 
-pub quiet_done : (j : CourseJudge) (t : Task) (w : Interpreting) (l : Progress) (first : State) (sent : List Sent) (replies : List Reply) (records : List Record) → IsSoFar j first sent replies records
-    → IsNextOf t j.work.left → IsQuiet j.unanswered t → w ≡ record j.work { left = drop 1 j.work.left } → Counts j.line l t
-    → IsSoFar (record j { work = w; line = l }) first sent replies records
+pub quiet_done : (j : CourseJudge) (t : Task) (w : Interpreting) (l : Progress) (first : State) (sent : List Sent) (replies : List Reply) (records : List Record) → HasJudged j first sent replies records
+    → IsNextOf t j.work.left → IsUnseen j.unanswered t → w ≡ record j.work { left = drop 1 j.work.left } → Counts j.line l t
+    → HasJudged (record j { work = w; line = l }) first sent replies records
 quiet_done j t w l first sent replies records s next quiet is counts =
-    subst (λ (rs : List Reply). IsSoFar (record j { work = w; line = l }) first sent rs records) (append-nil replies)
+    subst (λ (rs : List Reply). HasJudged (record j { work = w; line = l }) first sent rs records) (append-nil replies)
     (task_done j t w l j.part j.lost first sent replies [] records s.ticks s.moves s next is counts
     (ap (λ (ts : List Task). cond j.unanswered [] (tells ts)) next ∙ quiet_told j.unanswered t (drop 1 j.work.left) quiet.told)
     (λ e.
@@ -175,9 +176,9 @@ quiet_done j t w l first sent replies records s next quiet is counts =
 ask_told : (u : Bool) (t : Task) (ts : List Task) → told_by t ≡ [] → cond u [] (tells (t ∷ ts)) ≡ cond u [] (tells ts)
 ask_told u t ts e = ap (λ (rs : List Reply). cond u [] (rs ++ tells ts)) e
 
-pub item_asked : (j : CourseJudge) (t : Task) (item : Item) (w : Interpreting) (l : Progress) (part : Known) (first : State) (sent : List Sent) (replies : List Reply) (records : List Record) → IsSoFar j first sent replies records
+pub item_asked : (j : CourseJudge) (t : Task) (item : Item) (w : Interpreting) (l : Progress) (part : Known) (first : State) (sent : List Sent) (replies : List Reply) (records : List Record) → HasJudged j first sent replies records
     → IsNextOf t j.work.left → IsItemOf t item → j.lost ≡ false → j.part.next ≡ None → part ≡ record j.part { next = Some item } → w ≡ record j.work { left = drop 1 j.work.left } → Counts j.line l t
-    → IsSoFar (record j { work = w; line = l; part = part }) first sent replies records
+    → HasJudged (record j { work = w; line = l; part = part }) first sent replies records
 item_asked j t item w l part first sent replies records s next of kept none part_is is counts =
     let rest = drop 1 j.work.left in
     let a = s.asked kept in
@@ -188,18 +189,18 @@ item_asked j t item w l part first sent replies records s next of kept none part
     let same : making j.part s.ticks s.moves ≡ making part (ticks_of_all (asks rest)) (moves_of (asks rest)) =
     ap (λ (rs : List Record). making j.part rs s.moves) ticks ∙ ap (λ (ms : List PlannedMove). making j.part (item_ticks item ++ ticks_of_all (asks rest)) ms) moves
     ∙ asked_next j.part item (ticks_of_all (asks rest)) (moves_of (asks rest)) none ∙ ap (λ (k : Known). making k (ticks_of_all (asks rest)) (moves_of (asks rest))) (sym part_is) in
-    subst (λ (rs : List Reply). IsSoFar (record j { work = w; line = l; part = part }) first sent rs records) (append-nil replies)
+    subst (λ (rs : List Reply). HasJudged (record j { work = w; line = l; part = part }) first sent rs records) (append-nil replies)
     (task_done j t w l part j.lost first sent replies [] records (ticks_of_all (asks rest)) (moves_of (asks rest)) s next is counts
     (ap (λ (ts : List Task). cond j.unanswered [] (tells ts)) next ∙ ask_told j.unanswered t rest of.told)
     (λ e. (refl, refl))
     (subst (λ (m : Making). IsMade (s.since ++ s.begun) s.made m) same s.is_made))
 
 -- what a task asks for is not recorded before the part ends
-pub task_lost : (j : CourseJudge) (t : Task) (w : Interpreting) (l : Progress) (first : State) (sent : List Sent) (replies : List Reply) (records : List Record) → IsSoFar j first sent replies records
+pub task_lost : (j : CourseJudge) (t : Task) (w : Interpreting) (l : Progress) (first : State) (sent : List Sent) (replies : List Reply) (records : List Record) → HasJudged j first sent replies records
     → IsNextOf t j.work.left → told_by t ≡ [] → w ≡ record j.work { left = drop 1 j.work.left } → Counts j.line l t
-    → IsSoFar (record j { work = w; line = l; lost = true }) first sent replies records
+    → HasJudged (record j { work = w; line = l; lost = true }) first sent replies records
 task_lost j t w l first sent replies records s next told is counts =
-    subst (λ (rs : List Reply). IsSoFar (record j { work = w; line = l; lost = true }) first sent rs records) (append-nil replies)
+    subst (λ (rs : List Reply). HasJudged (record j { work = w; line = l; lost = true }) first sent rs records) (append-nil replies)
     (task_done j t w l j.part true first sent replies [] records s.ticks s.moves s next is counts
     (ap (λ (ts : List Task). cond j.unanswered [] (tells ts)) next ∙ ask_told j.unanswered t (drop 1 j.work.left) told)
     (λ e. absurd cc)
@@ -210,16 +211,16 @@ task_lost j t w l first sent replies records s next told is counts =
 same_task : (t u : Task) (left : List Task) → IsNextOf t left → IsNextOf u left → t ≡ u
 same_task t u left a b = cc (a, b)
 
-pub quiet_by : (u : Bool) (todo : Todo) (left : List Task) → IsTodo todo left → (todo ≡ todos.Move → ⊥) → ((m : Mark) → todo ≡ todos.Mark m → ⊥) → (todo ≡ todos.Tell → u ≡ true) → (t : Task) → IsNextOf t left → IsQuiet u t
+pub quiet_by : (u : Bool) (todo : Todo) (left : List Task) → IsTodo todo left → (todo ≡ todos.Move → ⊥) → ((m : Mark) → todo ≡ todos.Mark m → ⊥) → (todo ≡ todos.Tell → u ≡ true) → (t : Task) → IsNextOf t left → IsUnseen u t
 quiet_by u todos.Nothing left is move mark tells t next = absurd (cc (is, next))
-quiet_by u todos.Rest left is move mark tells t next = subst (IsQuiet u) (same_task (ask a_rest) t left is next) (record { told = none_cond u; ticks = refl; moves = refl })
+quiet_by u todos.Rest left is move mark tells t next = subst (IsUnseen u) (same_task (ask a_rest) t left is next) (record { told = none_cond u; ticks = refl; moves = refl })
 quiet_by u (todos.Mark m) left is move mark tells t next = absurd (mark m refl)
 quiet_by u todos.Move left is move mark tells t next = absurd (move refl)
-quiet_by u todos.Tell left is move mark tells t next = subst (IsQuiet u) (same_task (tell is.0) t left is.1 next) (record { told = none_told u (is.0 ∷ []) (tells refl); ticks = refl; moves = refl })
-quiet_by u todos.Pause left is move mark tells t next = subst (IsQuiet u) (same_task pause t left is next) (record { told = none_cond u; ticks = refl; moves = refl })
-quiet_by u todos.Normal left is move mark tells t next = subst (IsQuiet u) (same_task normal t left is next) (record { told = none_cond u; ticks = refl; moves = refl })
-quiet_by u todos.Finish left is move mark tells t next = subst (IsQuiet u) (same_task finish t left is next) (record { told = none_cond u; ticks = refl; moves = refl })
-quiet_by u todos.Halt left is move mark tells t next = subst (IsQuiet u) (same_task halt t left is next) (record { told = none_cond u; ticks = refl; moves = refl })
+quiet_by u todos.Tell left is move mark tells t next = subst (IsUnseen u) (same_task (tell is.0) t left is.1 next) (record { told = none_told u (is.0 ∷ []) (tells refl); ticks = refl; moves = refl })
+quiet_by u todos.Pause left is move mark tells t next = subst (IsUnseen u) (same_task pause t left is next) (record { told = none_cond u; ticks = refl; moves = refl })
+quiet_by u todos.Normal left is move mark tells t next = subst (IsUnseen u) (same_task normal t left is next) (record { told = none_cond u; ticks = refl; moves = refl })
+quiet_by u todos.Finish left is move mark tells t next = subst (IsUnseen u) (same_task finish t left is next) (record { told = none_cond u; ticks = refl; moves = refl })
+quiet_by u todos.Halt left is move mark tells t next = subst (IsUnseen u) (same_task halt t left is next) (record { told = none_cond u; ticks = refl; moves = refl })
 
 pub move_item : (m : PlannedMove) (t : Task) (left : List Task) → IsNextOf (ask (a_move m)) left → IsNextOf t left → IsItemOf t (items.Move m)
 move_item m t left is next = subst (λ (x : Task). IsItemOf x (items.Move m)) (same_task (ask (a_move m)) t left is next) (record { ticks = append-nil (item_ticks (items.Move m)); moves = refl; told = refl })

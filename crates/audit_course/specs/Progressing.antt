@@ -58,7 +58,7 @@ pub record IsNew (l : Progress) : Type 0 where
   pub halts : l.halts ≡ false
 
 -- a task that tells nothing, if its line is answered, and asks for no ticks
-pub record IsQuiet (unanswered : Bool) (t : Task) : Type 0 where
+pub record IsUnseen (unanswered : Bool) (t : Task) : Type 0 where
   pub told : cond unanswered [] (told_by t) ≡ []
   pub ticks : ticks_of_all (asked_by_task t) ≡ []
   pub moves : moves_of (asked_by_task t) ≡ []
@@ -79,9 +79,9 @@ not_rest _ = true
 abbrev pub stays_on : Progress → Bool
 stays_on l = not (accepted_code (kind_told l.accepted)) || not_rest l.last
 
--- lines of this kind have moved since the last that settles, up to it
-abbrev pub moved_now : Bool → Progress → Bool → Bool
-moved_now of_kind l before = stays_on l && (of_kind && l.moves || before)
+-- lines of this kind have moved since the last answered line that settles, up to it
+abbrev pub moved_now : Bool → Bool → Progress → Bool → Bool
+moved_now unanswered of_kind l before = (unanswered || stays_on l) && (of_kind && l.moves || before)
 
 -- no line is at hand
 abbrev pub fresh : Bool → Progress

@@ -64,6 +64,7 @@ pub record OfLine (j : CourseJudge) (p : Point) (hand : List Outcome) : Type 0 w
   pub jogged : p.before.jogged ≡ j.jogged
   pub alarmed : p.before.alarmed ≡ (not j.unanswered && limit)
   pub unheld : j.unanswered ≡ true → hand ≡ []
+  pub unsettles : j.unanswered ≡ true → settles ≡ false
   pub none : j.in_hand ≡ false → (hand ≡ []) × (settles ≡ false)
   pub are : AllByRecursion (λ o. (o.work ≡ work) × (o.settles ≡ settles) × (o.kind ≡ kind_told j.line.accepted)) hand
 
@@ -82,7 +83,7 @@ pub record MayLose (j : CourseJudge) (since hand : List Outcome) (made : List Re
 
 -- From the opening on the judge was told of these lines and resets, replies and records. A course leads through them, and
 -- goes on as long as one goes on from here.
-pub record IsSoFar (j : CourseJudge) (first : State) (sent : List Sent) (replies : List Reply) (records : List Record) : Type 0 where
+pub record HasJudged (j : CourseJudge) (first : State) (sent : List Sent) (replies : List Reply) (records : List Record) : Type 0 where
   pub point : Point
   pub number : point.before.number ≡ j.work.number
   pub state : point.before.state ≡ j.state
@@ -119,29 +120,29 @@ pub record IsOver (j : CourseJudge) (first : State) (sent : List Sent) (replies 
 
 -- nothing more was told
 abbrev pub StaysSoFar : CourseJudge → CourseJudge → Type 0
-StaysSoFar j k = (first : State) (sent : List Sent) (replies : List Reply) (records : List Record) → IsSoFar j first sent replies records → IsSoFar k first sent replies records
+StaysSoFar j k = (first : State) (sent : List Sent) (replies : List Reply) (records : List Record) → HasJudged j first sent replies records → HasJudged k first sent replies records
 
 -- these lines and resets more were told
 abbrev pub AddsSent : CourseJudge → CourseJudge → List Sent → Type 0
-AddsSent j k more = (first : State) (sent : List Sent) (replies : List Reply) (records : List Record) → IsSoFar j first sent replies records → IsSoFar k first (sent ++ more) replies records
+AddsSent j k more = (first : State) (sent : List Sent) (replies : List Reply) (records : List Record) → HasJudged j first sent replies records → HasJudged k first (sent ++ more) replies records
 
 -- a reply more was told
 abbrev pub AddsReply : CourseJudge → CourseJudge → Reply → Type 0
-AddsReply j k r = (first : State) (sent : List Sent) (replies : List Reply) (records : List Record) → IsSoFar j first sent replies records → IsSoFar k first sent (replies ++ r ∷ []) records
+AddsReply j k r = (first : State) (sent : List Sent) (replies : List Reply) (records : List Record) → HasJudged j first sent replies records → HasJudged k first sent (replies ++ r ∷ []) records
 
 -- a record more was told
 abbrev pub AddsRecord : CourseJudge → CourseJudge → Record → Type 0
-AddsRecord j k r = (first : State) (sent : List Sent) (replies : List Reply) (records : List Record) → IsSoFar j first sent replies records → IsSoFar k first sent replies (records ++ r ∷ [])
+AddsRecord j k r = (first : State) (sent : List Sent) (replies : List Reply) (records : List Record) → HasJudged j first sent replies records → HasJudged k first sent replies (records ++ r ∷ [])
 
 -- a reset of the job was told, behind some lines that it dropped, and its record
 abbrev pub AddsReset : CourseJudge → CourseJudge → ℕ → ℕ → Type 0
 AddsReset j k number dropped =
-    (lines : List (List ℕ)) → dropped ≡ length lines → (first : State) (sent : List Sent) (replies : List Reply) (records : List Record) → IsSoFar j first sent replies records
-    → IsSoFar k first (sent ++ (map a_text lines ++ a_stop ∷ [])) replies (records ++ kinds.Mark (ResetMark number) ∷ [])
+    (lines : List (List ℕ)) → dropped ≡ length lines → (first : State) (sent : List Sent) (replies : List Reply) (records : List Record) → HasJudged j first sent replies records
+    → HasJudged k first (sent ++ (map a_text lines ++ a_stop ∷ [])) replies (records ++ kinds.Mark (ResetMark number) ∷ [])
 
 -- the course has come to its end
 abbrev pub EndsSoFar : CourseJudge → CourseJudge → Type 0
-EndsSoFar j k = (first : State) (sent : List Sent) (replies : List Reply) (records : List Record) → IsSoFar j first sent replies records → IsOver k first sent replies records
+EndsSoFar j k = (first : State) (sent : List Sent) (replies : List Reply) (records : List Record) → HasJudged j first sent replies records → IsOver k first sent replies records
 
 -- a point of which a judge knows this
 pub record Knows (j : CourseJudge) (p : Point) : Type 0 where

@@ -13,7 +13,7 @@ ghost use Rattle.run_rules.specs.Work.{Task};
 ghost use Rattle.run_rules.specs.Work.Task.{ask, tell, pause, normal, finish, halt};
 ghost use Rattle.line_interpreter.specs.Lefts.{IsNextOf, IsTodo};
 ghost use Rattle.audit_course.specs.Progressing.{Counts, IsNew};
-ghost use Rattle.audit_course.specs.SoFar.{IsSoFar, AddsReply};
+ghost use Rattle.audit_course.specs.SoFar.{HasJudged, AddsReply};
 
 use crate::valid::ValidState;
 use crate::{LastTask, Progress};
@@ -145,7 +145,7 @@ pub(crate) fn counted(line: Progress, todo: Todo) -> Progress
 impl CourseJudge {
     /// The banner was told, and nothing else.
     pub fn new() -> CourseJudge
-        ensures { (first : AnyState) × IsOpening first × IsSoFar result first [] [] [] }
+        ensures { (first : AnyState) × IsOpening first × HasJudged result first [] [] [] }
     {
         let mut work = Interpreter::new();
         work.done();

@@ -76,11 +76,11 @@ impl Progress {
         !self.is_code() || self.last != LastTask::Rest
     }
 
-    /// Whether lines of G-code have moved, or jogs have, up to it.
-    fn moved_now(&self, of_kind: bool, before: bool) -> bool
-        ensures { result ≡ moved_now of_kind self.now before }
+    /// Whether lines of G-code have moved, or jogs have, up to it, since an answered line settled.
+    fn moved_now(&self, unanswered: bool, of_kind: bool, before: bool) -> bool
+        ensures { result ≡ moved_now unanswered of_kind self.now before }
     {
-        self.stays_on() && (of_kind && self.moves || before)
+        leaves_none(unanswered, self.stays_on()) && (of_kind && self.moves || before)
     }
 
     /// No line is at hand, whether or not the machine was halted.
@@ -123,8 +123,8 @@ impl CourseJudge {
             self.unsettled,
             leaves_none(self.unanswered, line.stays_on()),
         );
-        self.moved = line.moved_now(line.is_code(), self.moved);
-        self.jog_moved = line.moved_now(line.is_jog(), self.jog_moved);
+        self.moved = line.moved_now(self.unanswered, line.is_code(), self.moved);
+        self.jog_moved = line.moved_now(self.unanswered, line.is_jog(), self.jog_moved);
         self.in_hand = false;
         self.line = Progress::fresh(line.halts);
     }

@@ -11,7 +11,7 @@ ghost use Rattle.part_making.specs.Judging.{IsItem};
 ghost use Rattle.step_line.specs.declared.Record.TheVariants as kinds;
 ghost use Rattle.step_line.specs.Places.{stepped};
 ghost use Rattle.run_texts.specs.Parts.{is_ending};
-ghost use Rattle.audit_course.specs.Progressing.{IsQuiet, IsItemOf};
+ghost use Rattle.audit_course.specs.Progressing.{IsUnseen, IsItemOf};
 ghost use Rattle.audit_course.specs.SoFar.{StaysSoFar, AddsRecord};
 
 use crate::CourseJudge;
@@ -63,7 +63,7 @@ impl CourseJudge {
     fn pass(&mut self, todo: Todo)
         requires todo { IsTodo todo self.old.work.left }
         requires some { self.old.work.left ≢ [] }
-        requires quiet { (t : Task) → IsNextOf t self.old.work.left → IsQuiet self.old.unanswered t }
+        requires quiet { (t : Task) → IsNextOf t self.old.work.left → IsUnseen self.old.unanswered t }
         ensures { StaysSoFar self.old self.new }
     {
         self.line = counted(self.line, todo);

@@ -1,1 +1,4 @@
 pub mod Answered
+pub mod Known
+pub mod JobRead
+pub mod Printed

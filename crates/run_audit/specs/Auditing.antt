@@ -1,9 +1,10 @@
 -- What an audit of three texts answers and prints.
-use Rattle.std.specs.Prelude.{◌≡◌, ◌≢◌, ◌↔◌, ℕ, Bool, true, false, List, ◌++◌, Some, None}
+use Rattle.std.specs.Prelude.{◌≡◌, ◌≢◌, ◌↔◌, ℕ, ◌+◌, Bool, true, false, List, ◌∷◌, ◌++◌, length, Some, None}
 use Rattle.std.specs.declared.option.Option.{Option}
 use Rattle.std.specs.Io.KnownBytes.{Appends}
 use Rattle.outside.specs.Causes.{Rose, SourceState, SinkState}
-use Rattle.audit_rules.specs.Findings.{Finds, audit_text}
+use Rattle.run_texts.specs.Sent.{kept_of}
+use Rattle.audit_rules.specs.Findings.{Finds, is_foreign, foreign_in, audit_text}
 use Rattle.audit_rules.specs.declared.Audit.{Audit}
 use Rattle.audit_rules.specs.declared.Audit.TheVariants.{Fits, Misfit, Usage, JobFault, ConsoleFault, StepsFault, OutFault, BadReplies, Foreign, TooLong}
 
@@ -35,6 +36,34 @@ pub record PrintsFront (before now : SinkState) : Type 0 where
   pub whole : audit_text of ≡ front ++ back
   pub held : Appends before.held now.held front
 
+-- Among these lines the first that is not audited has this number.
+pub record IsFirstForeign (lines : List (List ℕ)) (line : ℕ) : Type 0 where
+  pub before : List (List ℕ)
+  pub here : List ℕ
+  pub behind : List (List ℕ)
+  pub split : lines ≡ before ++ here ∷ behind
+  pub number : line ≡ length before + 1
+  pub first : foreign_in before ≡ false
+  pub is : is_foreign (kept_of here) ≡ true
+
+-- An answer to three texts: what was found of them, or the fault of one of which the count of faults rose.
+pub record IsOfTexts (job job_behind console console_behind steps steps_behind : SourceState) (a : Audit) : Type 0 where
+  pub usage : a ≡ Usage → ⊥
+  pub out_fault : a ≡ OutFault → ⊥
+  pub job_fault : a ≡ JobFault → Rose job.faults job_behind.faults
+  pub console_fault : a ≡ ConsoleFault → Rose console.faults console_behind.faults
+  pub steps_fault : a ≡ StepsFault → Rose steps.faults steps_behind.faults
+
+-- The answer to so many words, whatever is found: `IsAudited` but for what is found.
+pub record IsAnswered (words : ℕ) (job job_behind console console_behind steps steps_behind : SourceState) (out out_behind : SinkState) (a : Audit) : Type 0 where
+  pub usage : (a ≡ Usage) ↔ (words ≢ 3)
+  pub job_fault : a ≡ JobFault → Rose job.faults job_behind.faults
+  pub console_fault : a ≡ ConsoleFault → Rose console.faults console_behind.faults
+  pub steps_fault : a ≡ StepsFault → Rose steps.faults steps_behind.faults
+  pub out_fault : a ≡ OutFault → Rose out.faults out_behind.faults
+  pub printed : (Rose out.faults out_behind.faults → ⊥) → Appends out.held out_behind.held (audit_text a)
+  pub front : PrintsFront out out_behind
+
 -- The answer to so many words, by what the three sources and the output were before and are after it. Not three words are
 -- wrong usage; a fault is answered only if the count of its object rose; and what is found is found of the texts. The
 -- line of the answer is printed, or a front of a line if the output failed.
@@ -45,5 +74,5 @@ pub record IsAudited (words : ℕ) (job job_behind console console_behind steps 
   pub steps_fault : a ≡ StepsFault → Rose steps.faults steps_behind.faults
   pub out_fault : a ≡ OutFault → Rose out.faults out_behind.faults
   pub found : FoundOf job.left console.left steps.left a
-  pub printed : out_behind.faults ≡ out.faults → Appends out.held out_behind.held (audit_text a)
+  pub printed : (Rose out.faults out_behind.faults → ⊥) → Appends out.held out_behind.held (audit_text a)
   pub front : PrintsFront out out_behind

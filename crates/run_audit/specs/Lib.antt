@@ -1,1 +1,4 @@
 pub mod Auditing
+pub mod Reading
+pub mod Going
+pub mod SoFar

@@ -1,7 +1,15 @@
 //! The audit of a job, a console and steps.
 #![tactic(auto)]
 
+mod auditor;
 mod laws;
+mod listening;
+mod recorded;
+mod sending;
+#[cfg(test)]
+mod tests;
+mod writing;
 
 pub use audit_rules::Audit;
 pub use laws::audits_tell_what_fits;
+pub use writing::run_audit;

@@ -1,12 +1,14 @@
-//! What the program takes from the system: its words, the files that it writes, and the clock by which it rests.
+//! What the programs take from the system: their words, the files that they read and write, and the clock by which one rests.
 #![tactic(auto)]
 
 mod limited;
+mod named_file;
 mod rests;
 mod steps_file;
 mod words;
 
 pub use limited::Limited;
+pub use named_file::NamedFile;
 pub use rests::{RestingGate, rests_grow};
 pub use steps_file::StepsFile;
 pub use words::{as_strs, read_words};

@@ -1,6 +1,10 @@
 //! The process's limit on the size of files. A write that begins there would end the program by a signal, SIGXFSZ, which
 //! nothing in the toolchain ignores or holds back; so such a write fails here, and is not made.
 
+ghost use Rattle.std.specs.Prelude.{◌≡◌, ◌-◌, IfOk, OnOk, OnErr};
+ghost use Rattle.std.specs.Io.{WritesAtMost};
+ghost use Rattle.std.specs.Io.KnownBytes.{WriteAppends};
+
 use std::fs::{self, File, Metadata};
 use std::io::{self, ErrorKind, Read, Stderr, Stdout, Write};
 use std::str;
@@ -46,7 +50,13 @@ impl Limited<Stderr> {
 impl<W: Write> Write for Limited<W> {
     ghost contents = { λ s. W.contents s.inner };
 
-    fn write(&mut self, piece: &[u8]) -> io::Result<usize> {
+    fn write(&mut self, piece: &[u8]) -> io::Result<usize>
+        ensures bound { WritesAtMost result piece.now }
+        ensures bytes { WriteAppends (W.contents self.old.inner) (W.contents self.new.inner) result piece.now }
+        ensures full { self.old.room ≡ 0 → OnOk result ⊥ × (self.new ≡ self.old) }
+        ensures fewer { IfOk result (λ count. self.new.room ≡ self.old.room - count) }
+        ensures as_much { OnErr result (self.new.room ≡ self.old.room) }
+    {
         if self.room == 0 {
             return Err(io::Error::from(ErrorKind::FileTooLarge));
         }
@@ -87,4 +97,46 @@ fn limit_told(text: &str) -> Option<u64> {
         .lines()
         .find_map(|line| line.strip_prefix("Max file size"))?;
     limits.split_whitespace().next()?.parse().ok()
+}
+
+#[cfg(test)]
+mod tests {
+    use super::*;
+
+    // What Linux tells of a process, in part.
+    const UNLIMITED: &str =
+        "Limit                     Soft Limit           Hard Limit           Units     \nMax cpu time              unlimited            unlimited            seconds   \nMax file size             unlimited            unlimited            bytes     \n";
+
+    const LIMITED: &str =
+        "Max cpu time              7                    9                    seconds   \nMax file size             8192                 unlimited            bytes     \nMax data size             11                   13                   bytes     \n";
+
+    const ROWS: &[(&str, Option<u64>)] = &[
+        ("", None),
+        (UNLIMITED, None),
+        (LIMITED, Some(8192)),
+        ("Max file size 0 4096 bytes", Some(0)),
+        ("Max file size\n4096", None),
+        ("Max file sizes", None),
+    ];
+
+    #[test]
+    fn limit_of_a_file_is_the_first_number_of_its_line(rt: HostRuntime) {
+        for &(text, want) in ROWS {
+            assert_eq!(rt; limit_told(text), want, "{text}");
+        }
+    }
+
+    #[test]
+    fn writer_takes_no_more_than_its_limit(rt: HostRuntime) {
+        let mut room = *b"----------";
+        let mut file = Limited {
+            inner: room.as_mut_slice(),
+            room: 5,
+        };
+        assert_eq!(rt; file.write(b"abc").ok(), Some(3));
+        assert_eq!(rt; file.write(b"de").ok(), Some(2));
+        assert_eq!(rt; file.write(b"f").ok(), None);
+        assert_eq!(rt; file.write(b"").ok(), None);
+        assert_eq!(rt; room, *b"abcde-----");
+    }
 }

@@ -1,18 +1,27 @@
 //! The words that the program was called with.
 
-ghost use Rattle.std.specs.Prelude.{◌≡◌, IfOk, map};
+ghost use Rattle.std.specs.Prelude.{◌≡◌, IfOk, drop, map};
 ghost use Rattle.std.specs.String.{string_bytes};
+ghost use Rattle.std.specs.Vec.Iter.{into_iter_items};
 
 use std::alloc::{AllocError, Global};
 use std::{env, io};
 
-/// The words that the program was called with, without its own name.
-pub fn read_words(rt: &HostRuntime) -> io::Result<Vec<String>> {
-    let mut words = Vec::new(rt.alloc());
-    for word in env::args(rt)?.skip(1) {
+/// The words behind the first, which is the program's name.
+fn behind_name(alloc: Global, mut all: env::Args) -> Result<Vec<String>, AllocError>
+    ensures rest { IfOk result (λ words. words.items ≡ drop 1 (into_iter_items all)) }
+{
+    let mut words = Vec::new(alloc);
+    let _name = all.next();
+    for word in all {
         words.push(word)?;
     }
     Ok(words)
+}
+
+/// The words that the program was called with, without its own name.
+pub fn read_words(rt: &HostRuntime) -> io::Result<Vec<String>> {
+    Ok(behind_name(rt.alloc(), env::args(rt)?)?)
 }
 
 /// The same words, borrowed.

@@ -1,0 +1,520 @@
+//! The audit of three texts, in step.
+
+ghost use Rattle.std.specs.Prelude.{◌≡◌, MatchResult, false};
+ghost use Rattle.outside.specs.Causes.{Rose, SourceState};
+ghost use Rattle.status_report.specs.declared.Reply.{Reply as AnyReply};
+ghost use Rattle.run_rules.specs.Work.Task.{tell};
+ghost use Rattle.line_interpreter.specs.Lefts.{IsNextOf};
+ghost use Rattle.run_audit.specs.Reading.{KnowsJob, KnowsConsole, KnowsSteps, IsSame};
+ghost use Rattle.run_audit.specs.Going.{AllKnown, AllSame, IsCaused, EndFails};
+
+use crate::listening::Listening;
+use crate::recorded::Recorded;
+use crate::sending::{Item, Sending};
+use audit_course::{CourseJudge, MotionError, Next};
+use outside::Source;
+use status_report::{Message, Reply};
+use step_line::{Mark, Record};
+
+/// A text that could not be read.
+#[derive(Clone, Copy, Debug, PartialEq, Eq)]
+pub(crate) enum Unread {
+    Job,
+    Console,
+    Steps,
+}
+
+/// What is found of three texts.
+#[derive(Clone, Copy)]
+pub(crate) enum Finding {
+    /// They fit, with so many events.
+    Fits(u64),
+    /// At this byte of the steps stands the first record that breaks a rule.
+    Misfit(u64),
+    /// The reply to this line is bad, or missing.
+    BadReplies(u32),
+    /// This line is not audited.
+    Foreign(u32),
+    /// The console or the steps are too long.
+    TooLong,
+}
+
+/// Goes through three texts.
+#[derive(Drop)]
+pub(crate) struct Auditor {
+    course: CourseJudge,
+    sending: Sending,
+    listening: Listening,
+    recorded: Recorded,
+    /// Where the first record stands that breaks a rule. No record counts behind it.
+    broken: Option<u64>,
+    /// The last line that was answered.
+    answered: u32,
+}
+
+/// Whether a record ends a part.
+fn is_ending(record: &Record) -> bool {
+    matches!(
+        record,
+        Record::End | Record::Mark(Mark::Cut(_)) | Record::Mark(Mark::Reset(_))
+    )
+}
+
+/// Whether a reply is told at a reset, and belongs to no line.
+fn is_greeting(reply: &Reply) -> bool {
+    matches!(
+        reply,
+        Reply::Banner | Reply::Alarm(3) | Reply::Message(Message::Locked)
+    )
+}
+
+impl Auditor {
+    pub(crate) fn new(recorded: Recorded) -> Auditor
+        ensures job { (s : SourceState) → KnowsJob result.sending.reader s }
+        ensures console { (s : SourceState) → KnowsConsole result.listening.reader s }
+        ensures steps { result.recorded ≡ recorded }
+    {
+        Auditor {
+            course: CourseJudge::new(),
+            sending: Sending::new(),
+            listening: Listening::new(),
+            recorded,
+            broken: None,
+            answered: 0,
+        }
+    }
+
+    /// The record that comes next breaks a rule.
+    fn break_off(&mut self)
+        ensures sending { self.new.sending.reader ≡ self.old.sending.reader }
+        ensures listening { self.new.listening.reader ≡ self.old.listening.reader }
+        ensures recorded { self.new.recorded.reader ≡ self.old.recorded.reader }
+    {
+        if self.broken.is_none() {
+            self.broken = Some(self.recorded.at());
+        }
+    }
+
+    /// What belongs to no line is bad behind the last line that was answered.
+    fn bad_behind(&self) -> Finding {
+        Finding::BadReplies(self.answered.saturating_add(1))
+    }
+
+    /// The record that comes next, if records count.
+    #[tactic(auto, using(crate::proofs::Known::rose_on, crate::proofs::Known::all_same_on, crate::proofs::Known::caused_on))]
+    fn look<S: Source>(&mut self, steps: &mut S) -> Result<Option<Record>, Unread>
+        requires known { KnowsSteps self.old.recorded.reader (S.state steps.old) }
+        ensures read { MatchResult result (λ found. KnowsSteps self.new.recorded.reader (S.state steps.new) × IsSame (S.state steps.old) (S.state steps.new)) (λ e. (e ≡ Unread.Steps) × Rose (S.state steps.old).faults (S.state steps.new).faults) }
+        ensures listening { self.new.listening.reader ≡ self.old.listening.reader }
+        ensures sending { self.new.sending.reader ≡ self.old.sending.reader }
+    {
+        if self.broken.is_some() {
+            return Ok(None);
+        }
+        match self.recorded.look(steps) {
+            Err(_) => Err(Unread::Steps),
+            Ok(Some(record)) => Ok(Some(record)),
+            Ok(None) => {
+                self.break_off();
+                Ok(None)
+            }
+        }
+    }
+
+    /// Takes the record that comes next, if it is one of those that are owed.
+    fn takes(&mut self, record: &Record) -> bool
+        ensures sending { self.new.sending.reader ≡ self.old.sending.reader }
+        ensures listening { self.new.listening.reader ≡ self.old.listening.reader }
+        ensures recorded { self.new.recorded.reader ≡ self.old.recorded.reader }
+    {
+        if !self.course.owes() || is_ending(record) {
+            return false;
+        }
+        if self.course.take(record) {
+            self.recorded.take();
+        } else {
+            self.break_off();
+        }
+        true
+    }
+
+    /// The reply of the line at hand that comes next.
+    #[tactic(auto, using(crate::proofs::Known::rose_on, crate::proofs::Known::all_same_on, crate::proofs::Known::caused_on))]
+    fn hear<C: Source>(&mut self, console: &mut C) -> Result<Option<Finding>, Unread>
+        requires some { (r : AnyReply) × IsNextOf (tell r) self.old.course.work.left }
+        requires answered { self.old.course.unanswered ≡ false }
+        requires known { KnowsConsole self.old.listening.reader (C.state console.old) }
+        ensures read { MatchResult result (λ found. KnowsConsole self.new.listening.reader (C.state console.new) × IsSame (C.state console.old) (C.state console.new)) (λ e. (e ≡ Unread.Console) × Rose (C.state console.old).faults (C.state console.new).faults) }
+        ensures recorded { self.new.recorded.reader ≡ self.old.recorded.reader }
+        ensures sending { self.new.sending.reader ≡ self.old.sending.reader }
+    {
+        let reply = self.course.reply();
+        let line = self.course.number().saturating_sub(1);
+        match self.listening.hears(&reply, console) {
+            Err(_) => Err(Unread::Console),
+            Ok(true) => {
+                self.course.told();
+                if matches!(reply, Reply::Ok | Reply::Error(_)) {
+                    self.answered = line;
+                }
+                Ok(None)
+            }
+            Ok(false) if is_greeting(&reply) => Ok(Some(self.bad_behind())),
+            Ok(false) => Ok(Some(Finding::BadReplies(line))),
+        }
+    }
+
+    /// One step. It answers what was found, once something is.
+    #[tactic(auto, using(crate::proofs::Known::rose_on, crate::proofs::Known::all_same_on, crate::proofs::Known::caused_on))]
+    fn step<J: Source, C: Source, S: Source>(
+        &mut self,
+        job: &mut J,
+        console: &mut C,
+        steps: &mut S,
+    ) -> Result<Option<Finding>, Unread>
+        requires known { AllKnown self.old (J.state job.old) (C.state console.old) (S.state steps.old) }
+        ensures { MatchResult result (λ found. AllKnown self.new (J.state job.new) (C.state console.new) (S.state steps.new) × AllSame (J.state job.old) (C.state console.old) (S.state steps.old) (J.state job.new) (C.state console.new) (S.state steps.new))
+            (λ e. IsCaused e (J.state job.old) (C.state console.old) (S.state steps.old) (J.state job.new) (C.state console.new) (S.state steps.new)) }
+    {
+        let record = self.look(steps)?;
+        if let Some(record) = record {
+            if self.takes(&record) {
+                return Ok(None);
+            }
+        }
+        match self.course.next() {
+            Next::Tell => self.hear(console),
+            Next::Work => {
+                self.course.work_on();
+                Ok(None)
+            }
+            Next::Nothing => self.go_on(record, job, console, steps),
+        }
+    }
+
+    /// The line at hand is done.
+    #[tactic(auto, using(crate::proofs::Known::rose_on, crate::proofs::Known::all_same_on, crate::proofs::Known::caused_on))]
+    fn go_on<J: Source, C: Source, S: Source>(
+        &mut self,
+        record: Option<Record>,
+        job: &mut J,
+        console: &mut C,
+        steps: &mut S,
+    ) -> Result<Option<Finding>, Unread>
+        requires known { AllKnown self.old (J.state job.old) (C.state console.old) (S.state steps.old) }
+        ensures { MatchResult result (λ found. AllKnown self.new (J.state job.new) (C.state console.new) (S.state steps.new) × AllSame (J.state job.old) (C.state console.old) (S.state steps.old) (J.state job.new) (C.state console.new) (S.state steps.new))
+            (λ e. IsCaused e (J.state job.old) (C.state console.old) (S.state steps.old) (J.state job.new) (C.state console.new) (S.state steps.new)) }
+    {
+        let number = self.course.number();
+        match record {
+            Some(Record::Mark(Mark::Cut(k))) if k < number => {
+                if self.course.cut(k) {
+                    self.recorded.take();
+                } else {
+                    self.break_off();
+                }
+                Ok(None)
+            }
+            Some(Record::Mark(Mark::Reset(k))) if k.saturating_add(1) < number => {
+                self.break_off();
+                Ok(None)
+            }
+            _ => self.enter(record, job, console, steps),
+        }
+    }
+
+    /// The next line is begun, a reset comes, or nothing is left of the job.
+    #[tactic(auto, using(crate::proofs::Known::rose_on, crate::proofs::Known::all_same_on, crate::proofs::Known::caused_on))]
+    fn enter<J: Source, C: Source, S: Source>(
+        &mut self,
+        record: Option<Record>,
+        job: &mut J,
+        console: &mut C,
+        steps: &mut S,
+    ) -> Result<Option<Finding>, Unread>
+        requires known { AllKnown self.old (J.state job.old) (C.state console.old) (S.state steps.old) }
+        ensures { MatchResult result (λ found. AllKnown self.new (J.state job.new) (C.state console.new) (S.state steps.new) × AllSame (J.state job.old) (C.state console.old) (S.state steps.old) (J.state job.new) (C.state console.new) (S.state steps.new))
+            (λ e. IsCaused e (J.state job.old) (C.state console.old) (S.state steps.old) (J.state job.new) (C.state console.new) (S.state steps.new)) }
+    {
+        if self.course.is_halted() {
+            return self.end_by_alarm(record, job, console, steps);
+        }
+        let known = match self.listening.look(console) {
+            Err(_) => return Err(Unread::Console),
+            Ok(known) => known,
+        };
+        if let Some(Reply::Alarm(_)) | Some(Reply::Banner) = known {
+            return self.reset(record, job);
+        }
+        match self.sending.look(job) {
+            Err(_) => Err(Unread::Job),
+            Ok(Item::Stop) => Ok(Some(self.bad_behind())),
+            Ok(Item::Nothing) => self.finish(record, console, steps),
+            Ok(Item::Line) => {
+                let error = match known {
+                    Some(Reply::Error(8)) => MotionError::Busy,
+                    Some(Reply::Error(9)) => MotionError::Locked,
+                    _ => MotionError::None,
+                };
+                Ok(self.begin(error))
+            }
+        }
+    }
+
+    /// The last line has raised an alarm. Of the job behind it holds alone count.
+    #[tactic(auto, using(crate::proofs::Known::rose_on, crate::proofs::Known::all_same_on, crate::proofs::Known::caused_on))]
+    fn end_by_alarm<J: Source, C: Source, S: Source>(
+        &mut self,
+        record: Option<Record>,
+        job: &mut J,
+        console: &mut C,
+        steps: &mut S,
+    ) -> Result<Option<Finding>, Unread>
+        requires known { AllKnown self.old (J.state job.old) (C.state console.old) (S.state steps.old) }
+        ensures { MatchResult result (λ found. AllKnown self.new (J.state job.new) (C.state console.new) (S.state steps.new) × AllSame (J.state job.old) (C.state console.old) (S.state steps.old) (J.state job.new) (C.state console.new) (S.state steps.new))
+            (λ e. IsCaused e (J.state job.old) (C.state console.old) (S.state steps.old) (J.state job.new) (C.state console.new) (S.state steps.new)) }
+    {
+        if self.sending.halt() {
+            self.read_on(job)?;
+        }
+        self.finish(record, console, steps)
+    }
+
+    /// The line that waits is begun.
+    fn begin(&mut self, error: MotionError) -> Option<Finding>
+        ensures sending { self.new.sending.reader ≡ self.old.sending.reader }
+        ensures listening { self.new.listening.reader ≡ self.old.listening.reader }
+        ensures recorded { self.new.recorded.reader ≡ self.old.recorded.reader }
+    {
+        let line = self.sending.kept();
+        self.sending.take_line();
+        if self.course.begin(&line, error) {
+            return None;
+        }
+        Some(self.bad_behind())
+    }
+
+    /// What a reset tells comes next on the console.
+    #[tactic(auto, using(crate::proofs::Known::rose_on, crate::proofs::Known::all_same_on, crate::proofs::Known::caused_on))]
+    fn reset<J: Source>(
+        &mut self,
+        record: Option<Record>,
+        job: &mut J,
+    ) -> Result<Option<Finding>, Unread>
+        requires known { KnowsJob self.old.sending.reader (J.state job.old) }
+        ensures read { MatchResult result (λ found. KnowsJob self.new.sending.reader (J.state job.new) × IsSame (J.state job.old) (J.state job.new)) (λ e. (e ≡ Unread.Job) × Rose (J.state job.old).faults (J.state job.new).faults) }
+        ensures listening { self.new.listening.reader ≡ self.old.listening.reader }
+        ensures recorded { self.new.recorded.reader ≡ self.old.recorded.reader }
+    {
+        let number = self.course.number();
+        match record {
+            Some(Record::Mark(Mark::Reset(k))) if k.saturating_add(1) == number => {
+                self.drop_lines(Some(k), job)
+            }
+            Some(record) if self.may_be_begun(&record) => match self.sending.look(job) {
+                Err(_) => Err(Unread::Job),
+                Ok(Item::Line) => {
+                    let line = self.sending.kept();
+                    if self.course.begin_unanswered(&line) {
+                        self.sending.take_line();
+                    } else {
+                        self.break_off();
+                    }
+                    Ok(None)
+                }
+                Ok(_) => {
+                    self.break_off();
+                    Ok(None)
+                }
+            },
+            Some(_) => {
+                self.break_off();
+                Ok(None)
+            }
+            None => self.drop_lines(None, job),
+        }
+    }
+
+    /// Whether this record asks for a line that is begun and not answered.
+    fn may_be_begun(&self, record: &Record) -> bool {
+        match record {
+            Record::Mark(Mark::Reset(k)) => *k == self.course.number(),
+            record => !is_ending(record),
+        }
+    }
+
+    /// Lines are dropped up to the next reset, whose mark is behind this line if records count.
+    #[tactic(auto, using(crate::proofs::Known::rose_on, crate::proofs::Known::all_same_on, crate::proofs::Known::caused_on))]
+    fn drop_lines<J: Source>(
+        &mut self,
+        mark: Option<u32>,
+        job: &mut J,
+    ) -> Result<Option<Finding>, Unread>
+        requires known { KnowsJob self.old.sending.reader (J.state job.old) }
+        ensures read { MatchResult result (λ found. KnowsJob self.new.sending.reader (J.state job.new) × IsSame (J.state job.old) (J.state job.new)) (λ e. (e ≡ Unread.Job) × Rose (J.state job.old).faults (J.state job.new).faults) }
+        ensures listening { self.new.listening.reader ≡ self.old.listening.reader }
+        ensures recorded { self.new.recorded.reader ≡ self.old.recorded.reader }
+    {
+        let alarm = matches!(self.listening.known(), Some(Reply::Alarm(_)));
+        let mut dropped: u32 = 0;
+        'lines: for _ in 0..16_777_217 {
+            match self.sending.look(job) {
+                Err(_) => return Err(Unread::Job),
+                Ok(Item::Line) => {
+                    self.sending.take_line();
+                    dropped = dropped.saturating_add(1);
+                }
+                Ok(Item::Stop) => {
+                    self.sending.take_stop();
+                    self.make_reset(mark, dropped, alarm);
+                    return Ok(None);
+                }
+                Ok(Item::Nothing) => {
+                    return Ok(Some(self.none_comes(dropped)));
+                }
+            }
+        }
+        Ok(Some(self.bad_behind()))
+    }
+
+    /// No reset comes of the job: the line that waits has none of the replies that it may have.
+    fn none_comes(&self, waiting: u32) -> Finding {
+        if waiting == 0 {
+            return self.bad_behind();
+        }
+        Finding::BadReplies(self.course.number())
+    }
+
+    /// A reset comes, with its mark if records count.
+    fn make_reset(&mut self, mark: Option<u32>, dropped: u32, alarm: bool)
+        ensures sending { self.new.sending.reader ≡ self.old.sending.reader }
+        ensures listening { self.new.listening.reader ≡ self.old.listening.reader }
+        ensures recorded { self.new.recorded.reader ≡ self.old.recorded.reader }
+    {
+        if let Some(k) = mark {
+            if self.course.reset(k, dropped, alarm) {
+                self.recorded.take();
+                return;
+            }
+            self.break_off();
+        }
+        let _ = self.course.reset_unrecorded(dropped, alarm);
+    }
+
+    /// Nothing is left of the job, or a line has raised an alarm.
+    #[tactic(auto, using(crate::proofs::Known::rose_on, crate::proofs::Known::all_same_on, crate::proofs::Known::caused_on))]
+    fn finish<C: Source, S: Source>(
+        &mut self,
+        record: Option<Record>,
+        console: &mut C,
+        steps: &mut S,
+    ) -> Result<Option<Finding>, Unread>
+        requires console { KnowsConsole self.old.listening.reader (C.state console.old) }
+        requires steps { KnowsSteps self.old.recorded.reader (S.state steps.old) }
+        ensures read { MatchResult result (λ found. KnowsConsole self.new.listening.reader (C.state console.new) × KnowsSteps self.new.recorded.reader (S.state steps.new) × IsSame (C.state console.old) (C.state console.new) × IsSame (S.state steps.old) (S.state steps.new))
+            (λ e. EndFails e (C.state console.old) (S.state steps.old) (C.state console.new) (S.state steps.new)) }
+        ensures sending { self.new.sending.reader ≡ self.old.sending.reader }
+    {
+        match self.listening.ends(console) {
+            Err(_) => return Err(Unread::Console),
+            Ok(false) => return Ok(Some(self.bad_behind())),
+            Ok(true) => {}
+        }
+        if let Some(at) = self.broken {
+            return Ok(Some(Finding::Misfit(at)));
+        }
+        let events = self.course.events();
+        if record != Some(Record::End) || !self.course.end() || !self.may_fit() {
+            return Ok(Some(Finding::Misfit(self.recorded.at())));
+        }
+        self.recorded.take();
+        match self.recorded.ends(steps) {
+            Err(_) => Err(Unread::Steps),
+            Ok(true) => Ok(Some(Finding::Fits(events))),
+            Ok(false) => Ok(Some(Finding::Misfit(self.recorded.at()))),
+        }
+    }
+
+    /// Whether all is told that is sent of the job, up to an alarm, and there are no more cuts than bytes that may cut.
+    fn may_fit(&self) -> bool {
+        self.sending
+            .is_all_told(self.course.is_halted(), self.course.number())
+            && u64::from(self.course.cuts()) <= self.sending.cuts()
+    }
+
+    /// Reads the job on to its end, for a line that is not audited.
+    #[tactic(auto, using(crate::proofs::Known::rose_on, crate::proofs::Known::all_same_on, crate::proofs::Known::caused_on))]
+    fn read_on<J: Source>(&mut self, job: &mut J) -> Result<(), Unread>
+        requires known { KnowsJob self.old.sending.reader (J.state job.old) }
+        ensures read { MatchResult result (λ found. KnowsJob self.new.sending.reader (J.state job.new) × IsSame (J.state job.old) (J.state job.new)) (λ e. (e ≡ Unread.Job) × Rose (J.state job.old).faults (J.state job.new).faults) }
+        ensures listening { self.new.listening.reader ≡ self.old.listening.reader }
+        ensures recorded { self.new.recorded.reader ≡ self.old.recorded.reader }
+    {
+        'rest: for _ in 0..33_554_432 {
+            match self.sending.look(job) {
+                Err(_) => return Err(Unread::Job),
+                Ok(Item::Nothing) => return Ok(()),
+                Ok(Item::Line) => self.sending.take_line(),
+                Ok(Item::Stop) => self.sending.take_stop(),
+            }
+        }
+        Ok(())
+    }
+
+    /// What was found, once all three texts are read.
+    #[tactic(auto, using(crate::proofs::Known::rose_on, crate::proofs::Known::all_same_on, crate::proofs::Known::caused_on))]
+    fn read_all<J: Source, C: Source, S: Source>(
+        &mut self,
+        found: Finding,
+        job: &mut J,
+        console: &mut C,
+        steps: &mut S,
+    ) -> Result<Finding, Unread>
+        requires known { AllKnown self.old (J.state job.old) (C.state console.old) (S.state steps.old) }
+        ensures { MatchResult result (λ found. AllKnown self.new (J.state job.new) (C.state console.new) (S.state steps.new) × AllSame (J.state job.old) (C.state console.old) (S.state steps.old) (J.state job.new) (C.state console.new) (S.state steps.new))
+            (λ e. IsCaused e (J.state job.old) (C.state console.old) (S.state steps.old) (J.state job.new) (C.state console.new) (S.state steps.new)) }
+    {
+        if !self.course.is_halted() {
+            self.read_on(job)?;
+        }
+        if self.listening.ends(console).is_err() {
+            return Err(Unread::Console);
+        }
+        if self.recorded.take_rest(steps).is_err() {
+            return Err(Unread::Steps);
+        }
+        if self.listening.is_too_long() || self.recorded.is_too_long() {
+            return Ok(Finding::TooLong);
+        }
+        match self.sending.foreign() {
+            Some(line) => Ok(Finding::Foreign(line)),
+            None => Ok(found),
+        }
+    }
+
+    /// Goes through all three texts.
+    #[tactic(auto, using(crate::proofs::Known::rose_on, crate::proofs::Known::all_same_on, crate::proofs::Known::caused_on))]
+    pub(crate) fn run<J: Source, C: Source, S: Source>(
+        &mut self,
+        job: &mut J,
+        console: &mut C,
+        steps: &mut S,
+    ) -> Result<Finding, Unread>
+        requires known { AllKnown self.old (J.state job.old) (C.state console.old) (S.state steps.old) }
+        ensures { MatchResult result (λ found. AllKnown self.new (J.state job.new) (C.state console.new) (S.state steps.new) × AllSame (J.state job.old) (C.state console.old) (S.state steps.old) (J.state job.new) (C.state console.new) (S.state steps.new))
+            (λ e. IsCaused e (J.state job.old) (C.state console.old) (S.state steps.old) (J.state job.new) (C.state console.new) (S.state steps.new)) }
+    {
+        match self.listening.begins(console) {
+            Err(_) => return Err(Unread::Console),
+            Ok(false) => return self.read_all(Finding::BadReplies(1), job, console, steps),
+            Ok(true) => {}
+        }
+        'texts: for _ in 0..u64::MAX {
+            if let Some(found) = self.step(job, console, steps)? {
+                return self.read_all(found, job, console, steps);
+            }
+        }
+        let at = self.recorded.at();
+        self.read_all(Finding::Misfit(at), job, console, steps)
+    }
+}

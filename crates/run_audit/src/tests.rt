@@ -1,0 +1,150 @@
+//! Worked texts, and what is found of them.
+
+use crate::{Audit, run_audit};
+use outside::{MemSink, MemSource};
+use std::test::Fail;
+
+const BANNER: &str = "\r\nGrbl 1.1h ['$' for help]\r\n";
+
+/// What is found of three texts.
+fn found(rt: &HostRuntime, job: &[u8], console: &[u8], steps: &[u8]) -> Result<Audit, Fail> {
+    let mut job = MemSource::new(job, 7, &[]);
+    let mut console = MemSource::new(console, 7, &[]);
+    let mut steps = MemSource::new(steps, 7, &[]);
+    let mut out = MemSink::new(rt.alloc(), 200, &[])?;
+    Ok(run_audit(
+        &["a", "b", "c"],
+        &mut job,
+        &mut console,
+        &mut steps,
+        &mut out,
+    ))
+}
+
+#[test]
+fn one_step_fits(rt: HostRuntime) -> Result<(), Fail> {
+    let console = b"\r\nGrbl 1.1h ['$' for help]\r\nok\r\n";
+    let job = b"G0X0.004";
+    assert_eq!(rt;
+        found(&rt, job, console, b"s 1 1 0 320000\nX+\nE\n")?,
+        Audit::Fits { events: 1 }
+    );
+    assert_eq!(rt;
+        found(&rt, job, console, b"V 2\ns 1 1 0 320000\nX+\nE\n")?,
+        Audit::Fits { events: 1 }
+    );
+    assert_eq!(rt;
+        found(&rt, job, console, b"s 1 1 0 320000\nX-\nE\n")?,
+        Audit::Misfit { at: 15 }
+    );
+    assert_eq!(rt;
+        found(&rt, job, console, b"s 1 1 0 320000\nX+\n")?,
+        Audit::Misfit { at: 18 }
+    );
+    assert_eq!(rt;
+        found(&rt, job, console, b"s 1 1 0 320000\nX+\nE\nE\n")?,
+        Audit::Misfit { at: 20 }
+    );
+    assert_eq!(rt; found(&rt, job, console, b"E\n")?, Audit::Misfit { at: 0 });
+    Ok(())
+}
+
+#[test]
+fn bad_replies_are_found(rt: HostRuntime) -> Result<(), Fail> {
+    let steps = b"s 1 1 0 320000\nX+\nE\n";
+    let job = b"G0X0.004";
+    assert_eq!(rt;
+        found(
+            &rt,
+            job,
+            b"\r\nGrbl 1.1h ['$' for help]\r\nerror:20\r\n",
+            steps
+        )?,
+        Audit::BadReplies { line: 1 }
+    );
+    assert_eq!(rt;
+        found(&rt, job, b"ok\r\n", steps)?,
+        Audit::BadReplies { line: 1 }
+    );
+    assert_eq!(rt;
+        found(&rt, job, b"\r\nGrbl 1.1h ['$' for help]\r\n", steps)?,
+        Audit::BadReplies { line: 1 }
+    );
+    assert_eq!(rt;
+        found(
+            &rt,
+            job,
+            b"\r\nGrbl 1.1h ['$' for help]\r\nok\r\nok\r\n",
+            steps
+        )?,
+        Audit::BadReplies { line: 2 }
+    );
+    assert_eq!(rt; found(&rt, b"$H", b"", b"")?, Audit::Foreign { line: 1 });
+    assert_eq!(rt;
+        found(&rt, b"", b"\r\nGrbl 1.1h ['$' for help]\r\n", b"E\n")?,
+        Audit::Fits { events: 0 }
+    );
+    Ok(())
+}
+
+#[test]
+fn resets_are_followed(rt: HostRuntime) -> Result<(), Fail> {
+    let both = b"\r\nGrbl 1.1h ['$' for help]\r\n\r\nGrbl 1.1h ['$' for help]\r\nok\r\n";
+    assert_eq!(rt;
+        found(&rt, b"\x18", both, b"Z 0\nE\n")?,
+        Audit::Fits { events: 0 }
+    );
+    assert_eq!(rt;
+        found(&rt, b"\x18", both, b"Z 1\nE\n")?,
+        Audit::Misfit { at: 0 }
+    );
+    assert_eq!(rt; found(&rt, b"\x18", both, b"E\n")?, Audit::Misfit { at: 0 });
+    assert_eq!(rt;
+        found(
+            &rt,
+            b"\x18",
+            b"\r\nGrbl 1.1h ['$' for help]\r\nok\r\n",
+            b"Z 0\nE\n"
+        )?,
+        Audit::BadReplies { line: 1 }
+    );
+    assert_eq!(rt;
+        found(&rt, b"G0X0.004\n\x18", both, b"Z 0\nE\n")?,
+        Audit::Fits { events: 0 }
+    );
+    assert_eq!(rt;
+        found(&rt, b"G0X0.004\n\x18", both, b"Z 1\nE\n")?,
+        Audit::Fits { events: 0 }
+    );
+    assert_eq!(rt;
+        found(
+            &rt,
+            b"G0X0.004\n\x18",
+            both,
+            b"s 1 1 0 320000\nX+\nZ 1\nE\n"
+        )?,
+        Audit::Fits { events: 1 }
+    );
+    assert_eq!(rt;
+        found(
+            &rt,
+            b"G0X0.004\n\x18",
+            both,
+            b"s 1 1 0 320000\nX+\nZ 0\nE\n"
+        )?,
+        Audit::Misfit { at: 18 }
+    );
+    Ok(())
+}
+
+#[test]
+fn words_are_three(rt: HostRuntime) -> Result<(), Fail> {
+    let mut job = MemSource::new(b"", 1, &[]);
+    let mut console = MemSource::new(BANNER.as_bytes(), 1, &[]);
+    let mut steps = MemSource::new(b"E\n", 1, &[]);
+    let mut out = MemSink::new(rt.alloc(), 200, &[])?;
+    let answer = run_audit(&["a"], &mut job, &mut console, &mut steps, &mut out);
+    assert_eq!(rt; answer, Audit::Usage);
+    assert!(rt; out.held() == b"usage\n".as_slice());
+    Ok(())
+}

@@ -1,0 +1,98 @@
+//! The call, and the line that says what was found.
+
+ghost use Rattle.std.specs.Prelude.{◌≡◌, ◌≢◌, MatchResult, not, is_ok, length, true};
+ghost use Rattle.outside.specs.Causes.{Rose};
+ghost use Rattle.outside.specs.Writing.{Took};
+ghost use Rattle.audit_rules.specs.Findings.{audit_text};
+ghost use Rattle.run_audit.specs.Going.{AllSame, IsCaused};
+ghost use Rattle.run_audit.specs.Auditing.{IsAnswered, IsOfTexts, is_found};
+
+use crate::auditor::{Auditor, Finding, Unread};
+use crate::recorded::Recorded;
+use audit_readers::put_audit;
+use audit_rules::Audit;
+use outside::{Failed, Sink, Source};
+use units::Text;
+
+/// Writes a text, all of it unless a call fails. After a call that failed nothing more is written.
+fn write_text<S: Sink>(text: &[u8], sink: &mut S) -> Result<(), Failed>
+    ensures { Took (S.state sink.old) (S.state sink.new) (not (is_ok result)) text.now }
+{
+    let mut rest = text;
+    while !rest.is_empty() {
+        let count = sink.write(rest)?;
+        rest = &rest[count..];
+    }
+    Ok(())
+}
+
+/// Writes the line of an answer.
+fn tell<O: Sink>(audit: &Audit, out: &mut O) -> Result<(), Failed>
+    ensures { Took (O.state out.old) (O.state out.new) (not (is_ok result)) (audit_text audit.now) }
+{
+    let mut text = Text::new();
+    put_audit(audit, &mut text);
+    write_text(text.as_slice(), out)
+}
+
+/// The answer where something was found.
+fn answer_of(found: Finding) -> Audit
+    ensures { is_found result ≡ true }
+{
+    match found {
+        Finding::Fits(events) => Audit::Fits { events },
+        Finding::Misfit(at) => Audit::Misfit { at },
+        Finding::BadReplies(line) => Audit::BadReplies { line },
+        Finding::Foreign(line) => Audit::Foreign { line },
+        Finding::TooLong => Audit::TooLong,
+    }
+}
+
+/// Goes through three texts.
+fn audit<J: Source, C: Source, S: Source>(
+    job: &mut J,
+    console: &mut C,
+    steps: &mut S,
+) -> Result<Finding, Unread>
+    ensures { MatchResult result (λ found. AllSame (J.state job.old) (C.state console.old) (S.state steps.old) (J.state job.new) (C.state console.new) (S.state steps.new))
+        (λ e. IsCaused e (J.state job.old) (C.state console.old) (S.state steps.old) (J.state job.new) (C.state console.new) (S.state steps.new)) }
+{
+    match Recorded::open(steps) {
+        Err(_) => Err(Unread::Steps),
+        Ok(recorded) => Auditor::new(recorded).run(job, console, steps),
+    }
+}
+
+/// The answer to three texts.
+fn answer<J: Source, C: Source, S: Source>(job: &mut J, console: &mut C, steps: &mut S) -> Audit
+    ensures { IsOfTexts (J.state job.old) (J.state job.new) (C.state console.old) (C.state console.new) (S.state steps.old) (S.state steps.new) result }
+{
+    match audit(job, console, steps) {
+        Ok(found) => answer_of(found),
+        Err(Unread::Job) => Audit::JobFault,
+        Err(Unread::Console) => Audit::ConsoleFault,
+        Err(Unread::Steps) => Audit::StepsFault,
+    }
+}
+
+/// Audits a job, a console and steps, and writes the line that says what was found. The words are the names of the three
+/// texts.
+pub fn run_audit<J: Source, C: Source, S: Source, O: Sink>(
+    words: &[&str],
+    job: &mut J,
+    console: &mut C,
+    steps: &mut S,
+    out: &mut O,
+) -> Audit
+    ensures { IsAnswered (length words.now) (J.state job.old) (J.state job.new) (C.state console.old) (C.state console.new) (S.state steps.old) (S.state steps.new) (O.state out.old) (O.state out.new) result }
+{
+    if words.len() != 3 {
+        let _ = tell(&Audit::Usage, out);
+        return Audit::Usage;
+    }
+    let found = answer(job, console, steps);
+    match tell(&found, out) {
+        Ok(()) => found,
+        Err(_) => Audit::OutFault,
+    }
+}
