@@ -68,9 +68,6 @@ some_behind_from place ps qs j =
     ∙ ap (moved_by place) (take-append-add (flat_map ticks_of ps) (flat_map ticks_of qs) j)
     ∙ moved_on place (flat_map ticks_of ps) (take j (flat_map ticks_of qs))
 
-pub some_behind : (ps qs : List Piece) (j : ℕ) → machine_at (ps ++ qs) (ticks_together ps + j) ≡ moved_by (end_of ps) (take j (flat_map ticks_of qs))
-some_behind ps qs j = some_behind_from origin ps qs j
-
 pub some_of_segment : (place : Steps3) (s : Segment) (j : ℕ) (more : List Record) → place ≡ place_after s.mv s.first → j ≤ s.n → moved_by place (take j (ticks_of (pieces.Segment s) ++ more)) ≡ place_after s.mv (s.first + j)
 some_of_segment place s j more begins few = ap (moved_by place) (fewer_events s.mv s.first s.n j more few) ∙ goes_by place s.mv s.first j begins
 

@@ -23,13 +23,6 @@ append_none : (items : List Bits) → items ++ [] ≡ items
 append_none [] = refl
 append_none (x ∷ items) = ap (λ l. x ∷ l) (append_none items)
 
--- before the first part all are left
-pub begins : (m : Move) (t w count : ℕ) → parts_after m (t + w * 0) w (count - 0) ≡ parts_after m t w count
-begins m t w count =
-    let here : t + w * 0 ≡ t = omega arith in
-    let all : count - 0 ≡ count = omega arith in
-    ap (λ u. parts_after m u w (count - 0)) here ∙ ap (λ n. parts_after m t w n) all
-
 pub goes_on : (items : List Bits) (m : Move) (t w made count : ℕ) (b : Bits) (whole : List Bits) → made < count → b ≡ part_of m (t + w * made) (t + w * made + w)
     → items ++ parts_after m (t + w * made) w (count - made) ≡ whole → (items ++ b ∷ []) ++ parts_after m (t + w * (made + 1)) w (count - (made + 1)) ≡ whole
 goes_on items m t w made count b whole less e so_far =
