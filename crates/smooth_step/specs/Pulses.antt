@@ -1,5 +1,5 @@
 -- What a pulse that hands out subticks has in hand.
-use Rattle.std.specs.Prelude.{◌≡◌, ℕ, ◌+◌, Bool, ◌==◌, if◌then◌else◌, List, [], ◌∷◌, Option}
+use Rattle.std.specs.Prelude.{◌≡◌, ℕ, ◌+◌, Bool, ◌==◌, if◌then◌else◌, List, [], ◌∷◌, length, Option}
 use Rattle.step_line.specs.declared.Bits.{Bits}
 use Rattle.step_line.specs.declared.Piece.{Piece}
 use Rattle.step_line.specs.declared.Piece.TheVariants as pieces
@@ -10,6 +10,7 @@ use Rattle.pulse_engine.specs.Logs.{PieceLog, RecordLog, got_since}
 use Rattle.pulse_engine.specs.Steps.{Pulsing, pulsing}
 use Rattle.pulse_engine.specs.Turns.{PulseFits}
 use Rattle.smooth_step.specs.Subticks.{level_of, subticks_of}
+use Rattle.smooth_step.specs.Counts.{AreLeftAt, subticks_in}
 
 -- what callers see of it: the record that is put next, which is made already; the move that is traced, with the number of its
 -- events that are made, and so have their subticks handed out; how many of its events are to be made; whether a tick was put and
@@ -37,6 +38,7 @@ HasLevel (pieces.End ∷ before) level = Unit {0}
 pub record SmoothFits (p : SmoothPulsing) (h : PieceLog) (k : RecordLog) : Type 0 where
   pub pulse : PulseFits (pulse_of p) h k
   pub level : HasLevel (got_since h) p.level
+  pub left : AreLeftAt p.hand p.left p.level k
 
 -- the move that is traced at the beginning of a piece, and the level there
 abbrev pub begun : Trace → Piece → Trace
@@ -49,6 +51,14 @@ level_behind level (pieces.Segment s) = level_of s.cycles
 level_behind level (pieces.Mark m) = level
 level_behind level pieces.End = level
 
--- what pins are handed while a pulse comes from one state to another in a turn: the subticks of the event that is made, if one is
+-- the subticks of the event that is made while a move is traced from one place to another, if one is
+abbrev pub made_between : (level : ℕ) → Trace → Trace → List Bits
+made_between level t u = if u.done == t.done + 1 then subticks_of t.mv level (t.done + 1) else []
+
+-- what pins are handed while a pulse comes from one state to another in a turn
 abbrev pub handed : SmoothPulsing → SmoothPulsing → List Bits
-handed p q = if q.traced.done == p.traced.done + 1 then subticks_of p.traced.mv p.level (p.traced.done + 1) else []
+handed p q = made_between p.level p.traced q.traced
+
+-- the subticks that were handed out are those of the events that were tried since
+abbrev pub AreCounted : SmoothPulsing → SmoothPulsing → RecordLog → RecordLog → Type 0
+AreCounted p q k k' = subticks_in k' ≡ subticks_in k + length (handed p q)

@@ -1,11 +1,13 @@
 //! The pulse that hands out subticks.
 
-ghost use Rattle.std.specs.Prelude.{◌≡◌, ◌+◌, ◌≤◌, ◌<◌, ◌∷◌};
+ghost use Rattle.std.specs.Prelude.{◌≡◌, ℕ, ◌+◌, ◌≤◌, ◌<◌, ◌∷◌};
 ghost use Rattle.step_line.specs.Counting.{events_of};
 ghost use Rattle.step_line.specs.Events.{IsEvent};
 ghost use Rattle.step_line.specs.Pieces.{records_of};
 ghost use Rattle.step_line.specs.declared.Record.TheVariants.{Event};
+ghost use Rattle.pulse_engine.specs.Logs.{RecordLog};
 ghost use Rattle.pulse_engine.specs.Steps.{IsFirst, KeepsPulse, MayBegin, coming, gone, reached_after};
+ghost use Rattle.smooth_step.specs.Counts.{IsHeldAt};
 ghost use Rattle.smooth_step.specs.Pulses.{begun, level_behind};
 
 use crate::pins::hand_out;
@@ -82,6 +84,7 @@ fn begin(piece: &Piece, tracer: &mut Tracer, left: &mut u32) -> Record
     ensures reached { gone tracer.new left.new ≡ reached_after tracer.old piece.now }
     ensures first { IsFirst result left.new }
     ensures begun { tracer.new ≡ begun tracer.old piece.now }
+    ensures held { (level : ℕ) (k : RecordLog) → IsHeldAt result (level_behind level piece.now) k }
     ensures within { tracer.new.done + left.new ≤ events_of tracer.new.mv }
 {
     match piece {
@@ -126,7 +129,7 @@ impl SmoothPulse {
     ghost use Rattle.step_line.specs.declared.Bits.{Bits};
     ghost use Rattle.step_line.specs.Logs.{NewestFirst};
     ghost use Rattle.smooth_step.specs.Pinned.{pinned};
-    ghost use Rattle.smooth_step.specs.Pulses.{SmoothFits, pulse_of, handed};
+    ghost use Rattle.smooth_step.specs.Pulses.{SmoothFits, AreCounted, pulse_of, handed};
     ghost use Rattle.step_line.specs.declared.Piece.{Piece};
     ghost use Rattle.outside.specs.declared.On.{On};
 
@@ -193,7 +196,7 @@ impl SmoothPulse {
     ) -> Turn
         requires { (rest : P.Rest) × (back : T.Rest) × (h : PieceLog) × (k : RecordLog) × P.stands pieces.old rest h × T.stands records.old back k × SmoothFits self.old h k }
         ensures logs { (rest : P.Rest) (back : T.Rest) (h : PieceLog) (k : RecordLog) → P.stands pieces.old rest h → T.stands records.old back k → SmoothFits self.old h k
-            → (h' : PieceLog) × (k' : RecordLog) × P.stands pieces.new rest h' × T.stands records.new back k' × SmoothFits self.new h' k' × PulseTurned result h k h' k' }
+            → (h' : PieceLog) × (k' : RecordLog) × P.stands pieces.new rest h' × T.stands records.new back k' × SmoothFits self.new h' k' × PulseTurned result h k h' k' × AreCounted self.old self.new k k' }
         ensures waits { (on : On) → result ≡ Turn.Wait on → pulse_of self.new ≡ pulse_of self.old }
         ensures between { result ≡ Turn.Wait On.Piece → (pulse_of self.old).waiting ≡ [] }
         ensures pins { (made : NewestFirst Bits) → O.stands pins.old made → O.stands pins.new (pinned (handed self.old self.new) made) }
@@ -243,7 +246,7 @@ impl SmoothPulse {
         requires stands { (rest : P.Rest) × (back : T.Rest) × (h : PieceLog) × (k : RecordLog) × P.stands pieces.old rest h × T.stands records.old back k × SmoothFits self.old h k }
         requires counted { (self.old.owes ≡ false) × (self.old.over ≡ false) }
         ensures logs { (rest : P.Rest) (back : T.Rest) (h : PieceLog) (k : RecordLog) → P.stands pieces.old rest h → T.stands records.old back k → SmoothFits self.old h k
-            → (h' : PieceLog) × (k' : RecordLog) × P.stands pieces.new rest h' × T.stands records.new back k' × SmoothFits self.new h' k' × PulseWorked result h k h' k' }
+            → (h' : PieceLog) × (k' : RecordLog) × P.stands pieces.new rest h' × T.stands records.new back k' × SmoothFits self.new h' k' × PulseWorked result h k h' k' × AreCounted self.old self.new k k' }
         ensures waits { (on : On) → result ≡ Turn.Wait on → pulse_of self.new ≡ pulse_of self.old }
         ensures between { result ≡ Turn.Wait On.Piece → (pulse_of self.old).waiting ≡ [] }
         ensures going { result ≡ Turn.Done → ⊥ }

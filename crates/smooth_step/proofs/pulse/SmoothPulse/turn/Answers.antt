@@ -2,8 +2,8 @@ use Rattle.std.proofs.Common.{◌≡◌, true, false, ◌∷◌, ◌∙◌, inl,
 use Rattle.outside.specs.declared.Turn.TheVariants.{Did, Done}
 use Rattle.pulse_engine.specs.Logs.PieceEvent.{asked, ticked, halted}
 use Rattle.pulse_engine.specs.Turns.{PulseTurned}
-use Rattle.smooth_step.specs.Pulses.{SmoothPulsing, pulse_of, HasLevel}
-use Rattle.smooth_step.proofs.Pulsed.{smooth_asked}
+use Rattle.smooth_step.specs.Pulses.{SmoothPulsing, pulse_of, HasLevel, handed}
+use Rattle.smooth_step.proofs.Pulsed.{smooth_asked, left_seen, none_handed, none_made}
 use Rattle.pulse_engine.specs.Logs.{got_since}
 use Rattle.pulse_engine.proofs.Moves.{seen, by_answer, worked, has_tick, fits_asked, fits_ticked, all_counted}
 use Rattle.smooth_step.proofs.pulse.SmoothPulse.turn.Goals as goal
@@ -35,8 +35,9 @@ returns-then-self-2-clause-logs g c rest back h k stands out fits =
       k,
       c.tick_done.ensures rest (asked b ∷ h) asks (has_tick p (asked b ∷ h) k owes fits'),
       out,
-      record { pulse = fits_ticked p _ (asked b ∷ h) k owes (sym was.0) refl (sym was.2) (sym was.3) fits'; level = subst (HasLevel (got_since h)) (sym (ap (λ (s : SmoothPulsing). s.level) c.self.view_is)) fits.level },
+      record { pulse = fits_ticked p _ (asked b ∷ h) k owes (sym was.0) refl (sym was.2) (sym was.3) fits'; level = subst (HasLevel (got_since h)) (sym (ap (λ (s : SmoothPulsing). s.level) c.self.view_is)) fits.level; left = left_seen _ _ k c.self.view_is fits.left },
       inr (inl (b, refl, refl)),
+      none_made c.args.self.now.level c.args.self.now.traced i.tracer k k (ap (λ (s : SmoothPulsing). s.traced.done) c.self.view_is) refl,
     )
 
 pub halt-requires-clause-stands : goal.halt-requires-clause-stands
@@ -62,6 +63,7 @@ returns-then-stopped-clause-logs g c rest back h k stands out fits =
       out,
       t.2,
       subst (λ a. PulseTurned a h k (halted t.0 ∷ (asked true ∷ h)) k) (sym c.halt.ensures.did) (inr (inr (t.0, refl, refl, all_counted p h k (was.1 ∙ c.if-self-2.false) fits.pulse))),
+      none_handed k (handed c.args.self.now c.halt.new.self) c.halt.ensures.quiet,
     )
 
 pub returns-then-stopped-clause-done : goal.returns-then-stopped-clause-done
@@ -85,7 +87,7 @@ pub returns-clause-logs : goal.returns-clause-logs
 returns-clause-logs g c rest back h k stands out fits =
     let p = pulse_of c.args.self.now in
     let t = c.work.ensures.logs rest back (asked false ∷ h) k (c.stopped-stopped.ensures.none c.if-stopped.false rest h stands) out (smooth_asked c.args.self.now false h k fits) in
-    (t.0, t.1, t.2, t.3, t.4, worked c.work.result h t.0 k t.1 c.work.ensures.going t.5)
+    (t.0, t.1, t.2, t.3, t.4, worked c.work.result h t.0 k t.1 c.work.ensures.going t.5, t.6)
 
 pub returns-clause-done : goal.returns-clause-done
 returns-clause-done g c =

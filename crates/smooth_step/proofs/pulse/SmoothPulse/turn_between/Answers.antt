@@ -1,5 +1,6 @@
-use Rattle.std.proofs.Common.{◌∷◌, ◌∙◌, inl, refl, sym, ap}
+use Rattle.std.proofs.Common.{◌∷◌, ◌∙◌, inl, refl, sym, ap, subst}
 use Rattle.pulse_engine.specs.Logs.PieceEvent.{got}
+use Rattle.smooth_step.specs.Counts.{IsHeldAt}
 use Rattle.smooth_step.specs.Pulses.{pulse_of}
 use Rattle.smooth_step.proofs.Pulsed.{level_got}
 use Rattle.pulse_engine.specs.Logs.{got_since}
@@ -23,6 +24,7 @@ returns-clause-logs g c rest h k stands fits =
         pulse = fits_got p _ i.tracer h k x waits owes over (was.3 ∙ gone_none i.tracer i.left empty.1)
             now.waiting (sym was.1 ∙ owes) (sym was.2 ∙ over) now.reached (c.in-Some.ensures.next rest h stands (may_get p h k waits owes fits.pulse)) fits.pulse;
         level = level_got x (got_since h) i.level _ c.follow.ensures.level;
+        left = subst (λ level. IsHeldAt c.begin.result level k) (sym c.follow.ensures.level) (c.begin.ensures.held i.level k);
       },
       inl (x, refl, refl),
     )

@@ -1,0 +1,57 @@
+-- How many subticks are handed out, by the records that were tried: put, or handed back.
+use Rattle.std.specs.Prelude.{◌≡◌, ℕ, ◌+◌, ◌^◌, ◌<◌, Bool, true, false, cond, [], ◌∷◌, Option, Some, None}
+use Rattle.step_line.specs.declared.Record.{Record}
+use Rattle.step_line.specs.declared.Record.TheVariants as kinds
+use Rattle.pulse_engine.specs.Logs.{RecordLog}
+use Rattle.pulse_engine.specs.Logs.RecordEvent.{put, full}
+use Rattle.smooth_step.specs.Subticks.{level_of}
+
+-- the level of the events behind a record: a head begins a segment
+abbrev pub level_after : Record → ℕ → ℕ
+level_after (kinds.Head h) level = level_of h.cycles
+level_after (kinds.Event b) level = level
+level_after (kinds.Mark m) level = level
+level_after kinds.End level = level
+
+-- that of the events behind the head that was put last
+abbrev pub level_in : RecordLog → ℕ
+level_in [] = 0
+level_in (put r ∷ k) = level_after r (level_in k)
+level_in (full r ∷ k) = level_in k
+
+abbrev pub is_event : Record → Bool
+is_event (kinds.Head h) = false
+is_event (kinds.Event b) = true
+is_event (kinds.Mark m) = false
+is_event kinds.End = false
+
+-- whether the record that was tried last is an event that was handed back
+abbrev pub is_held : RecordLog → Bool
+is_held [] = false
+is_held (put r ∷ k) = false
+is_held (full r ∷ k) = is_event r
+
+-- how many subticks are handed out for a record before it is tried: those of an event, where it was not tried before
+abbrev pub fresh_in : Record → RecordLog → ℕ
+fresh_in r k = cond (is_event r) (cond (is_held k) 0 (2 ^ level_in k)) 0
+
+-- The subticks of the events that were tried, each event once: it has 2 to the power of the level of its head many. An event that was
+-- handed back is tried again until it is put, unless a halt drops it.
+abbrev pub subticks_in : RecordLog → ℕ
+subticks_in [] = 0
+subticks_in (put r ∷ k) = subticks_in k + fresh_in r k
+subticks_in (full r ∷ k) = subticks_in k + fresh_in r k
+
+-- ---- what a pulse has in hand between two tries
+
+-- A record that is put next: a head of this level, or an event that was tried before, at this level.
+abbrev pub IsHeldAt : Record → ℕ → RecordLog → Type 0
+IsHeldAt (kinds.Head h) level k = level_of h.cycles ≡ level
+IsHeldAt (kinds.Event b) level k = (is_held k ≡ true) × (level_in k ≡ level)
+IsHeldAt (kinds.Mark m) level k = Unit {0}
+IsHeldAt kinds.End level k = Unit {0}
+
+-- the events that are left have this level, and the next is not tried yet
+abbrev pub AreLeftAt : Option Record → (left level : ℕ) → RecordLog → Type 0
+AreLeftAt None left level k = 0 < left → (is_held k ≡ false) × (level_in k ≡ level)
+AreLeftAt (Some r) left level k = IsHeldAt r level k
