@@ -1,0 +1,9 @@
+//! The pulse of a run: one that steps the machine event by event, or one that hands out the subticks of each event besides, and
+//! counts them.
+#![tactic(auto)]
+
+mod counted;
+mod pulse;
+
+pub use counted::Counted;
+pub use pulse::{MotionPulse, Stepping};
