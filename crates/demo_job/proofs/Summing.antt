@@ -22,6 +22,9 @@ few_events i = omega (arith, ints)
 pub number_short : (n : ℕ) → n < 2 ^ 32 → length (decimal n) ≤ 10
 number_short n h = length-decimal-le 10 n (omega arith) (omega arith) (omega arith)
 
+pub long_number_short : (n : ℕ) → n < 2 ^ 64 → length (decimal n) ≤ 20
+long_number_short n h = length-decimal-le 20 n (omega arith) (omega arith) (omega arith)
+
 pub no_events : job_events 0 ≡ 0
 no_events = refl
 

@@ -71,6 +71,10 @@ abbrev pub summary_of : ℕ → ℕ → ℕ → ℕ → ℕ → Steps3 → List 
 summary_of n lines ok error events at =
     lines_text n lines ++ answers_text ok error ++ count_text (codes " events ") events ++ stop_text at ++ codes "\n"
 
+-- the line on a run of n moves of which the subticks are counted: how many there were, and the last place
+abbrev pub pins_text : ℕ → ℕ → List ℕ
+pins_text n subticks = count_text (codes "pins ") n ++ count_text (codes " words ") subticks ++ stop_text (stop n) ++ codes "\n"
+
 -- the line on the whole job of n moves: all its n + 3 lines are answered `ok`, and its moves are made
 abbrev pub summary : ℕ → List ℕ
 summary n = summary_of n (n + 3) (n + 3) 0 (job_events n) (stop n)

@@ -9,8 +9,8 @@ mod telling;
 
 pub use lines::demo_line;
 pub use source::{DemoJob, NoConsole};
-pub use summary::{Answers, put_summary};
-pub use telling::tell_summary;
+pub use summary::{Answers, put_pins, put_summary};
+pub use telling::{tell_pins, tell_summary};
 
 #[cfg(test)]
 mod tests;

@@ -3,7 +3,7 @@
 ghost use Rattle.std.specs.Prelude.{◌≡◌, ◌≤◌, ◌<◌, ◌+◌, ◌*◌, ◌++◌, length, codes, pos};
 ghost use Rattle.arrayvec.specs.ArrayVec.{array_vec_len};
 ghost use Rattle.step_line.specs.Counting.{events_of};
-ghost use Rattle.demo_job.specs.Jobs.{answers_text, axis_text, count_text, job_events, job_move, lines_text, stop_text, stop, summary_of};
+ghost use Rattle.demo_job.specs.Jobs.{answers_text, axis_text, count_text, job_events, job_move, lines_text, pins_text, stop_text, stop, summary_of};
 
 use crate::lines::target;
 use itoa::Buffer;
@@ -58,6 +58,18 @@ fn put_count(before: &[u8], number: u32, out: &mut Text)
     requires room { array_vec_len out.old + length before.now + 40 ≤ 192 }
     ensures text { out.new.items ≡ out.old.items ++ count_text before.now number }
     ensures room { array_vec_len out.new ≤ array_vec_len out.old + length before.now + 10 }
+{
+    append(before, out);
+    let mut buffer = Buffer::new();
+    append(buffer.format(number).as_bytes(), out);
+}
+
+/// Appends a text and a number of 64 bits after it.
+#[tactic(auto, using(crate::proofs::Summing::long_number_short), unfolding(crate::specs::Jobs::count_text))]
+fn put_long_count(before: &[u8], number: u64, out: &mut Text)
+    requires room { array_vec_len out.old + length before.now + 40 ≤ 192 }
+    ensures text { out.new.items ≡ out.old.items ++ count_text before.now number }
+    ensures room { array_vec_len out.new ≤ array_vec_len out.old + length before.now + 20 }
 {
     append(before, out);
     let mut buffer = Buffer::new();
@@ -140,5 +152,18 @@ pub fn put_summary(n: u32, answers: Answers, out: &mut Text)
     put_lines(n, out);
     put_answers(answers, out);
     put_motion(n, out);
+    append(b"\n", out);
+}
+
+/// Puts the line on a run of the job of `n` moves whose subticks were counted into a text, which is emptied before: how many
+/// subticks there were, and where the last move goes.
+pub fn put_pins(n: u32, subticks: u64, out: &mut Text)
+    requires moves { (1 ≤ n) × (n ≤ 100000) }
+    ensures { out.new.items ≡ pins_text n subticks }
+{
+    out.clear();
+    put_count(b"pins ", n, out);
+    put_long_count(b" words ", subticks, out);
+    put_place(n, out);
     append(b"\n", out);
 }

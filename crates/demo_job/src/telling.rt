@@ -2,9 +2,9 @@
 
 ghost use Rattle.std.specs.Prelude.{◌≡◌, ◌≤◌, ◌+◌, not, is_ok};
 ghost use Rattle.outside.specs.Writing.{Took};
-ghost use Rattle.demo_job.specs.Jobs.{job_events, stop, summary_of};
+ghost use Rattle.demo_job.specs.Jobs.{job_events, pins_text, stop, summary_of};
 
-use crate::{Answers, put_summary};
+use crate::{Answers, put_pins, put_summary};
 use outside::{Failed, Sink};
 use units::Text;
 
@@ -28,4 +28,16 @@ pub fn tell_summary<S: Sink>(n: u32, answers: Answers, console: &mut S) -> Resul
     let mut text = Text::new();
     put_summary(n, answers, &mut text);
     write_text(text.as_slice(), console)
+}
+
+/// Gives the console the line on a run of the job of `n` moves whose subticks were counted: all of it, or a front of it if the
+/// console fails.
+pub fn tell_pins<S: Sink>(n: u32, subticks: u64, console: &mut S) -> Result<(), Failed>
+    requires moves { (1 ≤ n) × (n ≤ 100000) }
+    ensures { Took (S.state console.old) (S.state console.new) (not (is_ok result)) (pins_text n subticks) }
+{
+    let mut text = Text::new();
+    put_pins(n, subticks, &mut text);
+    let line = text.as_slice();
+    write_text(line, console)
 }

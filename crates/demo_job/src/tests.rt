@@ -1,6 +1,6 @@
 //! The generated job, line by line and as a source, and its summary.
 
-use super::{Answers, DemoJob, NoConsole, demo_line, put_summary};
+use super::{Answers, DemoJob, NoConsole, demo_line, put_pins, put_summary};
 use gcode_words::LineBuf;
 use outside::{Sink, Source};
 use units::Text;
@@ -74,6 +74,25 @@ fn summaries_count_lines_and_events(rt: HostRuntime) {
             },
             &mut text,
         );
+        assert!(rt; text.as_slice() == wanted);
+    }
+}
+
+#[test]
+fn pins_are_told_by_their_number(rt: HostRuntime) {
+    let rows: [(u32, u64, &[u8]); 3] = [
+        (1, 0, b"pins 1 words 0 at 0.700,1.100,0.000\n"),
+        (3, 8200, b"pins 3 words 8200 at 2.100,0.300,0.000\n"),
+        (
+            100_000,
+            u64::MAX,
+            b"pins 100000 words 18446744073709551615 at 0.000,2.000,0.000\n",
+        ),
+    ];
+    let mut text = Text::new();
+    for (n, subticks, wanted) in rows {
+        assert!(rt; 1 <= n && n <= 100_000);
+        put_pins(n, subticks, &mut text);
         assert!(rt; text.as_slice() == wanted);
     }
 }
