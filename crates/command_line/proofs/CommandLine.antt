@@ -18,11 +18,13 @@ use Rattle.clap.proofs.OnLiterals.{clap_on_literals}
 use Rattle.clap.proofs.WalkLemmas.{walk_stopped}
 use Rattle.clap.specs.declared.builder.value_parser.ValueParser.{ValueParser}
 use Rattle.clap.specs.declared.builder.value_parser.ValueParser.TheVariants.{Signed, Unsigned}
-use Rattle.command_line.specs.Command.{Refuses, IsNamed, command_line}
+use Rattle.motion_pulse.specs.declared.pulse.Stepping.{Stepping}
+use Rattle.motion_pulse.specs.declared.pulse.Stepping.TheVariants.{Events, Subticks}
+use Rattle.command_line.specs.Command.{Refuses, IsNamed, command_line, demo_name}
 use Rattle.command_line.proofs.Levels.{Each, KeptByDefault, KeptByUse, none_first, none_second, stray, checks, finds}
 use Rattle.command_line.proofs.Given.{IsGood, argument, by_default, by_use, flag, flag_by_default, flag_by_use, given, help, help_by_default, help_by_use, row_at, was_given}
 
--- the command line as clap builds it: the top, with the flag `--help`, and the three subcommands
+-- the command line as clap builds it: the top, with the flag `--help`, and the four subcommands
 abbrev whole : App
 whole = built command_line
 
@@ -127,32 +129,34 @@ after_dashes s all [] h = refl
 after_dashes s all (word ∷ rest) h = absurd (stray s (none_first _ _ h))
 
 -- the subcommand that a first word names
-abbrev named : Bool → Bool → Bool → Option Text
-named is_stream is_demo is_help = option_map (λ (p : Text × List Text). p.0)
-    (cond (is_stream || false) (Some (codes "stream", [])) (cond (is_demo || false) (Some (codes "demo", [])) (cond (is_help || false) (Some (codes "help", [])) None)))
+abbrev named : Bool → Bool → Bool → Bool → Option Text
+named is_stream is_demo is_pins is_help = option_map (λ (p : Text × List Text). p.0)
+    (cond (is_stream || false) (Some (codes "stream", [])) (cond (is_demo || false) (Some (codes "demo", [])) (cond (is_pins || false) (Some (codes "pins", [])) (cond (is_help || false) (Some (codes "help", [])) None))))
 
 pub data FirstWord : Text → Type 0 where
   stream_word : FirstWord (codes "stream")
-  demo_word : FirstWord (codes "demo")
+  demo_word : (stepping : Stepping) → FirstWord (demo_name stepping)
   a_dash : FirstWord (codes "--")
 
 first_word : (word : Text) → turn_fault whole.top names start word ≡ [] → FirstWord word
-first_word word h = go (bytes_eq (codes "stream") word) refl (bytes_eq (codes "demo") word) refl (bytes_eq (codes "help") word) h
+first_word word h = go (bytes_eq (codes "stream") word) refl (bytes_eq (codes "demo") word) refl (bytes_eq (codes "pins") word) refl (bytes_eq (codes "help") word) h
   where
-    go : (is_stream : Bool) → is_stream ≡ bytes_eq (codes "stream") word → (is_demo : Bool) → is_demo ≡ bytes_eq (codes "demo") word → (is_help : Bool)
-        → or_else (other_fault whole.top (named is_stream is_demo is_help) word nothing_held)
-        (let m : Held × Step = subcommand_or_other rules (named is_stream is_demo is_help) idle 1 word nothing_held in step_fault whole.top 1 m.0 m.1) ≡ []
+    go : (is_stream : Bool) → is_stream ≡ bytes_eq (codes "stream") word → (is_demo : Bool) → is_demo ≡ bytes_eq (codes "demo") word → (is_pins : Bool) → is_pins ≡ bytes_eq (codes "pins") word
+        → (is_help : Bool)
+        → or_else (other_fault whole.top (named is_stream is_demo is_pins is_help) word nothing_held)
+        (let m : Held × Step = subcommand_or_other rules (named is_stream is_demo is_pins is_help) idle 1 word nothing_held in step_fault whole.top 1 m.0 m.1) ≡ []
         → FirstWord word
-    go true e is_demo f is_help h = subst FirstWord (same_text (codes "stream") word e) stream_word
-    go false e true f is_help h = subst FirstWord (same_text (codes "demo") word f) demo_word
-    go false e false f true h = absurd (cc)
-    go false e false f false h = subst FirstWord (sym (only_dashes whole.top 1 word h)) a_dash
+    go true e is_demo f is_pins p is_help h = subst FirstWord (same_text (codes "stream") word e) stream_word
+    go false e true f is_pins p is_help h = subst FirstWord (same_text (codes "demo") word f) (demo_word Events)
+    go false e false f true p is_help h = subst FirstWord (same_text (codes "pins") word p) (demo_word Subticks)
+    go false e false f false p true h = absurd (cc)
+    go false e false f false p false h = subst FirstWord (sym (only_dashes whole.top 1 word h)) a_dash
 
 pub data TopWords : List Text → Type 0 where
   none : TopWords []
   dashes : TopWords (codes "--" ∷ [])
   to_stream : (rest : List Text) → TopWords (codes "stream" ∷ rest)
-  to_demo : (rest : List Text) → TopWords (codes "demo" ∷ rest)
+  to_demo : (stepping : Stepping) (rest : List Text) → TopWords (demo_name stepping ∷ rest)
 
 top_words : (words : List Text) → walk_fault whole.top names start words ≡ [] → TopWords words
 unfolding clap_on_literals
@@ -161,7 +165,7 @@ top_words (word ∷ rest) h = go word (first_word word (none_first _ _ h)) (none
   where
     go : (w : Text) → FirstWord w → walk_fault whole.top names (walked rules names start w) rest ≡ [] → TopWords (w ∷ rest)
     go _ stream_word more = to_stream rest
-    go _ demo_word more = to_demo rest
+    go _ (demo_word stepping) more = to_demo stepping rest
     go _ a_dash more = subst TopWords (ap (λ (ws : List Text). codes "--" ∷ ws) (sym (after_dashes whole.top names rest more))) dashes
 
 -- ---- what is found of them
@@ -171,7 +175,7 @@ found_seed rows = IsGood (codes "seed") (Some (codes "lockstep")) None seeds fal
 
 -- the arguments of `stream`, as clap builds them
 abbrev stream_rules : List Rule
-stream_rules = argument (codes "seed") (Some (codes "lockstep")) None seeds false ∷ flag (codes "paced") ∷ flag (codes "wide") ∷ flag (codes "compact") ∷ help ∷ []
+stream_rules = argument (codes "seed") (Some (codes "lockstep")) None seeds false ∷ flag (codes "paced") ∷ flag (codes "wide") ∷ flag (codes "compact") ∷ flag (codes "smooth") ∷ help ∷ []
 
 abbrev pub given_moves : Text → Row
 given_moves v = given (codes "moves") None (Some 1) numbers true v
@@ -185,7 +189,7 @@ demo_rules = argument (codes "moves") None (Some 1) numbers true ∷ help ∷ []
 -- what accepted words name: `stream`, with a seed or none, or `demo`, with a number
 pub data Entered : List Text → Type 0 where
   a_stream : {words : List Text} (rows : List Row) → subcommand_of command_line words ≡ Some (codes "stream", rows) → found_seed rows → Entered words
-  a_demo : {words : List Text} (v : Text) (rows : List Row) → subcommand_of command_line words ≡ Some (codes "demo", rows) → found_moves v rows → Entered words
+  a_demo : {words : List Text} (stepping : Stepping) (v : Text) (rows : List Row) → subcommand_of command_line words ≡ Some (demo_name stepping, rows) → found_moves v rows → Entered words
 
 seed_found : (s : Shape) (words : List Text) → level_fault (record s { rules = stream_rules; args_override_self = false }) [] nothing_held words false [] ≡ []
     → found_seed (rows_after stream_rules [] words)
@@ -197,7 +201,10 @@ seed_found s words whole_level = finds found_seed stream_rules (
       flag_by_use (codes "seed") (Some (codes "lockstep")) None seeds false (codes "wide") refl,
       (
         flag_by_use (codes "seed") (Some (codes "lockstep")) None seeds false (codes "compact") refl,
-        (help_by_use (codes "seed") (Some (codes "lockstep")) None seeds false, tt),
+        (
+          flag_by_use (codes "seed") (Some (codes "lockstep")) None seeds false (codes "smooth") refl,
+          (help_by_use (codes "seed") (Some (codes "lockstep")) None seeds false, tt),
+        ),
       ),
     ),
   ),
@@ -209,7 +216,10 @@ seed_found s words whole_level = finds found_seed stream_rules (
       flag_by_default (codes "seed") (Some (codes "lockstep")) None seeds false (codes "wide") refl,
       (
         flag_by_default (codes "seed") (Some (codes "lockstep")) None seeds false (codes "compact") refl,
-        (help_by_default (codes "seed") (Some (codes "lockstep")) None seeds false, tt),
+        (
+          flag_by_default (codes "seed") (Some (codes "lockstep")) None seeds false (codes "smooth") refl,
+          (help_by_default (codes "seed") (Some (codes "lockstep")) None seeds false, tt),
+        ),
       ),
     ),
   ),
@@ -243,9 +253,23 @@ demos rest h =
     let under = none_first _ _ (none_second _ _ h) in
     let its_level = subst (λ (o : Option (Text × List Text)). entered_fault whole o ≡ []) (sym stop) under in
     let found = moves_found (get_or whole.subs 1 whole.top) rest its_level in
-    a_demo found.0 _ (ap (entered whole) (sym stop)) found.1
+    a_demo Events found.0 _ (ap (entered whole) (sym stop)) found.1
 
--- accepted words enter one of the two
+pins : (rest : List Text) → fault_of command_line (codes "pins" ∷ rest) ≡ [] → Entered (codes "pins" ∷ rest)
+unfolding clap_on_literals
+pins rest h =
+    let stop : Some (codes "pins", rest) ≡ (walk rules names nothing_held (codes "pins" ∷ rest)).stopped =
+    ap (λ (w : Walk). w.stopped) (walk_stopped rules names start (codes "pins") [] rest) in
+    let under = none_first _ _ (none_second _ _ h) in
+    let its_level = subst (λ (o : Option (Text × List Text)). entered_fault whole o ≡ []) (sym stop) under in
+    let found = moves_found (get_or whole.subs 2 whole.top) rest its_level in
+    a_demo Subticks found.0 _ (ap (entered whole) (sym stop)) found.1
+
+demos_by : (stepping : Stepping) (rest : List Text) → fault_of command_line (demo_name stepping ∷ rest) ≡ [] → Entered (demo_name stepping ∷ rest)
+demos_by Events rest h = demos rest h
+demos_by Subticks rest h = pins rest h
+
+-- accepted words enter one of the three
 pub enters : (words : List Text) → fault_of command_line words ≡ [] → Entered words
 unfolding clap_on_literals
 enters words h = go words (top_words words (none_first _ _ h)) h
@@ -254,13 +278,13 @@ enters words h = go words (top_words words (none_first _ _ h)) h
     go _ none e = absurd (nothing_fails e)
     go _ dashes e = absurd (dashes_fail e)
     go _ (to_stream rest) e = streams rest e
-    go _ (to_demo rest) e = demos rest e
+    go _ (to_demo stepping rest) e = demos_by stepping rest e
 
 named_words : (words : List Text) → TopWords words → fault_of command_line words ≡ [] → IsNamed words
 named_words _ none e = absurd (nothing_fails e)
 named_words _ dashes e = absurd (dashes_fail e)
 named_words _ (to_stream rest) e = (rest, inl refl)
-named_words _ (to_demo rest) e = (rest, inr refl)
+named_words _ (to_demo stepping rest) e = (rest, inr (stepping, refl))
 
 -- ---- accepted words
 
@@ -288,10 +312,14 @@ pub first_is : (words : List (Bor Text)) (other : Bor Text) (name : Text) → 1 
 first_is [] other name some is = absurd (omega (arith, some))
 first_is (word ∷ rest) other name some is = (texts rest, ap (λ (w : Text). w ∷ texts rest) (same_text word.now name (sym is)))
 
-pub demo_is : (words : List (Bor Text)) (other : Bor Text) → 1 ≤ length words → bytes_eq (get_or words 0 other).now (codes "stream") ≡ false → IsNamed (texts words)
-    → bytes_eq (get_or words 0 other).now (codes "demo") ≡ true
-demo_is [] other some not_stream named = absurd (omega (arith, some))
-demo_is (word ∷ rest) other some not_stream (more, inl stream) =
+pub names_some_demo : (words : List (Bor Text)) (other : Bor Text) → 1 ≤ length words → bytes_eq (get_or words 0 other).now (codes "stream") ≡ false → IsNamed (texts words)
+    → (stepping : Stepping) × ((get_or words 0 other).now ≡ demo_name stepping)
+names_some_demo [] other some not_stream named = absurd (omega (arith, some))
+names_some_demo (word ∷ rest) other some not_stream (more, inl stream) =
     let is : bytes_eq word.now (codes "stream") ≡ true = ap (λ (ws : List Text). bytes_eq (get_or ws 0 word.now) (codes "stream")) stream in
     let both : false ≡ true = sym not_stream ∙ is in absurd (cc)
-demo_is (word ∷ rest) other some not_stream (more, inr demo) = ap (λ (ws : List Text). bytes_eq (get_or ws 0 word.now) (codes "demo")) demo
+names_some_demo (word ∷ rest) other some not_stream (more, inr demo) = (demo.0, ap (λ (ws : List Text). get_or ws 0 word.now) demo.1)
+
+pub first_demo : (words : List (Bor Text)) (other : Bor Text) (name : Text) → 1 ≤ length words → (get_or words 0 other).now ≡ name → (rest : List Text) × (texts words ≡ name ∷ rest)
+first_demo [] other name some is = absurd (omega (arith, some))
+first_demo (word ∷ rest) other name some is = (texts rest, ap (λ (w : Text). w ∷ texts rest) is)

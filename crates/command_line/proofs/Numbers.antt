@@ -23,7 +23,9 @@ use Rattle.clap.proofs.ValueTestLemmas.{accepts-Accepts}
 use Rattle.clap.proofs.CallerReads.{signed_reads}
 use Rattle.std.specs.Box.{box_value}
 use Rattle.std.specs.Prelude.{Box}
-use Rattle.command_line.specs.Command.{Asks, Refuses, buffers_by, command_line, form_by, is_of_words, has_flag, number_of, options_in, order_in}
+use Rattle.motion_pulse.specs.declared.pulse.Stepping.{Stepping}
+use Rattle.motion_pulse.specs.declared.pulse.Stepping.TheVariants.{Events, Subticks}
+use Rattle.command_line.specs.Command.{Asks, Refuses, buffers_by, command_line, demo_name, form_by, stepping_by, is_of_words, has_flag, number_of, options_in, order_in}
 use Rattle.command_line.specs.declared.Order.{Order}
 use Rattle.command_line.specs.declared.StreamOptions.{StreamOptions}
 use Rattle.command_line.specs.declared.Task.{Task}
@@ -104,20 +106,20 @@ named_rows words m name rows is named found =
 pair_parts : (a d : Text) (b e : List Row) → ◌≡◌ {A = Option (Text × List Row)} (Some (a, b)) (Some (d, e)) → (a ≡ d) × (b ≡ e)
 pair_parts a d b e h = (ap (λ (o : Option (Text × List Row)). option_map_or (λ p. p.0) o a) h, ap (λ (o : Option (Text × List Row)). option_map_or (λ p. p.1) o b) h)
 
--- what the words name is `stream` or `demo`
+-- what the words name is `stream`, or runs the generated job
 pub some_task : (words : List Text) (name : Text) (rows : List Row) → Entered words → subcommand_of command_line words ≡ Some (name, rows)
-    → ((name ≡ codes "stream") × found_seed rows) ⊎ ((name ≡ codes "demo") × (v : Text) × found_moves v rows)
+    → ((name ≡ codes "stream") × found_seed rows) ⊎ ((stepping : Stepping) × (name ≡ demo_name stepping) × (v : Text) × found_moves v rows)
 some_task words name rows (Entered.a_stream found is good) e =
     let parts = pair_parts (codes "stream") name found rows (sym is ∙ e) in
     inl (sym parts.0, subst found_seed parts.1 good)
-some_task words name rows (Entered.a_demo v found is ok) e =
-    let parts = pair_parts (codes "demo") name found rows (sym is ∙ e) in
-    inr (sym parts.0, v, subst (found_moves v) parts.1 ok)
+some_task words name rows (Entered.a_demo stepping v found is ok) e =
+    let parts = pair_parts (demo_name stepping) name found rows (sym is ∙ e) in
+    inr (stepping, sym parts.0, v, subst (found_moves v) parts.1 ok)
 
 -- accepted words enter a subcommand
 pub has_entered : (words : List Text) → Entered words → None ≡ option_map (λ (p : Text × List Row). p.1) (subcommand_of command_line words) → ⊥
 has_entered words (Entered.a_stream rows is good) none = let e : None ≡ Some rows = none ∙ ap (option_map (λ (p : Text × List Row). p.1)) is in cc
-has_entered words (Entered.a_demo v rows is ok) none = let e : None ≡ Some rows = none ∙ ap (option_map (λ (p : Text × List Row). p.1)) is in cc
+has_entered words (Entered.a_demo stepping v rows is ok) none = let e : None ≡ Some rows = none ∙ ap (option_map (λ (p : Text × List Row). p.1)) is in cc
 
 -- the text of a number of moves that was found
 pub moves_text : (v : Text) (rows : List Row) → found_moves v rows → one_of (codes "moves") rows ≡ Some (without_minus v)
@@ -133,21 +135,35 @@ one_stream : (options other : StreamOptions) (o : Option (Text × List Row)) →
 one_stream options other None h k = absurd h
 one_stream options other (Some s) h k = ap (λ (o : Option StreamOptions). unwrap_or o options) (h.1 ∙ sym k.1)
 
-one_demo : (moves other : ℕ) (o : Option (Text × List Row)) → IsSomeAnd o (λ s. (s.0 ≡ codes "demo") × (Some moves ≡ option_map number_of (one_of (codes "moves") s.1)) × (1 ≤ moves) × (moves ≤ 100000))
-    → IsSomeAnd o (λ s. (s.0 ≡ codes "demo") × (Some other ≡ option_map number_of (one_of (codes "moves") s.1)) × (1 ≤ other) × (other ≤ 100000)) → moves ≡ other
-one_demo moves other None h k = absurd h
-one_demo moves other (Some s) h k = ap (λ (o : Option ℕ). unwrap_or o moves) (h.1 ∙ sym k.1)
+-- what is asked of `demo` and `pins`
+abbrev AsksDemo : ℕ → Stepping → Option (Text × List Row) → Type 0
+AsksDemo moves stepping o = IsSomeAnd o (λ s. (s.0 ≡ demo_name stepping) × (Some moves ≡ option_map number_of (one_of (codes "moves") s.1)) × (1 ≤ moves) × (moves ≤ 100000))
 
-not_both : (options : StreamOptions) (moves : ℕ) (o : Option (Text × List Row)) → AsksStream options o
-    → IsSomeAnd o (λ s. (s.0 ≡ codes "demo") × (Some moves ≡ option_map number_of (one_of (codes "moves") s.1)) × (1 ≤ moves) × (moves ≤ 100000)) → ⊥
-not_both options moves None h k = absurd h
-not_both options moves (Some s) h k = let e : codes "stream" ≡ codes "demo" = sym h.0 ∙ k.0 in cc
+-- their names differ
+one_name : (one other : Stepping) → demo_name one ≡ demo_name other → one ≡ other
+one_name Events Events e = refl
+one_name Events Subticks e = absurd (let both : true ≡ false = ap (λ (t : Text). bytes_eq t (codes "demo")) e in cc)
+one_name Subticks Events e = absurd (let both : false ≡ true = ap (λ (t : Text). bytes_eq t (codes "demo")) e in cc)
+one_name Subticks Subticks e = refl
+
+no_stream_name : (stepping : Stepping) → codes "stream" ≡ demo_name stepping → ⊥
+no_stream_name Events e = let both : true ≡ false = ap (λ (t : Text). bytes_eq t (codes "stream")) e in cc
+no_stream_name Subticks e = let both : true ≡ false = ap (λ (t : Text). bytes_eq t (codes "stream")) e in cc
+
+one_demo : (moves other : ℕ) (one another : Stepping) (o : Option (Text × List Row)) → AsksDemo moves one o → AsksDemo other another o → Demo moves one ≡ Demo other another
+one_demo moves other one another None h k = absurd h
+one_demo moves other one another (Some s) h k =
+    ap (λ (m : ℕ). Demo m one) (ap (λ (o : Option ℕ). unwrap_or o moves) (h.1 ∙ sym k.1)) ∙ ap (λ (x : Stepping). Demo other x) (one_name one another (sym h.0 ∙ k.0))
+
+not_both : (options : StreamOptions) (moves : ℕ) (stepping : Stepping) (o : Option (Text × List Row)) → AsksStream options o → AsksDemo moves stepping o → ⊥
+not_both options moves stepping None h k = absurd h
+not_both options moves stepping (Some s) h k = no_stream_name stepping (sym h.0 ∙ k.0)
 
 pub one_task : (words : List Text) (a b : Task) → Asks a words → Asks b words → a ≡ b
 one_task words (Stream s) (Stream t) h k = ap (λ (o : StreamOptions). Stream o) (one_stream s t (subcommand_of command_line words) h k)
-one_task words (Stream s) (Demo n) h k = absurd (not_both s n (subcommand_of command_line words) h k)
-one_task words (Demo m) (Stream s) h k = absurd (not_both s m (subcommand_of command_line words) k h)
-one_task words (Demo m) (Demo n) h k = ap (λ (i : ℕ). Demo i) (one_demo m n (subcommand_of command_line words) h k)
+one_task words (Stream s) (Demo n x) h k = absurd (not_both s n x (subcommand_of command_line words) h k)
+one_task words (Demo m x) (Stream s) h k = absurd (not_both s m x (subcommand_of command_line words) k h)
+one_task words (Demo m x) (Demo n y) h k = one_demo m n x y (subcommand_of command_line words) h k
 
 -- ---- words that are not refused ask for one
 
@@ -179,16 +195,16 @@ by_clap : (words : List Text) → ¬ Refuses words → Entered words → (task :
 by_clap words h (Entered.a_stream rows is good) = go (order_in rows) refl
   where
     options_by : Order → StreamOptions
-    options_by order = record { order = order; buffers = buffers_by (has_flag (codes "wide") rows); form = form_by (has_flag (codes "compact") rows) }
+    options_by order = record { order = order; buffers = buffers_by (has_flag (codes "wide") rows); form = form_by (has_flag (codes "compact") rows); stepping = stepping_by (has_flag (codes "smooth") rows) }
 
     go : (o : Option Order) → o ≡ order_in rows → (task : Task) × Asks task words
     go None none = absurd (h (inr (subst (λ (found : Option (Text × List Row)). IsSomeAnd found (λ s. (s.0 ≡ codes "stream") × (order_in s.1 ≡ None))) (sym is) (refl, sym none))))
     go (Some order) one = (Stream (options_by order), subst (AsksStream (options_by order)) (sym is) (refl, ap (option_map options_by) one))
-by_clap words h (Entered.a_demo v rows is ok) =
+by_clap words h (Entered.a_demo stepping v rows is ok) =
     let n = number_of (without_minus v) in
     let lies = moves_lie v ok.0 in (
-      Demo n,
-      subst (λ (o : Option (Text × List Row)). IsSomeAnd o (λ s. (s.0 ≡ codes "demo") × (Some n ≡ option_map number_of (one_of (codes "moves") s.1)) × (1 ≤ n) × (n ≤ 100000))) (sym is)
+      Demo n stepping,
+      subst (AsksDemo n stepping) (sym is)
           (refl, ap (option_map number_of) (sym (moves_text v rows ok)), lies.0, lies.1),
     )
 

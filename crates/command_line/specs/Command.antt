@@ -9,6 +9,8 @@ use Rattle.clap.specs.declared.parser.matches.ValueSource.TheVariants.{CommandLi
 use Rattle.clap.specs.declared.builder.action.ArgAction.TheVariants.{SetTrue}
 use Rattle.step_record.specs.declared.forms.Form.{Form}
 use Rattle.step_record.specs.declared.forms.Form.TheVariants.{One, Two}
+use Rattle.motion_pulse.specs.declared.pulse.Stepping.{Stepping}
+use Rattle.motion_pulse.specs.declared.pulse.Stepping.TheVariants.{Events, Subticks}
 use Rattle.clap.specs.declared.builder.value_parser.ValueParser.TheVariants.{Signed, Unsigned}
 use Rattle.clap.specs.Faults.{fault_of}
 use Rattle.clap.specs.declared.error.kind.ErrorKind.{ErrorKind}
@@ -38,23 +40,28 @@ ordered_stream = with_rule (with_rule (new_app (codes "stream")) (record (new_ru
   parser = Some (Unsigned 0 18446744073709551615);
 })) (flag_rule (codes "paced"))
 
--- it may also be given `--wide` and `--compact`
+-- it may also be given `--wide`, `--compact` and `--smooth`
 abbrev pub stream_command : App
-stream_command = with_rule (with_rule ordered_stream (flag_rule (codes "wide"))) (flag_rule (codes "compact"))
+stream_command = with_rule (with_rule (with_rule ordered_stream (flag_rule (codes "wide"))) (flag_rule (codes "compact"))) (flag_rule (codes "smooth"))
 
--- `demo` takes a whole number from 1 to 100,000
-abbrev pub demo_command : App
-demo_command = with_rule (new_app (codes "demo")) (record (new_rule (codes "moves")) {
+-- what runs the generated job
+abbrev pub demo_name : Stepping → Text
+demo_name Events = codes "demo"
+demo_name Subticks = codes "pins"
+
+-- it takes a whole number from 1 to 100,000
+abbrev pub moves_command : Text → App
+moves_command name = with_rule (new_app name) (record (new_rule (codes "moves")) {
   required = true;
   parser = Some (Signed (pos 1) (pos 100000));
 })
 
 abbrev pub command_line : App
-command_line = with_subcommand (with_subcommand grbl stream_command.top) demo_command.top
+command_line = with_subcommand (with_subcommand (with_subcommand grbl stream_command.top) (moves_command (codes "demo")).top) (moves_command (codes "pins")).top
 
--- the first word names one of the two
+-- the first word names one of the three
 abbrev pub IsNamed : List Text → Type 0
-IsNamed words = (rest : List Text) × ((words ≡ codes "stream" ∷ rest) ⊎ (words ≡ codes "demo" ∷ rest))
+IsNamed words = (rest : List Text) × ((words ≡ codes "stream" ∷ rest) ⊎ ((stepping : Stepping) × (words ≡ demo_name stepping ∷ rest)))
 
 -- the number that a text of digits says, which may begin with a plus
 abbrev pub number_of : Text → ℕ
@@ -90,9 +97,14 @@ abbrev pub form_by : Bool → Form
 form_by true = Two
 form_by false = One
 
+-- how the machine is stepped, by whether that is said
+abbrev pub stepping_by : Bool → Stepping
+stepping_by true = Subticks
+stepping_by false = Events
+
 -- what was found for `stream`, if it has an order
 abbrev pub options_in : List Row → Option StreamOptions
-options_in found = option_map (λ order. record { order = order; buffers = buffers_by (has_flag (codes "wide") found); form = form_by (has_flag (codes "compact") found) }) (order_in found)
+options_in found = option_map (λ order. record { order = order; buffers = buffers_by (has_flag (codes "wide") found); form = form_by (has_flag (codes "compact") found); stepping = stepping_by (has_flag (codes "smooth") found) }) (order_in found)
 
 -- the words enter `stream`, and give it two orders of turns
 abbrev pub AsksTwoOrders : List Text → Type 0
@@ -105,8 +117,8 @@ Refuses words = (fault_of command_line words ≢ []) ⊎ AsksTwoOrders words
 -- the words enter the subcommand that stands for a task, and give it the options, or the number, of the task
 abbrev pub Asks : Task → List Text → Type 0
 Asks (Stream options) words = IsSomeAnd (subcommand_of command_line words) (λ s. (s.0 ≡ codes "stream") × (Some options ≡ options_in s.1))
-Asks (Demo moves) words = IsSomeAnd (subcommand_of command_line words)
-    (λ s. (s.0 ≡ codes "demo") × (Some moves ≡ option_map number_of (one_of (codes "moves") s.1)) × (1 ≤ moves) × (moves ≤ 100000))
+Asks (Demo moves stepping) words = IsSomeAnd (subcommand_of command_line words)
+    (λ s. (s.0 ≡ demo_name stepping) × (Some moves ≡ option_map number_of (one_of (codes "moves") s.1)) × (1 ≤ moves) × (moves ≤ 100000))
 
 -- what is said of a parse that failed
 abbrev pub fault_by_kind : ErrorKind → WordsFault

@@ -8,11 +8,14 @@ ghost use Rattle.clap.specs.Faults.{fault_of};
 ghost use Rattle.clap.specs.Simple.{app_of, subcommand_of, subcommand_rows_of};
 ghost use Rattle.clap.specs.declared.builder.command.Command.TheViews.{out-Command};
 ghost use Rattle.clap.specs.Values.{kind_of};
-ghost use Rattle.command_line.specs.Command.{command_line, ordered_stream, stream_command, demo_command, flag_rule, is_of_words, has_flag, order_by, buffers_by, form_by, Refuses, IsNamed, Asks, fault_by_kind};
+ghost use Rattle.motion_pulse.specs.declared.pulse.Stepping.{Stepping};
+ghost use Rattle.motion_pulse.specs.declared.pulse.Stepping.TheVariants.{Events, Subticks};
+ghost use Rattle.command_line.specs.Command.{command_line, ordered_stream, stream_command, moves_command, demo_name, flag_rule, is_of_words, has_flag, order_by, buffers_by, form_by, stepping_by, Refuses, IsNamed, Asks, fault_by_kind};
 
 use clap::error::ErrorKind;
 use clap::parser::ValueSource;
 use clap::{Arg, ArgAction, ArgMatches, Command, Error, value_parser};
+use motion_pulse::Stepping;
 use std::alloc::{AllocError, Global};
 use step_record::Form;
 
@@ -45,6 +48,8 @@ pub struct StreamOptions {
     pub buffers: Buffers,
     /// The form of the steps.
     pub form: Form,
+    /// How the pulse steps the machine.
+    pub stepping: Stepping,
 }
 
 /// What the words ask for.
@@ -52,8 +57,8 @@ pub struct StreamOptions {
 pub enum Task {
     /// A job is streamed.
     Stream(StreamOptions),
-    /// The generated job of so many moves is run.
-    Demo(u32),
+    /// The generated job of so many moves is run, by a pulse that steps the machine so.
+    Demo(u32, Stepping),
 }
 
 /// Why the words ask for nothing.
@@ -107,25 +112,26 @@ fn ordered_stream<'a>(alloc: Global) -> Result<Command<'a>, AllocError>
         .arg(flag(alloc, "paced"))
 }
 
-/// `stream`, as clap takes it: `--wide` and `--compact` are flags.
+/// `stream`, as clap takes it: `--wide`, `--compact` and `--smooth` are flags.
 fn stream_command<'a>(alloc: Global) -> Result<Command<'a>, AllocError>
     ensures shape { IfOk result (λ c. app_of c ≡ stream_command) }
     ensures local { IfOk result (λ c. (out-Command c).has_globals ≡ false) }
 {
     ordered_stream(alloc)?
         .arg(flag(alloc, "wide"))?
-        .arg(flag(alloc, "compact"))
+        .arg(flag(alloc, "compact"))?
+        .arg(flag(alloc, "smooth"))
 }
 
-/// `demo`, as clap takes it: a number of moves from 1 to 100,000 is required.
-fn demo_command<'a>(alloc: Global) -> Result<Command<'a>, AllocError>
-    ensures shape { IfOk result (λ c. app_of c ≡ demo_command) }
+/// `demo` and `pins`, as clap takes them: a number of moves from 1 to 100,000 is required.
+fn moves_command<'a>(alloc: Global, name: &'a str) -> Result<Command<'a>, AllocError>
+    ensures shape { IfOk result (λ c. app_of c ≡ moves_command name.entry.now) }
     ensures local { IfOk result (λ c. (out-Command c).has_globals ≡ false) }
 {
     let moves = Arg::new(alloc, "moves")
         .required(true)
         .value_parser(value_parser!(u32).range(1..=100_000));
-    Command::new(alloc, "demo").arg(moves)
+    Command::new(alloc, name).arg(moves)
 }
 
 /// The command line as clap takes it.
@@ -136,7 +142,15 @@ fn command_line<'a>(alloc: Global) -> Result<Command<'a>, AllocError>
         .no_binary_name(true)
         .subcommand_required(true)
         .subcommand(stream_command(alloc)?)?
-        .subcommand(demo_command(alloc)?)
+        .subcommand(moves_command(alloc, "demo")?)?
+        .subcommand(moves_command(alloc, "pins")?)
+}
+
+/// Whether a word names a command that runs the generated job.
+fn names_demo(word: &str) -> bool
+    ensures { (result ≡ true) ↔ ((stepping : Stepping) × (word.now ≡ demo_name stepping)) }
+{
+    word == "demo" || word == "pins"
 }
 
 /// Whether the first word names a command.
@@ -144,7 +158,7 @@ fn is_named(words: &[&str]) -> bool
     ensures { (result ≡ true) ↔ IsNamed (map (λ w. w.now) words.now) }
 {
     match words {
-        [first, ..] => *first == "stream" || *first == "demo",
+        [first, ..] => *first == "stream" || names_demo(first),
         [] => false,
     }
 }
@@ -196,6 +210,17 @@ fn form_of(is_compact: bool) -> Form
     if is_compact { Form::Two } else { Form::One }
 }
 
+/// How the machine is stepped, by whether the words say so: `--smooth`, or `pins` in place of `demo`.
+fn stepping_of(is_smooth: bool) -> Stepping
+    ensures { result ≡ stepping_by is_smooth }
+{
+    if is_smooth {
+        Stepping::Subticks
+    } else {
+        Stepping::Events
+    }
+}
+
 /// What clap finds in words. They are refused only if its definition has a fault for them.
 fn matches_of<'a>(alloc: Global, words: &'a [&'a str]) -> Result<ArgMatches<'a>, WordsFault>
     ensures faulty { result ≡ Err WordsFault.Refused → fault_of command_line (map (λ w. w.now) words.now) ≢ [] }
@@ -222,10 +247,11 @@ fn read_by_clap(alloc: Global, words: &[&str]) -> Result<Task, WordsFault>
             order,
             buffers: buffers_of(has_flag(given, "wide")),
             form: form_of(has_flag(given, "compact")),
+            stepping: stepping_of(has_flag(given, "smooth")),
         }));
     }
     match given.get_one("moves") {
-        Some(moves) => Ok(Task::Demo(moves)),
+        Some(moves) => Ok(Task::Demo(moves, stepping_of(name == "pins"))),
         None => unreachable!(),
     }
 }
@@ -245,31 +271,34 @@ pub fn read_words(alloc: Global, words: &[&str]) -> Result<Task, WordsFault>
     read_by_clap(alloc, words)
 }
 
-/// What the definition of the command line means. Accepted words begin with `stream` or `demo`, and ask for a task; words ask
+/// What the definition of the command line means. Accepted words begin with `stream`, `demo` or `pins`, and ask for a task; words ask
 /// for one at most. A seed is any number that 64 bits hold, after `--lockstep` or `--lockstep=`, and is given once at most, and
-/// not with `--paced`. `--paced`, `--wide` and `--compact` are given once at most each, before or after other options. A number of moves is
-/// given, once, and is at least 1 and at most 100,000. A request for help is a fault as well.
+/// not with `--paced`. `--paced`, `--wide`, `--compact` and `--smooth` are given once at most each, before or after other options. A number
+/// of moves is given, once, and is at least 1 and at most 100,000. A request for help is a fault as well.
 pub fn accepted_words()
     ensures begins { (words : List Text) → ¬ Refuses words → IsNamed words }
     ensures one { (words : List Text) (a b : Task) → Asks a words → Asks b words → a ≡ b }
     ensures some { (words : List Text) → ¬ Refuses words → (task : Task) × Asks task words }
-    ensures stream { Asks (Task.Stream (record { order = Order.Threads; buffers = Buffers.Standard; form = Form.One })) (codes "stream" ∷ []) × (¬ Refuses (codes "stream" ∷ [])) }
+    ensures stream { Asks (Task.Stream (record { order = Order.Threads; buffers = Buffers.Standard; form = Form.One; stepping = Events })) (codes "stream" ∷ []) × (¬ Refuses (codes "stream" ∷ [])) }
     ensures no_more { fault_of command_line (codes "stream" ∷ codes "--" ∷ []) ≡ [] }
-    ensures seed { Asks (Task.Stream (record { order = (Order.Lockstep 7); buffers = Buffers.Standard; form = Form.One })) (codes "stream" ∷ codes "--lockstep" ∷ codes "7" ∷ [])
+    ensures seed { Asks (Task.Stream (record { order = (Order.Lockstep 7); buffers = Buffers.Standard; form = Form.One; stepping = Events })) (codes "stream" ∷ codes "--lockstep" ∷ codes "7" ∷ [])
         × (¬ Refuses (codes "stream" ∷ codes "--lockstep" ∷ codes "7" ∷ [])) }
-    ensures largest_seed { Asks (Task.Stream (record { order = (Order.Lockstep 18446744073709551615); buffers = Buffers.Standard; form = Form.One })) (codes "stream" ∷ codes "--lockstep=18446744073709551615" ∷ [])
+    ensures largest_seed { Asks (Task.Stream (record { order = (Order.Lockstep 18446744073709551615); buffers = Buffers.Standard; form = Form.One; stepping = Events })) (codes "stream" ∷ codes "--lockstep=18446744073709551615" ∷ [])
         × (¬ Refuses (codes "stream" ∷ codes "--lockstep=18446744073709551615" ∷ [])) }
-    ensures paced { Asks (Task.Stream (record { order = Order.Paced; buffers = Buffers.Standard; form = Form.One })) (codes "stream" ∷ codes "--paced" ∷ []) × (¬ Refuses (codes "stream" ∷ codes "--paced" ∷ [])) }
-    ensures compact { Asks (Task.Stream (record { order = Order.Threads; buffers = Buffers.Standard; form = Form.Two })) (codes "stream" ∷ codes "--compact" ∷ []) × (¬ Refuses (codes "stream" ∷ codes "--compact" ∷ [])) }
-    ensures compact_by_seed { Asks (Task.Stream (record { order = (Order.Lockstep 7); buffers = Buffers.Standard; form = Form.Two })) (codes "stream" ∷ codes "--compact" ∷ codes "--lockstep" ∷ codes "7" ∷ [])
+    ensures paced { Asks (Task.Stream (record { order = Order.Paced; buffers = Buffers.Standard; form = Form.One; stepping = Events })) (codes "stream" ∷ codes "--paced" ∷ []) × (¬ Refuses (codes "stream" ∷ codes "--paced" ∷ [])) }
+    ensures compact { Asks (Task.Stream (record { order = Order.Threads; buffers = Buffers.Standard; form = Form.Two; stepping = Events })) (codes "stream" ∷ codes "--compact" ∷ []) × (¬ Refuses (codes "stream" ∷ codes "--compact" ∷ [])) }
+    ensures compact_by_seed { Asks (Task.Stream (record { order = (Order.Lockstep 7); buffers = Buffers.Standard; form = Form.Two; stepping = Events })) (codes "stream" ∷ codes "--compact" ∷ codes "--lockstep" ∷ codes "7" ∷ [])
         × (¬ Refuses (codes "stream" ∷ codes "--compact" ∷ codes "--lockstep" ∷ codes "7" ∷ [])) }
-    ensures seed_and_compact { Asks (Task.Stream (record { order = (Order.Lockstep 7); buffers = Buffers.Standard; form = Form.Two })) (codes "stream" ∷ codes "--lockstep=7" ∷ codes "--compact" ∷ [])
+    ensures seed_and_compact { Asks (Task.Stream (record { order = (Order.Lockstep 7); buffers = Buffers.Standard; form = Form.Two; stepping = Events })) (codes "stream" ∷ codes "--lockstep=7" ∷ codes "--compact" ∷ [])
         × (¬ Refuses (codes "stream" ∷ codes "--lockstep=7" ∷ codes "--compact" ∷ [])) }
-    ensures compact_and_paced { Asks (Task.Stream (record { order = Order.Paced; buffers = Buffers.Standard; form = Form.Two })) (codes "stream" ∷ codes "--compact" ∷ codes "--paced" ∷ [])
+    ensures compact_and_paced { Asks (Task.Stream (record { order = Order.Paced; buffers = Buffers.Standard; form = Form.Two; stepping = Events })) (codes "stream" ∷ codes "--compact" ∷ codes "--paced" ∷ [])
         × (¬ Refuses (codes "stream" ∷ codes "--compact" ∷ codes "--paced" ∷ [])) }
-    ensures wide { Asks (Task.Stream (record { order = Order.Threads; buffers = Buffers.Wide; form = Form.One })) (codes "stream" ∷ codes "--wide" ∷ []) × (¬ Refuses (codes "stream" ∷ codes "--wide" ∷ [])) }
-    ensures wide_by_seed { Asks (Task.Stream (record { order = (Order.Lockstep 7); buffers = Buffers.Wide; form = Form.Two })) (codes "stream" ∷ codes "--lockstep=7" ∷ codes "--wide" ∷ codes "--compact" ∷ [])
+    ensures wide { Asks (Task.Stream (record { order = Order.Threads; buffers = Buffers.Wide; form = Form.One; stepping = Events })) (codes "stream" ∷ codes "--wide" ∷ []) × (¬ Refuses (codes "stream" ∷ codes "--wide" ∷ [])) }
+    ensures wide_by_seed { Asks (Task.Stream (record { order = (Order.Lockstep 7); buffers = Buffers.Wide; form = Form.Two; stepping = Events })) (codes "stream" ∷ codes "--lockstep=7" ∷ codes "--wide" ∷ codes "--compact" ∷ [])
         × (¬ Refuses (codes "stream" ∷ codes "--lockstep=7" ∷ codes "--wide" ∷ codes "--compact" ∷ [])) }
+    ensures smooth { Asks (Task.Stream (record { order = Order.Threads; buffers = Buffers.Standard; form = Form.One; stepping = Subticks })) (codes "stream" ∷ codes "--smooth" ∷ []) × (¬ Refuses (codes "stream" ∷ codes "--smooth" ∷ [])) }
+    ensures smooth_by_seed { Asks (Task.Stream (record { order = (Order.Lockstep 7); buffers = Buffers.Wide; form = Form.Two; stepping = Subticks })) (codes "stream" ∷ codes "--smooth" ∷ codes "--lockstep=7" ∷ codes "--wide" ∷ codes "--compact" ∷ [])
+        × (¬ Refuses (codes "stream" ∷ codes "--smooth" ∷ codes "--lockstep=7" ∷ codes "--wide" ∷ codes "--compact" ∷ [])) }
     ensures paced_by_seed { Refuses (codes "stream" ∷ codes "--paced" ∷ codes "--lockstep=7" ∷ []) }
     ensures seed_and_paced { Refuses (codes "stream" ∷ codes "--lockstep=7" ∷ codes "--paced" ∷ []) }
     ensures seed_too_large { fault_of command_line (codes "stream" ∷ codes "--lockstep" ∷ codes "18446744073709551616" ∷ []) ≡ ErrorKind.ValueValidation ∷ [] }
@@ -283,8 +312,11 @@ pub fn accepted_words()
     ensures compact_has_no_value { fault_of command_line (codes "stream" ∷ codes "--compact=2" ∷ []) ≡ ErrorKind.TooManyValues ∷ [] }
     ensures compact_demo { fault_of command_line (codes "demo" ∷ codes "3" ∷ codes "--compact" ∷ []) ≡ ErrorKind.UnknownArgument ∷ [] }
     ensures two_seeds { fault_of command_line (codes "stream" ∷ codes "--lockstep=1" ∷ codes "--lockstep=2" ∷ []) ≡ ErrorKind.ArgumentConflict ∷ [] }
-    ensures moves { Asks (Task.Demo 3) (codes "demo" ∷ codes "3" ∷ []) × (fault_of command_line (codes "demo" ∷ codes "3" ∷ []) ≡ []) }
-    ensures most_moves { Asks (Task.Demo 100000) (codes "demo" ∷ codes "100000" ∷ []) × (fault_of command_line (codes "demo" ∷ codes "100000" ∷ []) ≡ []) }
+    ensures moves { Asks (Task.Demo 3 Events) (codes "demo" ∷ codes "3" ∷ []) × (fault_of command_line (codes "demo" ∷ codes "3" ∷ []) ≡ []) }
+    ensures most_moves { Asks (Task.Demo 100000 Events) (codes "demo" ∷ codes "100000" ∷ []) × (fault_of command_line (codes "demo" ∷ codes "100000" ∷ []) ≡ []) }
+    ensures pins { Asks (Task.Demo 3 Subticks) (codes "pins" ∷ codes "3" ∷ []) × (fault_of command_line (codes "pins" ∷ codes "3" ∷ []) ≡ []) }
+    ensures no_pins { fault_of command_line (codes "pins" ∷ codes "0" ∷ []) ≡ ErrorKind.ValueValidation ∷ [] }
+    ensures smooth_demo { fault_of command_line (codes "demo" ∷ codes "3" ∷ codes "--smooth" ∷ []) ≡ ErrorKind.UnknownArgument ∷ [] }
     ensures too_many { fault_of command_line (codes "demo" ∷ codes "100001" ∷ []) ≡ ErrorKind.ValueValidation ∷ [] }
     ensures too_few { fault_of command_line (codes "demo" ∷ codes "0" ∷ []) ≡ ErrorKind.ValueValidation ∷ [] }
     ensures no_moves { fault_of command_line (codes "demo" ∷ []) ≡ ErrorKind.MissingRequiredArgument ∷ [] }

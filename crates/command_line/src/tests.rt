@@ -1,6 +1,7 @@
 //! Words, and what they ask for.
 
 use super::{Buffers, Order, StreamOptions, Task, WordsFault, read_words};
+use motion_pulse::Stepping;
 use step_record::Form;
 
 /// A stream with buffers as on a Grbl.
@@ -9,6 +10,7 @@ fn stream_of(order: Order, form: Form) -> Task {
         order,
         buffers: Buffers::Standard,
         form,
+        stepping: Stepping::Events,
     })
 }
 
@@ -22,9 +24,16 @@ fn words_ask_for_a_task_or_are_refused(rt: HostRuntime) {
         order: Order::Threads,
         buffers: Buffers::Wide,
         form: Form::Two,
+        stepping: Stepping::Events,
+    }));
+    let smooth = Ok(Task::Stream(StreamOptions {
+        order: Order::Paced,
+        buffers: Buffers::Standard,
+        form: Form::One,
+        stepping: Stepping::Subticks,
     }));
     let refused = Err(WordsFault::Refused);
-    let rows: [(&[&str], Result<Task, WordsFault>); 57] = [
+    let rows: [(&[&str], Result<Task, WordsFault>); 68] = [
         (&[], refused),
         (&["stream"], stream),
         (&["stream", "--"], stream),
@@ -81,15 +90,32 @@ fn words_ask_for_a_task_or_are_refused(rt: HostRuntime) {
         (&["stream", "--wide", "--wide"], refused),
         (&["stream", "--wide=255"], refused),
         (&["demo", "3", "--wide"], refused),
+        (&["stream", "--smooth", "--paced"], smooth),
+        (&["stream", "--paced", "--smooth", "--"], smooth),
+        (&["stream", "--smooth", "--smooth"], refused),
+        (&["stream", "--smooth=3"], refused),
+        (&["--smooth", "stream"], refused),
         (&["--compact", "stream"], refused),
         (&["demo", "3", "--compact"], refused),
-        (&["demo", "1"], Ok(Task::Demo(1))),
-        (&["demo", "--", "100000"], Ok(Task::Demo(100_000))),
+        (&["demo", "1"], Ok(Task::Demo(1, Stepping::Events))),
+        (
+            &["demo", "--", "100000"],
+            Ok(Task::Demo(100_000, Stepping::Events)),
+        ),
         (&["demo", "0"], refused),
         (&["demo", "100001"], refused),
         (&["demo", "4294967297"], refused),
         (&["demo", "1", "2"], refused),
         (&["demo"], refused),
+        (&["demo", "3", "--smooth"], refused),
+        (&["pins", "1"], Ok(Task::Demo(1, Stepping::Subticks))),
+        (
+            &["pins", "100000"],
+            Ok(Task::Demo(100_000, Stepping::Subticks)),
+        ),
+        (&["pins", "0"], refused),
+        (&["pins", "100001"], refused),
+        (&["pins"], refused),
         (&["--", "stream"], refused),
         (&["STREAM"], refused),
         (&["grbl", "stream"], refused),

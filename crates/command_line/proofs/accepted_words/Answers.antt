@@ -148,3 +148,23 @@ returns-clause-version c = refl
 pub returns-clause-other : goal.returns-clause-other
 unfolding clap_on_literals
 returns-clause-other c = refl
+
+pub returns-clause-smooth : goal.returns-clause-smooth
+unfolding clap_on_literals
+returns-clause-smooth c = ((refl, refl), λ refused. elim refused [ inl fault ↦ fault refl | inr two ↦ cc ])
+
+pub returns-clause-smooth_by_seed : goal.returns-clause-smooth_by_seed
+unfolding clap_on_literals
+returns-clause-smooth_by_seed c = ((refl, refl), λ refused. elim refused [ inl fault ↦ fault refl | inr two ↦ cc ])
+
+pub returns-clause-pins : goal.returns-clause-pins
+unfolding clap_on_literals
+returns-clause-pins c = ((refl, refl, omega arith, omega arith), refl)
+
+pub returns-clause-no_pins : goal.returns-clause-no_pins
+unfolding clap_on_literals
+returns-clause-no_pins c = refl
+
+pub returns-clause-smooth_demo : goal.returns-clause-smooth_demo
+unfolding clap_on_literals
+returns-clause-smooth_demo c = refl
