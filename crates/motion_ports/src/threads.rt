@@ -4,8 +4,8 @@
 ghost use Rattle.motion_ports.specs.MotionSides.{PulseIsNew, PulseRanAt, RecorderIsNew, RecorderRanAt};
 
 use crate::{PiecePort, RecordOut, RecordPort};
+use motion_pulse::MotionPulse;
 use outside::{Actor, Gate, Sink};
-use pulse_engine::Pulse;
 use shared_rings::is_last;
 use std::sync::Wait;
 use std::thread::{Threads, join_mut};
@@ -14,7 +14,7 @@ use step_record::Recorder;
 /// The pulse, and its ends of the ring of pieces and of the ring of records.
 #[derive(Drop)]
 pub struct PulseSide {
-    pub pulse: Pulse,
+    pub pulse: MotionPulse,
     pub pieces: PiecePort,
     pub records: RecordOut,
 }

@@ -1,4 +1,4 @@
-use Rattle.std.proofs.Common.{◌≡◌, ℕ, ◌+◌, ◌∷◌, ◌++◌, List, length, map, ap, ◌∙◌, arith, length-append}
+use Rattle.std.proofs.Common.{◌≡◌, ◌+◌, ◌∷◌, ◌++◌, List, length, map, ap, ◌∙◌, arith, length-append}
 use Rattle.step_line.specs.declared.Piece.{Piece}
 use Rattle.motion_ring.specs.Sides.{passed_in}
 use Rattle.motion_ring.specs.Ends.{taken_by}
