@@ -1,5 +1,5 @@
 -- What a turn of one actor makes of what was done.
-use Rattle.std.proofs.Common.{ℕ, List, [], refl}
+use Rattle.std.proofs.Common.{◌≡◌, ◌∙◌, ℕ, List, [], refl}
 use Rattle.outside.specs.Causes.{SourceState, SinkState}
 use Rattle.outside.specs.declared.Actor.{Actor}
 use Rattle.outside.specs.declared.Actor.TheVariants as actors
@@ -15,8 +15,9 @@ use Rattle.controller.specs.declared.controller.Controller.{Controller}
 use Rattle.controller.specs.Boards.{BoardFits, BoardTurned}
 use Rattle.controller.specs.Boards.{IsBetween as IsBetweenOfBoard}
 use Rattle.pulse_engine.specs.Logs.{PieceLog, RecordLog}
-use Rattle.pulse_engine.specs.Steps.{Pulsing}
-use Rattle.pulse_engine.specs.Turns.{PulseFits, PulseTurned}
+use Rattle.pulse_engine.specs.Turns.{PulseTurned}
+use Rattle.motion_pulse.specs.declared.pulse.MotionPulse.{MotionPulse}
+use Rattle.motion_pulse.specs.Pulses.{MotionFits, stepping_of}
 use Rattle.step_record.specs.Taking.{Log}
 use Rattle.step_record.specs.Recording.{Recording, RecorderFitsOn, RecorderTurned}
 use Rattle.list_ports.specs.Passing.{HandsOn}
@@ -56,7 +57,7 @@ pub host_moves : {N : ℕ} (w : Seen N) (host' : Host) (lists' : Listed) (t : Tu
 host_moves w host' lists' t job job' console console' steps turns = record {
   on = λ hist h. let n = turns (board_log hist.board, hist.pulse) hist.host h.joined h.host h.host_between in (
     record hist { host = n.0 },
-    record { joined = n.1; passed = h.passed; host = n.2; host_between = n.3; board = h.board; board_between = h.board_between; pulse = h.pulse },
+    record { joined = n.1; passed = h.passed; host = n.2; host_between = n.3; board = h.board; board_between = h.board_between; pulse = h.pulse; stepping = h.stepping },
     record { host = n.5; recorder = record { on = λ form was r. r } },
     (refl, n.4),
   );
@@ -69,20 +70,21 @@ pub board_moves : {N : ℕ} (w : Seen N) (board' : Controller N) (lists' : Liste
 board_moves w board' lists' t now turns = record {
   on = λ hist h. let n = turns (host_log hist.host, hist.pulse) hist.board h.joined h.board h.board_between in (
     record hist { board = n.0 },
-    record { joined = n.1; passed = h.passed; host = h.host; host_between = h.host_between; board = n.2; board_between = n.3; pulse = h.pulse },
+    record { joined = n.1; passed = h.passed; host = h.host; host_between = h.host_between; board = n.2; board_between = n.3; pulse = h.pulse; stepping = h.stepping },
     record { host = record { job = λ was x. x; console = λ was x. x }; recorder = record { on = λ form was r. r } },
     (refl, n.4),
   );
 }
 
-pub pulse_moves : {N : ℕ} (w : Seen N) (pulse' : Pulsing) (lists' : Listed) (waiting' : List Record) (t : Turn) (now : Devices)
-    → ((far : HostLog × BoardLog) (back : Log) (h : PieceLog) (k : RecordLog) → Joined w.lists far.0 far.1 h → HandsOn w.waiting k back → PulseFits w.pulse h k
-    → (h' : PieceLog) × (k' : RecordLog) × Joined lists' far.0 far.1 h' × HandsOn waiting' k' back × PulseFits pulse' h' k' × PulseTurned t h k h' k')
+pub pulse_moves : {N : ℕ} (w : Seen N) (pulse' : MotionPulse) (lists' : Listed) (waiting' : List Record) (t : Turn) (now : Devices)
+    → ((far : HostLog × BoardLog) (back : Log) (h : PieceLog) (k : RecordLog) → Joined w.lists far.0 far.1 h → HandsOn w.waiting k back → MotionFits w.pulse h k
+    → (h' : PieceLog) × (k' : RecordLog) × Joined lists' far.0 far.1 h' × HandsOn waiting' k' back × MotionFits pulse' h' k' × PulseTurned t h k h' k')
+    → stepping_of pulse' ≡ stepping_of w.pulse
     → Moves actors.Pulse t now now w (record w { pulse = pulse'; lists = lists'; waiting = waiting' })
-pulse_moves w pulse' lists' waiting' t now turns = record {
+pulse_moves w pulse' lists' waiting' t now turns same = record {
   on = λ hist h. let n = turns (host_log hist.host, board_log hist.board) hist.takes hist.pulse hist.puts h.joined h.passed h.pulse in (
     record hist { pulse = n.0; puts = n.1 },
-    record { joined = n.2; passed = n.3; host = h.host; host_between = h.host_between; board = h.board; board_between = h.board_between; pulse = n.4 },
+    record { joined = n.2; passed = n.3; host = h.host; host_between = h.host_between; board = h.board; board_between = h.board_between; pulse = n.4; stepping = same ∙ h.stepping },
     record { host = record { job = λ was x. x; console = λ was x. x }; recorder = record { on = λ form was r. r } },
     (refl, n.5),
   );
@@ -95,7 +97,7 @@ pub recorder_moves : {N : ℕ} (w : Seen N) (recorder' : Recording) (waiting' : 
 recorder_moves w recorder' waiting' t job console steps steps' turns = record {
   on = λ hist h. let n = turns hist.puts hist.takes h.passed in (
     record hist { takes = n.0 },
-    record { joined = h.joined; passed = n.1; host = h.host; host_between = h.host_between; board = h.board; board_between = h.board_between; pulse = h.pulse },
+    record { joined = h.joined; passed = n.1; host = h.host; host_between = h.host_between; board = h.board; board_between = h.board_between; pulse = h.pulse; stepping = h.stepping },
     record { host = record { job = λ was x. x; console = λ was x. x }; recorder = n.2 },
     (refl, n.3),
   );

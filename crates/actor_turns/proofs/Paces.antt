@@ -11,6 +11,7 @@ use Rattle.board_epochs.specs.Epochs.Epochs.{goes, resets}
 use Rattle.controller.specs.declared.controller.Controller.{Controller}
 use Rattle.controller.specs.Boards.{BoardTurned, added, parted}
 use Rattle.pulse_engine.specs.Steps.{AwaitsPiece}
+use Rattle.motion_pulse.specs.Pulses.{seen_of}
 use Rattle.actor_turns.specs.Worlds.{Seen, History, Devices, Holds, Adds, Turns, TurnsOn, HasRunOn}
 use Rattle.actor_turns.specs.declared.pacing.Pace.{Pace}
 use Rattle.actor_turns.specs.Pacing.{first_pace, to_motion, to_host, after_turn, pace_after, PacedTurns, IsPaced, RunsPaced, BoardSaid, BoardIdles, FoundNothing}
@@ -18,7 +19,7 @@ use Rattle.actor_turns.specs.Pacing.{first_pace, to_motion, to_host, after_turn,
 -- ---- one turn more
 
 paced_one_more : {N : ℕ} (schedule : List Actor) (actor : Actor) (t : Turn) (between : Bool) (p q : Pace) (w mid w' : Seen N) (hist done next : History) → PacedTurns schedule p q w mid hist done
-    → actor ≡ q.next → Adds actor t mid w' done next → Holds w' next → ((between ≡ true) ↔ AwaitsPiece w'.pulse)
+    → actor ≡ q.next → Adds actor t mid w' done next → Holds w' next → ((between ≡ true) ↔ AwaitsPiece (seen_of w'.pulse))
     → PacedTurns (schedule ++ actor ∷ []) p (pace_after t between q) w w' hist next
 paced_one_more {N} [] actor t between p q w mid w' hist done next same is adds holds awaits = (
   t,
@@ -49,7 +50,7 @@ paced_nothing now w = record { schedule = []; on = λ form was hist st. (hist, s
 
 -- the turn of the actor that is next
 pub paced_more : {N : ℕ} (p next_pace : Pace) (t : Turn) (between : Bool) (before now after : Devices) (w mid w' : Seen N) → IsPaced p before now w mid → TurnsOn p.next t now after mid w'
-    → ((between ≡ true) ↔ AwaitsPiece w'.pulse) → next_pace ≡ pace_after t between p → IsPaced next_pace before after w w'
+    → ((between ≡ true) ↔ AwaitsPiece (seen_of w'.pulse)) → next_pace ≡ pace_after t between p → IsPaced next_pace before after w w'
 paced_more p next_pace t between before now after w mid w' so turns awaits is = record {
   schedule = so.schedule ++ p.next ∷ [];
   on = λ form was hist st.

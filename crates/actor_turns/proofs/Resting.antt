@@ -8,10 +8,9 @@ use Rattle.outside.specs.declared.Turn.TheVariants.{Wait}
 use Rattle.outside.specs.declared.On.TheVariants as on
 use Rattle.stream_host.specs.Steps.{HostLog}
 use Rattle.board_rules.specs.Ports.{BoardLog}
-use Rattle.pulse_engine.specs.Logs.{PieceLog, RecordLog}
+use Rattle.pulse_engine.specs.Logs.{PieceLog}
 use Rattle.pulse_engine.specs.Logs.PieceEvent.{asked, none}
-use Rattle.pulse_engine.specs.Steps.{Pulsing}
-use Rattle.pulse_engine.specs.Turns.{PulseFits}
+use Rattle.motion_pulse.proofs.Waiting.{fits_none as pulse_fits}
 use Rattle.step_record.specs.Taking.Event.{none as no_record}
 use Rattle.step_record.proofs.Turns.{fits_none}
 use Rattle.list_ports.specs.Joining.{Listed, Joined}
@@ -34,12 +33,9 @@ joined_none l host board h j = record {
   asks = j.asks;
 }
 
-pulse_fits : (p : Pulsing) (h : PieceLog) (k : RecordLog) → PulseFits p h k → PulseFits p (none ∷ (asked false ∷ h)) k
-pulse_fits p h k f = record { turns = f.turns; records = f.records; waits = f.waits; ticks = f.ticks; left = f.left; reach = f.reach; end = f.end; last = f.last }
-
 pulse_rests : {N : ℕ} (w : Seen N) (now : Devices) → TurnsOn actors.Pulse (Wait on.Piece) now now w w
 pulse_rests w now = turns_on _ _ _ _ _ _ (pulse_moves w w.pulse w.lists w.waiting (Wait on.Piece) now (λ far back h k joined passed fits.
-    (none ∷ (asked false ∷ h), k, joined_none _ _ _ _ joined, passed, pulse_fits _ _ _ fits, (refl, refl))))
+    (none ∷ (asked false ∷ h), k, joined_none _ _ _ _ joined, passed, pulse_fits _ _ _ fits, (refl, refl))) refl)
 
 recorder_rests : {N : ℕ} (w : Seen N) (now : Devices) → MotionRests w → TurnsOn actors.Record (Wait on.Records) now now w w
 recorder_rests w now r = turns_on _ _ _ _ _ _ (recorder_moves w w.recorder w.waiting (Wait on.Records) now.job now.console now.steps now.steps (λ far log passed.

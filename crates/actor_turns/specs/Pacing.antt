@@ -12,6 +12,7 @@ use Rattle.board_rules.specs.Steps.Step.{turned as board_turned}
 use Rattle.board_epochs.specs.Epochs.{Epochs}
 use Rattle.board_epochs.specs.Epochs.Epochs.{goes, resets}
 use Rattle.pulse_engine.specs.Steps.{AwaitsPiece}
+use Rattle.motion_pulse.specs.Pulses.{seen_of}
 use Rattle.step_record.specs.declared.forms.Form.{Form}
 use Rattle.actor_turns.specs.Worlds.{Seen, History, Devices, Holds, Stands, Adds}
 use Rattle.actor_turns.specs.declared.pacing.Pace.{Pace}
@@ -79,7 +80,7 @@ abbrev pub PacedTurns : {N : ℕ} → List Actor → Pace → Pace → Seen N �
 PacedTurns [] p p' w w' hist next = (p' ≡ p) × (w' ≡ w) × (next ≡ hist)
 PacedTurns {N} (actor ∷ schedule) p p' w w' hist next =
     (t : Turn) × (between : Bool) × (mid : Seen N) × (done : History) × (actor ≡ p.next) × Adds actor t w mid hist done × Holds mid done
-    × ((between ≡ true) ↔ AwaitsPiece mid.pulse) × PacedTurns schedule (pace_after t between p) p' mid w' done next
+    × ((between ≡ true) ↔ AwaitsPiece (seen_of mid.pulse)) × PacedTurns schedule (pace_after t between p) p' mid w' done next
 
 -- so far, up to this pace: whatever was done before, and since whatever moment, there is what was done after the turns
 pub record IsPaced {N : ℕ} (pace : Pace) (before after : Devices) (w w' : Seen N) : Type 0 where

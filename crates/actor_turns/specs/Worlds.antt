@@ -25,8 +25,11 @@ use Rattle.motion_ring.specs.Sides.{unfinished_in}
 use Rattle.serial_ring.specs.Logs.{marked_in}
 use Rattle.serial_ring.specs.Marks.{Mark, AreMarks, latest}
 use Rattle.pulse_engine.specs.Logs.{PieceLog, RecordLog, pieces_of, got_since, counted, halts_of, records_put}
-use Rattle.pulse_engine.specs.Steps.{Pulsing, AwaitsPiece}
-use Rattle.pulse_engine.specs.Turns.{PulseFits, PulseTurned}
+use Rattle.pulse_engine.specs.Steps.{AwaitsPiece}
+use Rattle.pulse_engine.specs.Turns.{PulseTurned}
+use Rattle.motion_pulse.specs.declared.pulse.MotionPulse.{MotionPulse}
+use Rattle.motion_pulse.specs.declared.pulse.Stepping.{Stepping}
+use Rattle.motion_pulse.specs.Pulses.{MotionFits, pins_of, seen_of, stepping_of}
 use Rattle.step_record.specs.Taking.{Log, records}
 use Rattle.step_record.specs.declared.forms.Form.{Form}
 use Rattle.step_record.specs.Recording.{Recording, RecorderFits, RecorderTurned, Rests, Takes}
@@ -52,22 +55,28 @@ pub record Seen (slots : ℕ) : Type 0 where
   pub room : ℕ
   pub host : Host
   pub board : Controller slots
-  pub pulse : Pulsing
+  pub pulse : MotionPulse
   pub recorder : Recording
   pub lists : Listed
   pub waiting : List AnyRecord
 
--- what was done: the journal of the host, the epochs of the board, what the pulse did with pieces, the records put, and those taken
+-- what was done: the journal of the host, the epochs of the board, what the pulse did with pieces, the records put, and those taken; and
+-- how the pulse steps the machine
 pub record History : Type 0 where
   pub host : HostJournal
   pub board : Epochs
   pub pulse : PieceLog
   pub puts : RecordLog
   pub takes : Log
+  pub stepping : Stepping
 
--- nothing was done
-abbrev pub no_history : History
-no_history = record { host = []; board = goes [] []; pulse = []; puts = []; takes = [] }
+-- nothing was done, with a pulse of this kind
+abbrev pub no_history : Stepping → History
+no_history stepping = record { host = []; board = goes [] []; pulse = []; puts = []; takes = []; stepping = stepping }
+
+-- how many subticks the pulse has handed out
+abbrev pub pins_in : History → ℕ
+pins_in hist = pins_of hist.stepping hist.puts
 
 -- what a world says of what was done, with no word of a device
 pub record Holds {N : ℕ} (w : Seen N) (hist : History) : Type 0 where
@@ -77,7 +86,8 @@ pub record Holds {N : ℕ} (w : Seen N) (hist : History) : Type 0 where
   pub host_between : IsBetweenOfHost hist.host
   pub board : BoardFits w.board hist.board
   pub board_between : IsBetweenOfBoard hist.board
-  pub pulse : PulseFits w.pulse hist.pulse hist.puts
+  pub pulse : MotionFits w.pulse hist.pulse hist.puts
+  pub stepping : stepping_of w.pulse ≡ hist.stepping
 
 -- there is such a history
 abbrev pub HasHistory : {N : ℕ} → Seen N → Type 0
@@ -158,7 +168,7 @@ ActsAlone actors.Record w w' = w' ≡ record w { recorder = w'.recorder; waiting
 abbrev pub IsDone : {N : ℕ} → Actor → Seen N → Type 0
 IsDone actors.Host w = HostRests w.host
 IsDone actors.Board w = BoardRests w.board
-IsDone actors.Pulse w = w.pulse.over ≡ true
+IsDone actors.Pulse w = (seen_of w.pulse).over ≡ true
 IsDone actors.Record w = Rests w.recorder
 
 -- all four are
@@ -178,7 +188,7 @@ pub record OffersNothing {N : ℕ} (w : Seen N) : Type 0 where
 pub record MotionRests {N : ℕ} (w : Seen N) : Type 0 where
   pub nothing : OffersNothing w
   pub no_record : w.waiting ≡ []
-  pub pulse : AwaitsPiece w.pulse
+  pub pulse : AwaitsPiece (seen_of w.pulse)
   pub recorder : Takes w.recorder
 
 -- ---- turns one after the other

@@ -17,6 +17,6 @@ mod world;
 pub use laws::{worlds_count_reports, worlds_run};
 pub use lockstep::{Order, run_lockstep};
 pub use pacing::{paced_motion_waits, run_paced};
-pub use runs::{run_at_a_pace, run_in_lockstep};
+pub use runs::{CountedEnd, count_in_lockstep, run_at_a_pace, run_in_lockstep};
 pub use schedule::run_schedule;
 pub use world::World;

@@ -8,14 +8,17 @@ ghost use Rattle.controller.specs.Boards.{BoardRests};
 ghost use Rattle.step_record.specs.Recording.{Rests};
 ghost use Rattle.step_record.specs.declared.forms.Form.{Form};
 ghost use Rattle.pulse_engine.specs.Steps.{AwaitsPiece};
-ghost use Rattle.actor_turns.specs.Worlds.{Devices, devices, History, no_history, Holds, Stands, LinkIsKept, FlagsAreKept, MotionIsKept, TurnsOn, ActsAlone, IsDone, AreDone, OffersNothing, MotionRests, end_after, HasRun, HasRunAlone};
+ghost use Rattle.motion_pulse.specs.Pulses.{seen_of};
+ghost use Rattle.motion_pulse.specs.declared.pulse.Stepping.TheVariants.{Events, Subticks};
+ghost use Rattle.motion_pulse.specs.declared.pulse.Stepping.{Stepping};
+ghost use Rattle.actor_turns.specs.Worlds.{Devices, devices, History, no_history, pins_in, Holds, Stands, LinkIsKept, FlagsAreKept, MotionIsKept, TurnsOn, ActsAlone, IsDone, AreDone, OffersNothing, MotionRests, end_after, HasRun, HasRunAlone};
 ghost use Rattle.actor_turns.specs.Lockstep.{number_of};
 
 use crate::worlds_run;
 use controller::Controller;
 use list_ports::{Lists, Records};
+use motion_pulse::{MotionPulse, Stepping};
 use outside::{Actor, OutOfMemory, Sink, Source, Turn};
-use pulse_engine::Pulse;
 use run_law::RunEnd;
 use std::alloc::Global;
 use std::marker::Model;
@@ -28,7 +31,7 @@ use stream_host::Host;
 pub struct World<const RX: usize, const N: usize> {
     host: Host,
     board: Controller<N>,
-    pulse: Pulse,
+    pulse: MotionPulse,
     recorder: Recorder,
     lists: Lists<RX>,
     waiting: Records,
@@ -45,17 +48,42 @@ impl<const RX: usize, const N: usize> Model for World<RX, N> {
 }
 
 impl<const RX: usize, const N: usize> World<RX, N> {
-    /// A world in which nothing was done, whose recorder has a form. All room is taken here.
+    /// A world in which nothing was done, whose recorder has a form, and whose pulse steps the machine event by event. All room is
+    /// taken here.
     pub fn new(alloc: Global, form: Form) -> Result<World<RX, N>, OutOfMemory>
         requires room { IsRoom RX }
         requires slots { (2 ≤ N) × (N ≤ 64) }
-        ensures fresh { IfOk result (λ world. (now : Devices) → Stands form now now world no_history) }
+        ensures fresh { IfOk result (λ world. (now : Devices) → Stands form now now world (no_history Events)) }
+        ensures room { IfOk result (λ world. world.room ≡ RX) }
+    {
+        World::stepping(alloc, form, Stepping::Events)
+    }
+
+    /// Such a world whose pulse hands out the subticks of each event, so that slow axes step in between. All room is taken here.
+    pub fn smooth(alloc: Global, form: Form) -> Result<World<RX, N>, OutOfMemory>
+        requires room { IsRoom RX }
+        requires slots { (2 ≤ N) × (N ≤ 64) }
+        ensures fresh { IfOk result (λ world. (now : Devices) → Stands form now now world (no_history Subticks)) }
+        ensures room { IfOk result (λ world. world.room ≡ RX) }
+    {
+        World::stepping(alloc, form, Stepping::Subticks)
+    }
+
+    /// Such a world with a pulse of either kind.
+    pub(crate) fn stepping(
+        alloc: Global,
+        form: Form,
+        stepping: Stepping,
+    ) -> Result<World<RX, N>, OutOfMemory>
+        requires room { IsRoom RX }
+        requires slots { (2 ≤ N) × (N ≤ 64) }
+        ensures fresh { IfOk result (λ world. (now : Devices) → Stands form now now world (no_history stepping)) }
         ensures room { IfOk result (λ world. world.room ≡ RX) }
     {
         Ok(World {
             host: Host::new(RX as u8),
             board: Controller::new(),
-            pulse: Pulse::new(),
+            pulse: MotionPulse::new(stepping),
             recorder: Recorder::new(form),
             lists: Lists::new(alloc)?,
             waiting: Records::new(alloc)?,
@@ -85,8 +113,8 @@ impl<const RX: usize, const N: usize> World<RX, N> {
     fn turn_pulse(&mut self) -> Turn
         ensures goes_on { (now : Devices) → TurnsOn Actor.Pulse result now now self.old self.new }
         ensures alone { ActsAlone Actor.Pulse self.old self.new }
-        ensures done { (result ≡ Turn.Done) ↔ (self.old.pulse.over ≡ true) }
-        ensures still { self.old.pulse.over ≡ true → self.new ≡ self.old }
+        ensures done { (result ≡ Turn.Done) ↔ ((seen_of self.old.pulse).over ≡ true) }
+        ensures still { (seen_of self.old.pulse).over ≡ true → self.new ≡ self.old }
     {
         self.pulse.turn(&mut self.lists, &mut self.waiting)
     }
@@ -158,7 +186,7 @@ impl<const RX: usize, const N: usize> World<RX, N> {
     /// Whether the pulse is between two pieces: its next turn gets one, or finds none.
     #[inline]
     pub(crate) fn awaits_piece(&self) -> bool
-        ensures { (result ≡ true) ↔ AwaitsPiece self.now.pulse }
+        ensures { (result ≡ true) ↔ AwaitsPiece (seen_of self.now.pulse) }
     {
         self.pulse.awaits_piece()
     }
@@ -182,6 +210,14 @@ impl<const RX: usize, const N: usize> World<RX, N> {
     {
         self.lists.have_room();
         self.waiting.have_room();
+    }
+
+    /// How many subticks were handed out, up to the largest number that 64 bits hold: none where the pulse steps the machine event by
+    /// event.
+    pub fn pins(&self) -> u64
+        ensures { (hist : History) → Holds self.now hist → result ≡ pins_in hist }
+    {
+        self.pulse.pins()
     }
 
     /// How the run ends: why no more of the job was sent, what was answered, and which devices have failed. Where all four

@@ -6,6 +6,7 @@ use Rattle.stream_host.specs.Steps.{scanned_of}
 use Rattle.step_record.specs.Taking.{records}
 use Rattle.step_line.specs.Asking.{ticks_among}
 use Rattle.pulse_engine.specs.Logs.{records_put}
+use Rattle.motion_pulse.specs.Pulses.{seen_of}
 use Rattle.epoch_law.specs.Journals.{host_did, board_did, pulse_did}
 use Rattle.list_ports.specs.PerLine.{ReportsPerLine}
 use Rattle.actor_turns.specs.Worlds.{sinks}
@@ -23,10 +24,10 @@ returns-clause-so_far c N form was now w hist st =
     c.actors_make_a_run_so_far.ensures w.room (N - 1) form was.job now.job (sinks was) (sinks now) (host_did hist.host) (board_did hist.board) (pulse_did hist.pulse hist.puts) (records hist.takes)
     (c.hosts_are_sending.ensures w.room hist.host was.job now.job was.console now.console h.host.conducted st.job (host.console w.room w.host hist.host was.console now.console h.host st.console))
     (c.boards_run.ensures (N - 1) kept.0 (length (ticks_among (records_put hist.puts))) hist.board kept.1 kept.2
-    (rings.known (N - 1) kept.0 hist.board w.pulse hist.pulse hist.puts kept.2 h.pulse ring) (rings.within (N - 1) kept.0 hist.board w.pulse hist.pulse hist.puts kept.2 h.pulse ring))
-    (c.pulses_run.ensures w.pulse hist.pulse hist.puts h.pulse)
+    (rings.known (N - 1) kept.0 hist.board (seen_of w.pulse) hist.pulse hist.puts kept.2 h.pulse.pulse ring) (rings.within (N - 1) kept.0 hist.board (seen_of w.pulse) hist.pulse hist.puts kept.2 h.pulse.pulse ring))
+    (c.pulses_run.ensures (seen_of w.pulse) hist.pulse hist.puts h.pulse.pulse)
     (c.recorders_have_run.ensures.so_far form w.recorder hist.takes was.steps now.steps st.wrote)
-    (connected w hist kept.0 h kept.2) (rings.passed (N - 1) kept.0 hist.board w.pulse hist.pulse hist.puts kept.2 h.pulse ring) (replies_front w hist h) (records_front w hist h)
+    (connected w hist kept.0 h kept.2) (rings.passed (N - 1) kept.0 hist.board (seen_of w.pulse) hist.pulse hist.puts kept.2 h.pulse.pulse ring) (replies_front w hist h) (records_front w hist h)
 
 pub returns-clause-alone : goal.returns-clause-alone
 returns-clause-alone c N form was now w hist st done =
@@ -39,7 +40,7 @@ returns-clause-alone c N form was now w hist st done =
     let run = c.actors_that_end_make_a_run.ensures w.room (N - 1) form was.job now.job (sinks was) (sinks now) (end_of hist.host) w.recorder.writer.failed (host_did hist.host) (board_did hist.board) (pulse_did hist.pulse hist.puts) (records hist.takes)
     sent.0
     (board_ran (N - 1) kept.0 hist.board (c.boards_have_run.ensures (N - 1) kept.0) kept.1 kept.2 over)
-    (c.pulses_have_run.ensures w.pulse hist.pulse hist.puts h.pulse (sym h.pulse.end ∙ done.pulse))
+    (c.pulses_have_run.ensures (seen_of w.pulse) hist.pulse hist.puts h.pulse.pulse (sym h.pulse.pulse.end ∙ done.pulse))
     (c.recorders_have_run.ensures.whole form w.recorder hist.takes was.steps now.steps st.wrote done.recorder)
     (connected w hist kept.0 h kept.2) (passed_some w hist kept.0 h kept.2 over) (replies_front w hist h) (records_front w hist h) in
     record {

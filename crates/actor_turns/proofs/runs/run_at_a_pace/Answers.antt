@@ -5,7 +5,7 @@ pub returns-clause-run : goal.returns-clause-run
 returns-clause-run g c =
     let was = devices (g.So.Source.state c.args.job.now) (g.Co.Sink.state c.args.console.now) (g.St.Sink.state c.args.steps.now) in
     let now = devices (g.So.Source.state c.run_paced.new.job) (g.Co.Sink.state c.run_paced.new.console) (g.St.Sink.state c.run_paced.new.steps) in
-    let n = c.run_paced.ensures.paced.paced.on c.args.form was no_history (c.in_ok-world.ensures.fresh was) in
+    let n = c.run_paced.ensures.paced.paced.on c.args.form was (no_history c.args.stepping) (c.in_ok-world.ensures.fresh was) in
     c.end_of.ensures.whole c.args.form was now n.0 n.1 c.run_paced.ensures.done
 
 pub returns-clause-order : goal.returns-clause-order
@@ -20,6 +20,6 @@ returns-clause-order g c = record {
   run =
       let was = devices (g.So.Source.state c.args.job.now) (g.Co.Sink.state c.args.console.now) (g.St.Sink.state c.args.steps.now) in
       let now = devices (g.So.Source.state c.run_paced.new.job) (g.Co.Sink.state c.run_paced.new.console) (g.St.Sink.state c.run_paced.new.steps) in
-      let n = c.run_paced.ensures.paced.paced.on c.args.form was no_history (c.in_ok-world.ensures.fresh was) in
+      let n = c.run_paced.ensures.paced.paced.on c.args.form was (no_history c.args.stepping) (c.in_ok-world.ensures.fresh was) in
       c.end_of.ensures.alone c.args.form was now n.0 n.1 c.run_paced.ensures.done;
 }

@@ -9,7 +9,7 @@ pub turn-requires : goal.turn-requires
 turn-requires g c = let i = c.self.invariant in ((host_log i.0.host, board_log i.0.board), i.0.takes, i.0.pulse, i.0.puts, i.1.joined, i.1.passed, i.1.pulse)
 
 pub invariant_of-self : goal.invariant_of-self
-invariant_of-self g c = holds_on _ _ _ _ _ _ (pulse_moves _ _ _ _ _ (devices (record { left = None; faults = 0 }) (record { held = None; faults = 0 }) (record { held = None; faults = 0 })) c.turn.ensures.logs) c.self.invariant
+invariant_of-self g c = holds_on _ _ _ _ _ _ (pulse_moves _ _ _ _ _ (devices (record { left = None; faults = 0 }) (record { held = None; faults = 0 }) (record { held = None; faults = 0 })) c.turn.ensures.logs c.turn.ensures.stepping) c.self.invariant
 
 pub returns-clause-goes_on : goal.returns-clause-goes_on
-returns-clause-goes_on g c now = let v = sym c.self.view_is in rw v (turns_on _ _ _ _ _ _ (pulse_moves _ _ _ _ _ now c.turn.ensures.logs))
+returns-clause-goes_on g c now = let v = sym c.self.view_is in rw v (turns_on _ _ _ _ _ _ (pulse_moves _ _ _ _ _ now c.turn.ensures.logs c.turn.ensures.stepping))

@@ -1,9 +1,0 @@
-use Rattle.actor_turns.specs.Worlds.{no_history}
-use Rattle.actor_turns.proofs.Beginning.{holds_nothing, begins}
-use Rattle.actor_turns.proofs.world.World.new.Goals as goal
-
-pub invariant_of-result : goal.invariant_of-result
-invariant_of-result g c = (no_history, holds_nothing _ c.in_ok-new.ensures c.in_ok-new-2.ensures c.new.ensures c.new-2.ensures c.new-3.ensures)
-
-pub returns-clause-fresh : goal.returns-clause-fresh
-returns-clause-fresh g c now = begins c.args.form _ now (holds_nothing _ c.in_ok-new.ensures c.in_ok-new-2.ensures c.new.ensures c.new-2.ensures c.new-3.ensures) (c.new-4.ensures.fits now.steps)
