@@ -9,6 +9,8 @@ ghost use Rattle.run_law.specs.Runs.{run_end};
 ghost use Rattle.run_law.specs.Devices.{devices};
 ghost use Rattle.link_ports.specs.HostSides.{HostIsNew, HostRanAt};
 ghost use Rattle.motion_ports.specs.MotionSides.{PulseIsNew, PulseRanAt, RecorderIsNew, RecorderRanAt};
+ghost use Rattle.motion_pulse.specs.Pulses.{stepping_of};
+ghost use Rattle.motion_pulse.specs.declared.pulse.Stepping.TheVariants.{Events, Subticks};
 ghost use Rattle.thread_rig.specs.BoardSides.{BoardIsNew, BoardRunsAt, BoardRanAt};
 ghost use Rattle.thread_rig.specs.declared.board.BoardSide.{BoardSide};
 ghost use Rattle.thread_rig.specs.Rigs.{IsNew, EndsMeet, RigRan, EndsAgree};
@@ -18,9 +20,9 @@ use crate::board::{BoardSide, begin_board, run_board};
 use controller::Controller;
 use link_ports::{BoardLink, HostLink, HostSide, run_host};
 use motion_ports::{PiecePort, PulseSide, RecorderSide, join_records, record_ring, run_motion};
+use motion_pulse::{MotionPulse, Stepping};
 use motion_ring::{join_motion, motion};
 use outside::{Gate, OutOfMemory, Sink, Source};
-use pulse_engine::Pulse;
 use realtime_flags::{flag_table, join_flags};
 use run_law::RunEnd;
 use serial_ring::{join_link, link};
@@ -41,12 +43,40 @@ pub struct Rig<const RX: usize, const N: usize> {
 }
 
 impl<const RX: usize, const N: usize> Rig<RX, N> {
-    /// A rig with which no turn was made, whose recorder has a form. All room is taken here.
+    /// A rig with which no turn was made, whose recorder has a form, and whose pulse steps the machine event by event. All room is
+    /// taken here.
     pub fn new(alloc: Global, form: Form) -> Result<Rig<RX, N>, OutOfMemory>
         requires room { IsRoom RX }
         requires slots { (2 ≤ N) × (N ≤ 64) }
         ensures fresh { IfOk result (λ rig. IsNew rig) }
         ensures form { IfOk result (λ rig. rig.recorder.side.recorder.form ≡ form) }
+        ensures stepping { IfOk result (λ rig. stepping_of rig.pulse.side.pulse ≡ Events) }
+    {
+        Rig::stepping(alloc, form, Stepping::Events)
+    }
+
+    /// Such a rig whose pulse hands out the subticks of each event, so that slow axes step in between. All room is taken here.
+    pub fn smooth(alloc: Global, form: Form) -> Result<Rig<RX, N>, OutOfMemory>
+        requires room { IsRoom RX }
+        requires slots { (2 ≤ N) × (N ≤ 64) }
+        ensures fresh { IfOk result (λ rig. IsNew rig) }
+        ensures form { IfOk result (λ rig. rig.recorder.side.recorder.form ≡ form) }
+        ensures stepping { IfOk result (λ rig. stepping_of rig.pulse.side.pulse ≡ Subticks) }
+    {
+        Rig::stepping(alloc, form, Stepping::Subticks)
+    }
+
+    /// Such a rig with a pulse of either kind.
+    pub(crate) fn stepping(
+        alloc: Global,
+        form: Form,
+        stepping: Stepping,
+    ) -> Result<Rig<RX, N>, OutOfMemory>
+        requires room { IsRoom RX }
+        requires slots { (2 ≤ N) × (N ≤ 64) }
+        ensures fresh { IfOk result (λ rig. IsNew rig) }
+        ensures form { IfOk result (λ rig. rig.recorder.side.recorder.form ≡ form) }
+        ensures stepping { IfOk result (λ rig. stepping_of rig.pulse.side.pulse ≡ stepping) }
     {
         let (host_end, board_end) = link::<RX>(alloc)?;
         let (raiser, taker) = flag_table(alloc)?;
@@ -69,7 +99,7 @@ impl<const RX: usize, const N: usize> Rig<RX, N> {
                 },
             }),
             pulse: Apart::new(PulseSide {
-                pulse: Pulse::new(),
+                pulse: MotionPulse::new(stepping),
                 pieces: PiecePort { end: into },
                 records: records_out,
             }),

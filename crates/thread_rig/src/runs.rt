@@ -6,6 +6,7 @@ ghost use Rattle.run_law.specs.Devices.{devices};
 ghost use Rattle.epoch_law.specs.Devices.{HasRun};
 
 use crate::{Rig, rigs_run, run_threads};
+use motion_pulse::Stepping;
 use outside::{Gate, OutOfMemory, Sink, Source};
 use run_law::RunEnd;
 use std::alloc::Global;
@@ -13,8 +14,8 @@ use std::sync::Wait;
 use std::thread::Threads;
 use step_record::Form;
 
-/// Runs a job in four threads, one for each actor, with steps of a form, over a link of `RX` bytes and a plan of `N` - 1 blocks, and
-/// answers how the run ends. Each turn is taken once the gate is passed. All room is taken before the first turn; where there is none,
+/// Runs a job in four threads, one for each actor, with steps of a form and a pulse of a kind, over a link of `RX` bytes and a plan of
+/// `N` - 1 blocks, and answers how the run ends. Each turn is taken once the gate is passed. All room is taken before the first turn; where there is none,
 /// no device is touched.
 pub fn run_in_threads<
     R: Threads + Wait + Sync,
@@ -28,6 +29,7 @@ pub fn run_in_threads<
     rt: &R,
     alloc: Global,
     form: Form,
+    stepping: Stepping,
     job: &mut So,
     console: &mut Co,
     steps: &mut St,
@@ -38,7 +40,7 @@ pub fn run_in_threads<
     ensures run { IfOk result (λ end. HasRun RX (N - 1) form (devices (So.state job.old) (Co.state console.old) (St.state steps.old)) (devices (So.state job.new) (Co.state console.new) (St.state steps.new)) end) }
     ensures untouched { OnErr result ((job.new ≡ job.old) × (console.new ≡ console.old) × (steps.new ≡ steps.old)) }
 {
-    let mut rig = Rig::<RX, N>::new(alloc, form)?;
+    let mut rig = Rig::<RX, N>::stepping(alloc, form, stepping)?;
     let end = run_threads(rt, &mut rig, job, console, steps, gate);
     rig.join();
     rigs_run();

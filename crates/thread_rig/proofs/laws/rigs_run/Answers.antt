@@ -6,6 +6,7 @@ use Rattle.stream_host.specs.Steps.{port_log}
 use Rattle.board_rules.specs.Takes.{takes_in}
 use Rattle.board_epochs.specs.Epochs.{log_of}
 use Rattle.run_law.specs.Devices.{sinks}
+use Rattle.motion_pulse.specs.Pulses.{seen_of}
 use Rattle.epoch_law.specs.Devices.{HasRun}
 use Rattle.epoch_law.specs.Journals.{host_did, board_did, pulse_did}
 use Rattle.thread_rig.proofs.Finishing.{all_halts, board_ran}
@@ -34,7 +35,7 @@ returns c room slots before after was is end ran agree =
     (c.hosts_have_sent.ensures room host.journal before.job after.job before.console after.console host.fits.conducted (hosts.finished room is.host.side.host host.journal host.fits ran.host.done) host.job
     (hosts.console room is.host.side.host host.journal before.console after.console host.fits host.console)).0
     (board_ran (slots - 1) (c.boards_have_run.ensures (slots - 1)) kept.0 board.epochs kept.1 kept.2 over)
-    (c.pulses_have_run.ensures is.pulse.side.pulse pulse.got pulse.put pulse.fits (sym pulse.fits.end ∙ ran.pulse.done))
+    (c.pulses_have_run.ensures (seen_of is.pulse.side.pulse) pulse.got pulse.put pulse.fits.pulse (sym pulse.fits.pulse.end ∙ ran.pulse.done))
     (c.recorders_have_run.ensures.whole form is.recorder.side.recorder recorder.log before.steps after.steps recorder.fits ran.recorder.done)
     connected
     (passed_some board.epochs pulse.got pulse.put _ _ _ _ board.did.pieces_are pulse.pieces agree.pieces (all_halts (slots - 1) kept.0 board.epochs kept.2 over))

@@ -11,9 +11,10 @@ use Rattle.link_ports.specs.HostSides.{HostIsNew}
 use Rattle.motion_ports.specs.MotionSides.{PulseIsNew, RecorderIsNew}
 use Rattle.step_record.specs.Recording.{Recording, RecorderFits}
 use Rattle.motion_ports.proofs.Fresh.{nothing_got}
+use Rattle.motion_pulse.specs.Pulses.{stepping_of}
 use Rattle.stream_host.specs.Ports.{AreGreeted}
 use Rattle.thread_rig.specs.BoardSides.{BoardIsNew}
-use Rattle.thread_rig.proofs.rig.Rig.new.Goals as goal
+use Rattle.thread_rig.proofs.rig.Rig.stepping.Goals as goal
 
 pub returns-clause-fresh : goal.returns-clause-fresh
 returns-clause-fresh g c =
@@ -57,9 +58,12 @@ returns-clause-fresh g c =
         sees = record { byte_looks = (link.idle_board.0, link.idle_board.1); room_looks = link.idle_board.2; done_looks = pieces.fresh.2; halt_looks = pieces.fresh.3; saw = tt };
         fits = c.new-3.ensures;
       });
-      pulse = subst PulseIsNew (sym pulse) (record { got = nothing_got _ pieces.idle.0 pieces.idle.1 pieces.idle.2 pieces.idle.3; put = records.fresh.0; fits = c.new-5.ensures });
+      pulse = subst PulseIsNew (sym pulse) (record { got = nothing_got _ pieces.idle.0 pieces.idle.1 pieces.idle.2 pieces.idle.3; put = records.fresh.0; fits = c.new-5.ensures.fresh });
       recorder = subst RecorderIsNew (sym recorder) (record { taken = records.fresh.1; fits = λ now. subst (λ f. RecorderFits f c.new-7.result [] now now) (sym (ap (λ (v : Recording). v.form) c.new-7.ensures.fresh)) (c.new-7.ensures.fits now) });
     }
 
 pub returns-clause-form : goal.returns-clause-form
 returns-clause-form g c = ap (λ (s : RecorderSide). s.recorder.form) c.new-8.ensures ∙ ap (λ (v : Recording). v.form) c.new-7.ensures.fresh
+
+pub returns-clause-stepping : goal.returns-clause-stepping
+returns-clause-stepping g c = ap (λ (s : PulseSide). stepping_of s.pulse) c.new-6.ensures ∙ c.new-5.ensures.stepping
