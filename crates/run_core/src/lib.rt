@@ -7,14 +7,19 @@
 //! pulse stand in `Lists`; records go from a pulse to a recorder through `Records` (`list_ports`). `World` is the four actors over
 //! these lists. Its turns go by a schedule, or in lockstep by an order that a seed gives (`actor_turns`).
 //!
+//! Either has a pulse that steps the machine event by event (`new`), or one that hands out the subticks of each event (`smooth`,
+//! `motion_pulse`).
+//!
 //! `run_in_threads` and `run_in_lockstep` run a job from its first turn to its end.
 #![tactic(auto)]
 
 pub use actor_turns::{
-    Order, World, run_in_lockstep, run_lockstep, run_schedule, worlds_count_reports, worlds_run,
+    CountedEnd, Order, World, count_in_lockstep, run_in_lockstep, run_lockstep, run_schedule,
+    worlds_count_reports, worlds_run,
 };
 pub use controller::PLAN_SLOTS;
 pub use list_ports::{Lists, Records};
+pub use motion_pulse::{MotionPulse, Stepping};
 pub use run_law::RunEnd;
 pub use serial_ring::RECEIVE_ROOM;
 pub use step_record::Form;

@@ -1,6 +1,6 @@
 //! Jobs in four threads, against the same in lockstep.
 
-use crate::runs::{Left, ROOM, in_lockstep, in_threads};
+use crate::runs::{Left, ROOM, by_subticks, by_subticks_in_threads, in_lockstep, in_threads};
 use outside::{Actor, Failed, Gate, MemSink, MemSource, OpenGate, OutOfMemory, Source};
 use run_core::{Form, PLAN_SLOTS, RECEIVE_ROOM, Rig, run_threads};
 use std::alloc::Global;
@@ -54,6 +54,42 @@ fn threads_do_what_lockstep_does(rt: HostRuntime) -> Result<(), Fail> {
         }
     }
     expect_as_in_lockstep(&rt, rt.alloc(), PAUSED)
+}
+
+/// Runs by subticks leave the same, in threads and in lockstep, for three seeds.
+#[test]
+fn subticks_change_no_text(rt: HostRuntime) -> Result<(), Fail> {
+    for text in JOBS {
+        let plain = in_lockstep(&rt, rt.alloc(), text, 7, 5)?;
+        for seed in 0..3u64 {
+            let (smooth, _) = by_subticks(&rt, rt.alloc(), text, seed)?;
+            expect_same(&rt, &smooth, &plain, text);
+        }
+        let smooth = by_subticks_in_threads(&rt, rt.alloc(), text)?;
+        expect_same(&rt, &smooth, &plain, text);
+    }
+    Ok(())
+}
+
+/// Of a job and the heads of its moves, how many subticks were handed out: 2, 4 or 8 for each event that is slow, one for one that
+/// is fast.
+const SUBTICKS: &[(&str, u64)] = &[
+    ("", 0),
+    ("G4P0\n", 0),
+    ("G0X0.004", 8),
+    ("G0X0.004\nG4P0\nX0\n", 16),
+    ("G1X0.008F10\n", 16),
+];
+
+#[test]
+fn subticks_are_counted(rt: HostRuntime) -> Result<(), Fail> {
+    for &(text, subticks) in SUBTICKS {
+        for seed in 0..3u64 {
+            let (_, counted) = by_subticks(&rt, rt.alloc(), text, seed)?;
+            assert_eq!(rt; counted, subticks, "{text}");
+        }
+    }
+    Ok(())
 }
 
 /// A console that can't be written ends no run: the steps are whole.

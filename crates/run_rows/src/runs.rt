@@ -70,6 +70,45 @@ pub(crate) fn in_lockstep<R: Wait>(
     Ok(left)
 }
 
+/// Runs it in lockstep by a pulse that hands out subticks, in the order of a seed, and counts them.
+pub(crate) fn by_subticks<R: Wait>(
+    rt: &R,
+    alloc: Global,
+    text: &str,
+    seed: u64,
+) -> Result<(Left<'static>, u64), OutOfMemory> {
+    let mut left = nothing(alloc, ROOM)?;
+    let mut job = MemSource::new(text.as_bytes(), 7, &[]);
+    let mut world = World::<RECEIVE_ROOM, PLAN_SLOTS>::smooth(alloc, Form::One)?;
+    let Left {
+        console,
+        steps,
+        end,
+    } = &mut left;
+    run_lockstep(rt, &mut world, seed, &mut job, console, steps);
+    *end = world.end();
+    Ok((left, world.pins()))
+}
+
+/// Runs it in four threads by such a pulse.
+pub(crate) fn by_subticks_in_threads<R: Threads + Wait + Sync>(
+    rt: &R,
+    alloc: Global,
+    text: &str,
+) -> Result<Left<'static>, OutOfMemory> {
+    let mut left = nothing(alloc, ROOM)?;
+    let mut job = MemSource::new(text.as_bytes(), 7, &[]);
+    let mut rig = Rig::<RECEIVE_ROOM, PLAN_SLOTS>::smooth(alloc, Form::One)?;
+    let Left {
+        console,
+        steps,
+        end,
+    } = &mut left;
+    *end = run_threads(rt, &mut rig, &mut job, console, steps, &OpenGate);
+    rig.join();
+    Ok(left)
+}
+
 /// Runs it by the first 40,000 turns of the order of a seed, of which each is taken by itself.
 pub(crate) fn in_order(alloc: Global, text: &str, seed: u64) -> Result<Left<'static>, OutOfMemory> {
     let mut left = nothing(alloc, ROOM)?;
