@@ -7,6 +7,7 @@ use Rattle.run_status.specs.declared.Status.TheVariants.{Done, LineErrors, Usage
 use Rattle.run_law.specs.declared.RunEnd.{RunEnd}
 use Rattle.run_status.specs.Ends.{status_of, IsWhole, HasNotBegun, JobWasRun}
 use Rattle.demo_job.specs.Jobs.{job_events, stop, summary, summary_of}
+use Rattle.motion_pulse.specs.declared.pulse.Stepping.{Stepping}
 use Rattle.run_status.specs.Demos.{IsDemo}
 
 -- a job was run, a fault comes only where its device's count rose, and the demo is done only where no count did
@@ -16,17 +17,17 @@ pub record DemoCauses (console_was console_is steps_was steps_is : SinkState) (s
   pub steps : status ≡ StepsFault → Rose steps_was.faults steps_is.faults
   pub faultless : IsWhole status → (console_is.faults ≡ console_was.faults) × (steps_is.faults ≡ steps_was.faults)
 
-by_faults : (n : ℕ) (console_was console_is steps_was steps_is : SinkState) (status : Status) (demo : IsDemo n console_was console_is steps_was steps_is status) (sf cf : Bool)
+by_faults : (n : ℕ) (stepping : Stepping) (console_was console_is steps_was steps_is : SinkState) (status : Status) (demo : IsDemo n stepping console_was console_is steps_was steps_is status) (sf cf : Bool)
     → demo.end.steps_failed ≡ sf → demo.console_failed ≡ cf
     → DemoCauses console_was console_is steps_was steps_is (cond sf StepsFault (cond cf ConsoleFault Done))
-by_faults n a b c d status demo true cf es ec = record { has_run = tt; console = λ e. absurd cc; steps = λ e. demo.run.recording.steps.cause es; faultless = λ w. absurd w }
-by_faults n a b c d status demo false true es ec = record { has_run = tt; console = λ e. demo.console.cause ec; steps = λ e. absurd cc; faultless = λ w. absurd w }
-by_faults n a b c d status demo false false es ec = record { has_run = tt; console = λ e. absurd cc; steps = λ e. absurd cc; faultless = λ w. (demo.console.same ec, demo.run.recording.steps.same es) }
+by_faults n stepping a b c d status demo true cf es ec = record { has_run = tt; console = λ e. absurd cc; steps = λ e. demo.run.recording.steps.cause es; faultless = λ w. absurd w }
+by_faults n stepping a b c d status demo false true es ec = record { has_run = tt; console = λ e. demo.console.cause ec; steps = λ e. absurd cc; faultless = λ w. absurd w }
+by_faults n stepping a b c d status demo false false es ec = record { has_run = tt; console = λ e. absurd cc; steps = λ e. absurd cc; faultless = λ w. (demo.console.same ec, demo.run.recording.steps.same es) }
 
-pub demo_causes : (n : ℕ) (console_was console_is steps_was steps_is : SinkState) (status : Status) → IsDemo n console_was console_is steps_was steps_is status
+pub demo_causes : (n : ℕ) (stepping : Stepping) (console_was console_is steps_was steps_is : SinkState) (status : Status) → IsDemo n stepping console_was console_is steps_was steps_is status
     → DemoCauses console_was console_is steps_was steps_is status
-demo_causes n a b c d status demo =
-    subst (DemoCauses a b c d) (sym demo.status_is) (by_faults n a b c d status demo demo.end.steps_failed demo.console_failed refl refl)
+demo_causes n stepping a b c d status demo =
+    subst (DemoCauses a b c d) (sym demo.status_is) (by_faults n stepping a b c d status demo demo.end.steps_failed demo.console_failed refl refl)
 
 -- the status of a run whose job was read, sent to its end and accepted
 pub well_ended : (end : RunEnd) (console_failed : Bool) → end.source_failed ≡ false → end.stop ≡ stops.End → end.errors ≡ 0

@@ -19,6 +19,7 @@ use Rattle.run_status.proofs.Completing.{whole_job}
 use Rattle.run_status.specs.declared.Status.{Status}
 use Rattle.run_status.specs.declared.Status.TheVariants.{Done, LineErrors, Usage, SourceFault, ConsoleFault, StepsFault, LongLine, Alarm, TooLarge, OutOfMemory}
 use Rattle.run_status.specs.Ends.{by_errors, by_stop, status_of, EndsWith, IsWhole, IsWholeRun, IsAlarmedRun, IsFaultless, TookMore, HasCauses}
+use Rattle.motion_pulse.specs.declared.pulse.Stepping.{Stepping}
 use Rattle.run_status.specs.Demos.{IsDemo}
 use Rattle.run_status.specs.Statuses.{SendsUpTo, HasItsCause, CanRise, CanFail, IsAlarm, IsOfJob, AreOne, TellsFaults}
 use Rattle.run_status.proofs.Endings.{has_causes}
@@ -259,24 +260,24 @@ pub tells_faults : (setup : Setup) (job_was job_is : SourceState) (was is : Sink
 tells_faults setup job_was job_is was is status can cause = faults_by setup job_was job_is was is status can (row_of setup job_was job_is was is status cause)
 
 -- of the generated job, in place of which the source is left as it is
-demo_by : (n : ℕ) (job : SourceState) (was is : Sinks) (status : Status) → CanFail job was → (demo : IsDemo n was.console is.console was.steps is.steps status) (sf cf : Bool)
+demo_by : (n : ℕ) (stepping : Stepping) (job : SourceState) (was is : Sinks) (status : Status) → CanFail job was → (demo : IsDemo n stepping was.console is.console was.steps is.steps status) (sf cf : Bool)
     → demo.end.steps_failed ≡ sf → demo.console_failed ≡ cf → TellsFaults job job was is (cond sf StepsFault (cond cf ConsoleFault Done))
-demo_by n job was is status can demo true cf es ec = record {
+demo_by n stepping job was is status can demo true cf es ec = record {
   steps = λ r. refl;
   console = λ same r. not_both _ _ can.steps same (demo.run.recording.steps.cause es);
   source = λ same same_too r. not_both _ _ can.source refl r;
 }
-demo_by n job was is status can demo false true es ec = record {
+demo_by n stepping job was is status can demo false true es ec = record {
   steps = λ r. not_both _ _ can.steps (demo.run.recording.steps.same es) r;
   console = λ same r. refl;
   source = λ same same_too r. not_both _ _ can.source refl r;
 }
-demo_by n job was is status can demo false false es ec = record {
+demo_by n stepping job was is status can demo false false es ec = record {
   steps = λ r. not_both _ _ can.steps (demo.run.recording.steps.same es) r;
   console = λ same r. not_both _ _ can.console (demo.console.same ec) r;
   source = λ same same_too r. not_both _ _ can.source refl r;
 }
 
-pub demo_tells_faults : (n : ℕ) (job : SourceState) (was is : Sinks) (status : Status) → CanFail job was → IsDemo n was.console is.console was.steps is.steps status → TellsFaults job job was is status
-demo_tells_faults n job was is status can demo =
-    subst (TellsFaults job job was is) (sym demo.status_is) (demo_by n job was is status can demo demo.end.steps_failed demo.console_failed refl refl)
+pub demo_tells_faults : (n : ℕ) (stepping : Stepping) (job : SourceState) (was is : Sinks) (status : Status) → CanFail job was → IsDemo n stepping was.console is.console was.steps is.steps status → TellsFaults job job was is status
+demo_tells_faults n stepping job was is status can demo =
+    subst (TellsFaults job job was is) (sym demo.status_is) (demo_by n stepping job was is status can demo demo.end.steps_failed demo.console_failed refl refl)

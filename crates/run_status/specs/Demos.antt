@@ -12,7 +12,9 @@ use Rattle.run_texts.specs.Courses.{lines_in}
 use Rattle.run_texts.specs.Parts.{parts_of}
 use Rattle.run_texts.specs.Parts.Ending.{by_end}
 use Rattle.epoch_law.specs.Runs.{IsRun}
-use Rattle.demo_job.specs.Jobs.{job_lines, job_text, summary}
+use Rattle.motion_pulse.specs.declared.pulse.Stepping.{Stepping}
+use Rattle.motion_pulse.specs.declared.pulse.Stepping.TheVariants.{Events, Subticks}
+use Rattle.demo_job.specs.Jobs.{job_lines, job_text, pins_text, summary}
 use Rattle.demo_law.specs.Asked.{demo_asks}
 use Rattle.run_status.specs.declared.Status.{Status}
 use Rattle.run_status.specs.declared.Status.TheVariants.{Done, ConsoleFault, StepsFault}
@@ -25,12 +27,17 @@ keeps_nothing = record { held = None; faults = 0 }
 abbrev pub generated : List ℕ → SourceState
 generated left = record { left = Some left; faults = 0 }
 
+-- the line on a run of the generated job, by how the machine was stepped: the summary, or how many subticks there were
+abbrev pub demo_text : Stepping → (n subticks : ℕ) → List ℕ
+demo_text Events n subticks = summary n
+demo_text Subticks n subticks = pins_text n subticks
+
 -- A run of the generated job of n moves, whose console keeps nothing. All its lines are sent and answered `ok`, and ask for
 -- its moves. They are one part, which neither a cut nor a reset ends, and no byte of it changes overrides, so that they are 100
 -- percent throughout: the steps are those of these moves, in form 1. Then the console takes the line on the run: its lines, all
--- of them `ok`, the events of its moves, and where the last of them goes; a front of that line where the console fails. The demo
--- is done, unless a write of the steps failed, or of the console.
-pub record IsDemo (n : ℕ) (console_was console_is steps_was steps_is : SinkState) (status : Status) : Type 0 where
+-- of them `ok`, the events of its moves, or how many subticks were handed out, and where the last of its moves goes; a front of that line
+-- where the console fails. The demo is done, unless a write of the steps failed, or of the console.
+pub record IsDemo (n : ℕ) (stepping : Stepping) (console_was console_is steps_was steps_is : SinkState) (status : Status) : Type 0 where
   pub end : RunEnd
   pub left : List ℕ
   pub run : IsRun receive_room most_blocks One (generated (job_text n)) (generated left)
@@ -40,6 +47,7 @@ pub record IsDemo (n : ℕ) (console_was console_is steps_was steps_is : SinkSta
   pub uncut : parts_of run.fits.course ≡ record { lines = lines_in run.fits.course; begun = []; ending = by_end } ∷ []
   pub unchanged : asks_change run.scanned ≡ false
   pub asks : asked_in (lines_in run.fits.course) ≡ demo_asks run.fits.first.settings n
+  pub subticks : ℕ
   pub console_failed : Bool
-  pub console : Took console_was console_is console_failed (summary n)
+  pub console : Took console_was console_is console_failed (demo_text stepping n subticks)
   pub status_is : status ≡ cond end.steps_failed StepsFault (cond console_failed ConsoleFault Done)
