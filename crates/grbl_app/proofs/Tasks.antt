@@ -3,23 +3,29 @@ use Rattle.std.proofs.Common.{◌≡◌, ℕ, List, ap}
 use Rattle.command_line.specs.Command.{Asks}
 use Rattle.command_line.specs.declared.StreamOptions.{StreamOptions}
 use Rattle.command_line.specs.declared.Task.{Task}
+use Rattle.motion_pulse.specs.declared.pulse.Stepping.{Stepping}
+use Rattle.motion_pulse.specs.declared.pulse.Stepping.TheVariants.{Events}
 use Rattle.command_line.specs.declared.Task.TheVariants.{Stream, Demo}
 use Rattle.command_line.proofs.Numbers.{one_task}
 
-pub no_stream : (words : List (List ℕ)) (options : StreamOptions) (moves : ℕ) → Asks (Demo moves) words → Asks (Stream options) words → ⊥
-no_stream words options moves demo stream = let same : Stream options ≡ Demo moves = one_task words (Stream options) (Demo moves) stream demo in cc
+pub no_stream : (words : List (List ℕ)) (options : StreamOptions) (moves : ℕ) (stepping : Stepping) → Asks (Demo moves stepping) words → Asks (Stream options) words → ⊥
+no_stream words options moves stepping demo stream = let same : Stream options ≡ Demo moves stepping = one_task words (Stream options) (Demo moves stepping) stream demo in cc
 
 moves_of : Task → ℕ
 moves_of (Stream options) = 0
-moves_of (Demo moves) = moves
+moves_of (Demo moves stepping) = moves
 
-pub same_moves : (words : List (List ℕ)) (m n : ℕ) → Asks (Demo m) words → Asks (Demo n) words → m ≡ n
-unfolding moves_of
-same_moves words m n one other = ap moves_of (one_task words (Demo m) (Demo n) one other)
+stepping_in : Task → Stepping
+stepping_in (Stream options) = Events
+stepping_in (Demo moves stepping) = stepping
+
+pub same_demo : (words : List (List ℕ)) (m n : ℕ) (s t : Stepping) → Asks (Demo m s) words → Asks (Demo n t) words → (m ≡ n) × (s ≡ t)
+unfolding moves_of stepping_in
+same_demo words m n s t one other = let same = one_task words (Demo m s) (Demo n t) one other in (ap moves_of same, ap stepping_in same)
 
 options_of : StreamOptions → Task → StreamOptions
 options_of other (Stream options) = options
-options_of other (Demo moves) = other
+options_of other (Demo moves stepping) = other
 
 pub same_options : (words : List (List ℕ)) (a b : StreamOptions) → Asks (Stream a) words → Asks (Stream b) words → a ≡ b
 unfolding options_of

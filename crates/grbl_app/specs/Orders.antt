@@ -5,6 +5,7 @@ use Rattle.run_law.specs.declared.RunEnd.{RunEnd}
 use Rattle.epoch_law.specs.Devices.{Devices, devices, HasRun}
 use Rattle.command_line.specs.declared.Buffers.TheVariants.{Standard}
 use Rattle.command_line.specs.declared.Order.{Order}
+use Rattle.motion_pulse.specs.declared.pulse.Stepping.{Stepping}
 use Rattle.command_line.specs.declared.Order.TheVariants.{Threads, Lockstep, Paced}
 use Rattle.command_line.specs.declared.StreamOptions.{StreamOptions}
 use Rattle.step_record.specs.declared.forms.Form.{Form}
@@ -12,28 +13,36 @@ use Rattle.step_record.specs.declared.forms.Form.TheVariants.{One}
 use Rattle.demo_job.specs.Jobs.{job_text}
 use Rattle.run_status.specs.declared.Status.{Status}
 use Rattle.run_status.specs.Ends.{status_of}
-use Rattle.run_status.specs.Demos.{keeps_nothing, generated}
-use Rattle.actor_turns.specs.Orders.{IsLockstepRun, IsPacedRun}
+use Rattle.outside.specs.Writing.{Took}
+use Rattle.run_status.specs.Demos.{demo_text, keeps_nothing, generated}
+use Rattle.actor_turns.specs.Orders.{IsCountedRun, IsLockstepRun, IsPacedRun}
 use Rattle.grbl_app.specs.Sizes.{room_of, slots_of}
 
--- A run of a job over a link and a plan of these sizes, whose steps have this form and whose turns came in this order: of a seed, or at
--- a pace. Threads take them in any.
-abbrev pub GoesBy : (room slots : ℕ) → Form → Order → Devices → Devices → RunEnd → Type 0
-GoesBy room slots form Threads was now end = HasRun room (slots - 1) form was now end
-GoesBy room slots form (Lockstep seed) was now end = IsLockstepRun room slots form seed was now end
-GoesBy room slots form Paced was now end = IsPacedRun room slots form was now end
+-- A run of a job over a link and a plan of these sizes, whose steps have this form, and whose turns came in this order: of a seed, or at
+-- a pace, with a pulse of this kind. Threads take them in any.
+abbrev pub GoesInOrder : (room slots : ℕ) → Form → Stepping → Order → Devices → Devices → RunEnd → Type 0
+GoesInOrder room slots form stepping Threads was now end = HasRun room (slots - 1) form was now end
+GoesInOrder room slots form stepping (Lockstep seed) was now end = IsLockstepRun room slots form stepping seed was now end
+GoesInOrder room slots form stepping Paced was now end = IsPacedRun room slots form stepping was now end
+
+-- as the options say
+abbrev pub GoesBy : (room slots : ℕ) → StreamOptions → Devices → Devices → RunEnd → Type 0
+GoesBy room slots options was now end = GoesInOrder room slots options.form options.stepping options.order was now end
 
 -- that, by the options of a stream, and its status
 pub record EndsInOrder (options : StreamOptions) (was now : Devices) (status : Status) : Type 0 where
   pub end : RunEnd
-  pub goes : GoesBy (room_of options.buffers) (slots_of options.buffers) options.form options.order was now end
+  pub goes : GoesBy (room_of options.buffers) (slots_of options.buffers) options was now end
   pub status_is : status ≡ status_of end
 
--- A run of the generated job of n moves in the order that n gives as a seed, with steps of form 1 and a console that keeps nothing. Its status is that
--- of the run, and of the console that takes the line on it.
-pub record IsOrderedDemo (n : ℕ) (steps_was steps_is : SinkState) (status : Status) : Type 0 where
+-- A run of the generated job of n moves in the order that n gives as a seed, with steps of form 1, a pulse of this kind and a console
+-- that keeps nothing. Its status is that of the run, and of the console that takes the line on it: of as many subticks as the pulse of
+-- that run handed out.
+pub record IsOrderedDemo (n : ℕ) (stepping : Stepping) (console_was console_is steps_was steps_is : SinkState) (status : Status) : Type 0 where
   pub end : RunEnd
   pub left : List ℕ
-  pub goes : IsLockstepRun (room_of Standard) (slots_of Standard) One n (devices (generated (job_text n)) keeps_nothing steps_was) (devices (generated left) keeps_nothing steps_is) end
+  pub subticks : ℕ
+  pub goes : IsCountedRun (room_of Standard) (slots_of Standard) One stepping n (devices (generated (job_text n)) keeps_nothing steps_was) (devices (generated left) keeps_nothing steps_is) end subticks
   pub console_failed : Bool
+  pub console : Took console_was console_is console_failed (demo_text stepping n subticks)
   pub status_is : status ≡ status_of (record end { console_failed = console_failed })

@@ -6,6 +6,7 @@ ghost use Rattle.outside.specs.Causes.{Rose};
 ghost use Rattle.run_status.specs.Complete.{IsAcceptedJob};
 ghost use Rattle.command_line.specs.Command.{Asks, IsNamed, Refuses};
 ghost use Rattle.command_line.specs.declared.Task.TheVariants as tasks;
+ghost use Rattle.motion_pulse.specs.declared.pulse.Stepping.{Stepping};
 ghost use Rattle.epoch_law.specs.Devices.{devices};
 ghost use Rattle.run_status.specs.Demos.{IsDemo};
 ghost use Rattle.grbl_app.specs.Sizes.{setup_of};
@@ -73,10 +74,11 @@ fn stream<
 /// take turns on this thread, in an order that the seed gives, and pass no gate. With `--paced` they do so too, the host and the
 /// board first, and the motion where these two wait, so that its plan is kept full. With `--wide` the link has room for 255 bytes, and
 /// the plan for 35 blocks; else, as for `demo`, for 128 and 15. With `--compact` the steps are in form 2, in which equal events that
-/// stand together are one line; else, as for `demo`, each record has its line.
+/// stand together are one line; else, as for `demo`, each record has its line. With `--smooth` the pulse hands out the subticks of each
+/// event, so that slow axes step in between; the texts are the same.
 ///
 /// `demo N`: the generated job of N moves is run in lockstep, with N as the seed. The console takes one line on the run, and the
-/// job is left as it is.
+/// job is left as it is. `pins N` does the same by subticks, and its line tells how many there were.
 pub fn run_grbl<
     R: Threads + Wait + Sync,
     So: Source + Send,
@@ -139,16 +141,18 @@ pub fn run_grbl<
         ¬ Rose (St.state steps.old).faults (St.state steps.new).faults →
         (result ≡ Status.Done) ⊎ (result ≡ Status.OutOfMemory) }
 
-    // The turns are those of the order that the words name, of the seed or at a pace, and the steps are of their form.
+    // The turns are those of the order that the words name, of the seed or at a pace, and the steps are of their form. On one thread
+    // the pulse is of the kind that they name.
     ensures order { (options : _) → Asks (tasks.Stream options) (map (λ w. w.now) words.now) → JobWasRun result →
         EndsInOrder options (devices (So.state job.old) (Co.state console.old) (St.state steps.old)) (devices (So.state job.new) (Co.state console.new) (St.state steps.new)) result }
 
-    // The demo runs the generated job, all of whose lines are accepted, in the order of its number, and leaves the source as it
-    // is.
-    ensures demo { (n : ℕ) → Asks (tasks.Demo n) (map (λ w. w.now) words.now) → JobWasRun result →
-        IsDemo n (Co.state console.old) (Co.state console.new) (St.state steps.old) (St.state steps.new) result × (So.state job.new ≡ So.state job.old) }
-    ensures demo_order { (n : ℕ) → Asks (tasks.Demo n) (map (λ w. w.now) words.now) → JobWasRun result →
-        IsOrderedDemo n (St.state steps.old) (St.state steps.new) result }
+    // The demo runs the generated job, all of whose lines are accepted, in the order of its number, by a pulse of the kind that the
+    // words name, and leaves the source as it is. The line on it tells how many subticks that pulse handed out, where it hands out
+    // some.
+    ensures demo { (n : ℕ) (stepping : Stepping) → Asks (tasks.Demo n stepping) (map (λ w. w.now) words.now) → JobWasRun result →
+        IsDemo n stepping (Co.state console.old) (Co.state console.new) (St.state steps.old) (St.state steps.new) result × (So.state job.new ≡ So.state job.old) }
+    ensures demo_order { (n : ℕ) (stepping : Stepping) → Asks (tasks.Demo n stepping) (map (λ w. w.now) words.now) → JobWasRun result →
+        IsOrderedDemo n stepping (Co.state console.old) (Co.state console.new) (St.state steps.old) (St.state steps.new) result }
 {
     let task = match read_words(alloc, words) {
         Ok(task) => task,
@@ -162,7 +166,7 @@ pub fn run_grbl<
                 Err(OutOfMemory) => Status::OutOfMemory,
             }
         }
-        Task::Demo(moves) => match run_demo(rt, alloc, moves, console, steps) {
+        Task::Demo(moves, stepping) => match run_demo(rt, alloc, moves, stepping, console, steps) {
             Ok(status) => status,
             Err(OutOfMemory) => Status::OutOfMemory,
         },

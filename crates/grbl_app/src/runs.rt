@@ -45,18 +45,23 @@ fn run_sized<
     requires room { IsRoom RX }
     requires slots { (2 ≤ N) × (N ≤ 64) }
     ensures run { IfOk result (λ end. HasRun RX (N - 1) options.form (devices (So.state job.old) (Co.state console.old) (St.state steps.old)) (devices (So.state job.new) (Co.state console.new) (St.state steps.new)) end) }
-    ensures order { IfOk result (λ end. GoesBy RX N options.form options.order (devices (So.state job.old) (Co.state console.old) (St.state steps.old)) (devices (So.state job.new) (Co.state console.new) (St.state steps.new)) end) }
+    ensures order { IfOk result (λ end. GoesBy RX N options (devices (So.state job.old) (Co.state console.old) (St.state steps.old)) (devices (So.state job.new) (Co.state console.new) (St.state steps.new)) end) }
     ensures untouched { OnErr result ((job.new ≡ job.old) × (console.new ≡ console.old) × (steps.new ≡ steps.old)) }
 {
     let form = options.form;
+    let stepping = options.stepping;
     match options.order {
         Order::Lockstep(seed) => {
-            run_in_lockstep::<_, _, _, _, RX, N>(rt, alloc, form, seed, job, console, steps)
+            run_in_lockstep::<_, _, _, _, RX, N>(
+                rt, alloc, form, stepping, seed, job, console, steps,
+            )
         }
-        Order::Paced => run_at_a_pace::<_, _, _, _, RX, N>(rt, alloc, form, job, console, steps),
-        Order::Threads => {
-            run_in_threads::<_, _, _, _, _, RX, N>(rt, alloc, form, job, console, steps, gate)
+        Order::Paced => {
+            run_at_a_pace::<_, _, _, _, RX, N>(rt, alloc, form, stepping, job, console, steps)
         }
+        Order::Threads => run_in_threads::<_, _, _, _, _, RX, N>(
+            rt, alloc, form, stepping, job, console, steps, gate,
+        ),
     }
 }
 
@@ -77,7 +82,7 @@ pub(crate) fn run_job<
     gate: &G,
 ) -> Result<RunEnd, OutOfMemory>
     ensures run { IfOk result (λ end. HasRun (room_of options.buffers) (slots_of options.buffers - 1) options.form (devices (So.state job.old) (Co.state console.old) (St.state steps.old)) (devices (So.state job.new) (Co.state console.new) (St.state steps.new)) end) }
-    ensures order { IfOk result (λ end. GoesBy (room_of options.buffers) (slots_of options.buffers) options.form options.order (devices (So.state job.old) (Co.state console.old) (St.state steps.old)) (devices (So.state job.new) (Co.state console.new) (St.state steps.new)) end) }
+    ensures order { IfOk result (λ end. GoesBy (room_of options.buffers) (slots_of options.buffers) options (devices (So.state job.old) (Co.state console.old) (St.state steps.old)) (devices (So.state job.new) (Co.state console.new) (St.state steps.new)) end) }
     ensures untouched { OnErr result ((job.new ≡ job.old) × (console.new ≡ console.old) × (steps.new ≡ steps.old)) }
 {
     match options.buffers {

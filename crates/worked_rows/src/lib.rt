@@ -38,4 +38,6 @@ mod rows;
 #[cfg(test)]
 mod runs;
 #[cfg(test)]
+mod smooth;
+#[cfg(test)]
 mod system;

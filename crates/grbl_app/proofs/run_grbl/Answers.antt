@@ -5,7 +5,7 @@ use Rattle.epoch_law.specs.Devices.{devices}
 use Rattle.run_status.specs.Demos.{IsDemo}
 use Rattle.grbl_app.specs.Orders.{EndsInOrder, IsOrderedDemo}
 use Rattle.grbl_app.specs.Sizes.{setup_of}
-use Rattle.grbl_app.proofs.Tasks.{no_stream, same_moves, same_options}
+use Rattle.grbl_app.proofs.Tasks.{no_stream, same_demo, same_options}
 use Rattle.run_status.specs.Ends.{EndsWith, JobWasRun}
 use Rattle.run_status.specs.Statuses.{HasItsCause}
 use Rattle.run_status.proofs.Demos.{demo_causes, has_begun}
@@ -28,30 +28,32 @@ pub returns-in-Ok-stream-clause-first_fault : goal.returns-in-Ok-stream-clause-f
 returns-in-Ok-stream-clause-first_fault g c = λ run can. tells_faults (setup_of c.in-Stream.options) _ _ _ _ _ can c.in-Ok-stream.ensures.its_cause
 
 pub returns-in-Ok-run_demo-clause-first_fault : goal.returns-in-Ok-run_demo-clause-first_fault
-returns-in-Ok-run_demo-clause-first_fault g c = λ run can. demo_tells_faults _ _ _ _ _ can c.in-Ok-run_demo.ensures.run
+returns-in-Ok-run_demo-clause-first_fault g c = λ run can. demo_tells_faults _ _ _ _ _ _ can c.in-Ok-run_demo.ensures.run
 
 pub returns-in-Ok-run_demo-clause-usage : goal.returns-in-Ok-run_demo-clause-usage
-returns-in-Ok-run_demo-clause-usage g c = λ e. absurd (subst JobWasRun e (demo_causes _ _ _ _ _ _ c.in-Ok-run_demo.ensures.run).has_run)
+returns-in-Ok-run_demo-clause-usage g c = λ e. absurd (subst JobWasRun e (demo_causes _ _ _ _ _ _ _ c.in-Ok-run_demo.ensures.run).has_run)
 
 pub returns-in-Ok-run_demo-clause-untouched : goal.returns-in-Ok-run_demo-clause-untouched
-returns-in-Ok-run_demo-clause-untouched g c = λ none. has_begun c.in-Ok-run_demo.status (demo_causes _ _ _ _ _ _ c.in-Ok-run_demo.ensures.run).has_run none
+returns-in-Ok-run_demo-clause-untouched g c = λ none. has_begun c.in-Ok-run_demo.status (demo_causes _ _ _ _ _ _ _ c.in-Ok-run_demo.ensures.run).has_run none
 
 pub returns-in-Ok-run_demo-clause-console_fault : goal.returns-in-Ok-run_demo-clause-console_fault
-returns-in-Ok-run_demo-clause-console_fault g c = (demo_causes _ _ _ _ _ _ c.in-Ok-run_demo.ensures.run).console
+returns-in-Ok-run_demo-clause-console_fault g c = (demo_causes _ _ _ _ _ _ _ c.in-Ok-run_demo.ensures.run).console
 
 pub returns-in-Ok-run_demo-clause-steps_fault : goal.returns-in-Ok-run_demo-clause-steps_fault
-returns-in-Ok-run_demo-clause-steps_fault g c = (demo_causes _ _ _ _ _ _ c.in-Ok-run_demo.ensures.run).steps
+returns-in-Ok-run_demo-clause-steps_fault g c = (demo_causes _ _ _ _ _ _ _ c.in-Ok-run_demo.ensures.run).steps
 
 pub returns-in-Ok-run_demo-clause-faultless : goal.returns-in-Ok-run_demo-clause-faultless
-returns-in-Ok-run_demo-clause-faultless g c = λ whole. let all = (demo_causes _ _ _ _ _ _ c.in-Ok-run_demo.ensures.run).faultless whole in record { source = refl; console = all.0; steps = all.1 }
+returns-in-Ok-run_demo-clause-faultless g c = λ whole. let all = (demo_causes _ _ _ _ _ _ _ c.in-Ok-run_demo.ensures.run).faultless whole in record { source = refl; console = all.0; steps = all.1 }
 
 pub returns-in-Ok-run_demo-clause-demo : goal.returns-in-Ok-run_demo-clause-demo
-returns-in-Ok-run_demo-clause-demo g c = λ n asks run.
+returns-in-Ok-run_demo-clause-demo g c = λ n stepping asks run.
     let words = map (λ w. w.now) c.args.words.now in
-    let its : Asks (tasks.Demo c.in-Demo.moves) words = subst (λ task. Asks task words) c.in-Demo.is c.in-Ok.ensures.asked in
-    let same : c.in-Demo.moves ≡ n = same_moves words c.in-Demo.moves n its asks in (
-      subst (λ moves. IsDemo moves (g.Co.Sink.state c.args.console.now) (g.Co.Sink.state c.run_demo.new.console) (g.St.Sink.state c.args.steps.now)
-          (g.St.Sink.state c.run_demo.new.steps) c.in-Ok-run_demo.status) same c.in-Ok-run_demo.ensures.run,
+    let its : Asks (tasks.Demo c.in-Demo.moves c.in-Demo.stepping) words = subst (λ task. Asks task words) c.in-Demo.is c.in-Ok.ensures.asked in
+    let same = same_demo words c.in-Demo.moves n c.in-Demo.stepping stepping its asks in (
+      subst (λ kind. IsDemo n kind (g.Co.Sink.state c.args.console.now) (g.Co.Sink.state c.run_demo.new.console) (g.St.Sink.state c.args.steps.now)
+          (g.St.Sink.state c.run_demo.new.steps) c.in-Ok-run_demo.status) same.1
+          (subst (λ moves. IsDemo moves c.in-Demo.stepping (g.Co.Sink.state c.args.console.now) (g.Co.Sink.state c.run_demo.new.console) (g.St.Sink.state c.args.steps.now)
+          (g.St.Sink.state c.run_demo.new.steps) c.in-Ok-run_demo.status) same.0 c.in-Ok-run_demo.ensures.run),
       refl,
     )
 
@@ -86,7 +88,7 @@ pub returns-in-Err-Refused-clause-faultless : goal.returns-in-Err-Refused-clause
 returns-in-Err-Refused-clause-faultless g c = λ whole. absurd whole
 
 pub returns-in-Err-Refused-clause-demo : goal.returns-in-Err-Refused-clause-demo
-returns-in-Err-Refused-clause-demo g c = λ n asks run. absurd run
+returns-in-Err-Refused-clause-demo g c = λ n stepping asks run. absurd run
 
 pub returns-in-Err-OutOfMemory-clause-refused : goal.returns-in-Err-OutOfMemory-clause-refused
 returns-in-Err-OutOfMemory-clause-refused g c = λ r. tt
@@ -122,7 +124,7 @@ pub returns-in-Err-OutOfMemory-clause-faultless : goal.returns-in-Err-OutOfMemor
 returns-in-Err-OutOfMemory-clause-faultless g c = λ whole. absurd whole
 
 pub returns-in-Err-OutOfMemory-clause-demo : goal.returns-in-Err-OutOfMemory-clause-demo
-returns-in-Err-OutOfMemory-clause-demo g c = λ n asks run. absurd run
+returns-in-Err-OutOfMemory-clause-demo g c = λ n stepping asks run. absurd run
 
 pub returns-in-Err-clause-refused : goal.returns-in-Err-clause-refused
 returns-in-Err-clause-refused g c = λ r. tt
@@ -158,7 +160,7 @@ pub returns-in-Err-clause-faultless : goal.returns-in-Err-clause-faultless
 returns-in-Err-clause-faultless g c = λ whole. absurd whole
 
 pub returns-in-Err-clause-demo : goal.returns-in-Err-clause-demo
-returns-in-Err-clause-demo g c = λ n asks run. absurd run
+returns-in-Err-clause-demo g c = λ n stepping asks run. absurd run
 
 pub returns-in-Err-run_demo-clause-refused : goal.returns-in-Err-run_demo-clause-refused
 returns-in-Err-run_demo-clause-refused g c = λ r. tt
@@ -194,7 +196,7 @@ pub returns-in-Err-run_demo-clause-faultless : goal.returns-in-Err-run_demo-clau
 returns-in-Err-run_demo-clause-faultless g c = λ whole. absurd whole
 
 pub returns-in-Err-run_demo-clause-demo : goal.returns-in-Err-run_demo-clause-demo
-returns-in-Err-run_demo-clause-demo g c = λ n asks run. absurd run
+returns-in-Err-run_demo-clause-demo g c = λ n stepping asks run. absurd run
 
 pub returns-in-Ok-stream-clause-refused : goal.returns-in-Ok-stream-clause-refused
 returns-in-Ok-stream-clause-refused g c = λ r. absurd (c.in-Ok.ensures.accepted refl r)
@@ -223,46 +225,46 @@ pub returns-in-Ok-stream-clause-faultless : goal.returns-in-Ok-stream-clause-fau
 returns-in-Ok-stream-clause-faultless g c = c.in-Ok-stream.ensures.causes.faultless
 
 pub returns-in-Ok-stream-clause-demo : goal.returns-in-Ok-stream-clause-demo
-returns-in-Ok-stream-clause-demo g c = λ n asks run. absurd (no_stream (map (λ w. w.now) c.args.words.now) c.in-Stream.options n asks (subst (λ task. Asks task (map (λ w. w.now) c.args.words.now)) c.in-Stream.is c.in-Ok.ensures.asked))
+returns-in-Ok-stream-clause-demo g c = λ n stepping asks run. absurd (no_stream (map (λ w. w.now) c.args.words.now) c.in-Stream.options n stepping asks (subst (λ task. Asks task (map (λ w. w.now) c.args.words.now)) c.in-Stream.is c.in-Ok.ensures.asked))
 
 pub returns-in-Ok-run_demo-clause-refused : goal.returns-in-Ok-run_demo-clause-refused
 returns-in-Ok-run_demo-clause-refused g c = λ r. absurd (c.in-Ok.ensures.accepted refl r)
 
 pub returns-in-Ok-run_demo-clause-its_cause : goal.returns-in-Ok-run_demo-clause-its_cause
-returns-in-Ok-run_demo-clause-its_cause g c = λ options asks. absurd (no_stream (map (λ w. w.now) c.args.words.now) options c.in-Demo.moves (subst (λ task. Asks task (map (λ w. w.now) c.args.words.now)) c.in-Demo.is c.in-Ok.ensures.asked) asks)
+returns-in-Ok-run_demo-clause-its_cause g c = λ options asks. absurd (no_stream (map (λ w. w.now) c.args.words.now) options c.in-Demo.moves c.in-Demo.stepping (subst (λ task. Asks task (map (λ w. w.now) c.args.words.now)) c.in-Demo.is c.in-Ok.ensures.asked) asks)
 
 pub returns-in-Ok-run_demo-clause-run : goal.returns-in-Ok-run_demo-clause-run
-returns-in-Ok-run_demo-clause-run g c = λ options asks. absurd (no_stream (map (λ w. w.now) c.args.words.now) options c.in-Demo.moves (subst (λ task. Asks task (map (λ w. w.now) c.args.words.now)) c.in-Demo.is c.in-Ok.ensures.asked) asks)
+returns-in-Ok-run_demo-clause-run g c = λ options asks. absurd (no_stream (map (λ w. w.now) c.args.words.now) options c.in-Demo.moves c.in-Demo.stepping (subst (λ task. Asks task (map (λ w. w.now) c.args.words.now)) c.in-Demo.is c.in-Ok.ensures.asked) asks)
 
 pub returns-in-Ok-run_demo-clause-complete : goal.returns-in-Ok-run_demo-clause-complete
-returns-in-Ok-run_demo-clause-complete g c = λ options asks. absurd (no_stream (map (λ w. w.now) c.args.words.now) options c.in-Demo.moves (subst (λ task. Asks task (map (λ w. w.now) c.args.words.now)) c.in-Demo.is c.in-Ok.ensures.asked) asks)
+returns-in-Ok-run_demo-clause-complete g c = λ options asks. absurd (no_stream (map (λ w. w.now) c.args.words.now) options c.in-Demo.moves c.in-Demo.stepping (subst (λ task. Asks task (map (λ w. w.now) c.args.words.now)) c.in-Demo.is c.in-Ok.ensures.asked) asks)
 
 pub returns-in-Ok-run_demo-clause-no_other : goal.returns-in-Ok-run_demo-clause-no_other
-returns-in-Ok-run_demo-clause-no_other g c = λ options bytes status asks. absurd (no_stream (map (λ w. w.now) c.args.words.now) options c.in-Demo.moves (subst (λ task. Asks task (map (λ w. w.now) c.args.words.now)) c.in-Demo.is c.in-Ok.ensures.asked) asks)
+returns-in-Ok-run_demo-clause-no_other g c = λ options bytes status asks. absurd (no_stream (map (λ w. w.now) c.args.words.now) options c.in-Demo.moves c.in-Demo.stepping (subst (λ task. Asks task (map (λ w. w.now) c.args.words.now)) c.in-Demo.is c.in-Ok.ensures.asked) asks)
 
 pub returns-in-Err-Refused-clause-order : goal.returns-in-Err-Refused-clause-order
 returns-in-Err-Refused-clause-order g c = λ options asks run. absurd run
 
 pub returns-in-Err-Refused-clause-demo_order : goal.returns-in-Err-Refused-clause-demo_order
-returns-in-Err-Refused-clause-demo_order g c = λ n asks run. absurd run
+returns-in-Err-Refused-clause-demo_order g c = λ n stepping asks run. absurd run
 
 pub returns-in-Err-OutOfMemory-clause-order : goal.returns-in-Err-OutOfMemory-clause-order
 returns-in-Err-OutOfMemory-clause-order g c = λ options asks run. absurd run
 
 pub returns-in-Err-OutOfMemory-clause-demo_order : goal.returns-in-Err-OutOfMemory-clause-demo_order
-returns-in-Err-OutOfMemory-clause-demo_order g c = λ n asks run. absurd run
+returns-in-Err-OutOfMemory-clause-demo_order g c = λ n stepping asks run. absurd run
 
 pub returns-in-Err-clause-order : goal.returns-in-Err-clause-order
 returns-in-Err-clause-order g c = λ options asks run. absurd run
 
 pub returns-in-Err-clause-demo_order : goal.returns-in-Err-clause-demo_order
-returns-in-Err-clause-demo_order g c = λ n asks run. absurd run
+returns-in-Err-clause-demo_order g c = λ n stepping asks run. absurd run
 
 pub returns-in-Err-run_demo-clause-order : goal.returns-in-Err-run_demo-clause-order
 returns-in-Err-run_demo-clause-order g c = λ options asks run. absurd run
 
 pub returns-in-Err-run_demo-clause-demo_order : goal.returns-in-Err-run_demo-clause-demo_order
-returns-in-Err-run_demo-clause-demo_order g c = λ n asks run. absurd run
+returns-in-Err-run_demo-clause-demo_order g c = λ n stepping asks run. absurd run
 
 pub returns-in-Err-Refused-clause-told : goal.returns-in-Err-Refused-clause-told
 returns-in-Err-Refused-clause-told g c = λ unnamed. refl
@@ -291,14 +293,16 @@ returns-in-Ok-stream-clause-order g c = λ options asks run.
     subst (λ o. EndsInOrder o was now c.in-Ok-stream.status) (same_options words c.in-Stream.options options its asks) c.in-Ok-stream.ensures.order
 
 pub returns-in-Ok-run_demo-clause-order : goal.returns-in-Ok-run_demo-clause-order
-returns-in-Ok-run_demo-clause-order g c = λ options asks. absurd (no_stream (map (λ w. w.now) c.args.words.now) options c.in-Demo.moves (subst (λ task. Asks task (map (λ w. w.now) c.args.words.now)) c.in-Demo.is c.in-Ok.ensures.asked) asks)
+returns-in-Ok-run_demo-clause-order g c = λ options asks. absurd (no_stream (map (λ w. w.now) c.args.words.now) options c.in-Demo.moves c.in-Demo.stepping (subst (λ task. Asks task (map (λ w. w.now) c.args.words.now)) c.in-Demo.is c.in-Ok.ensures.asked) asks)
 
 pub returns-in-Ok-stream-clause-demo_order : goal.returns-in-Ok-stream-clause-demo_order
-returns-in-Ok-stream-clause-demo_order g c = λ n asks run. absurd (no_stream (map (λ w. w.now) c.args.words.now) c.in-Stream.options n asks (subst (λ task. Asks task (map (λ w. w.now) c.args.words.now)) c.in-Stream.is c.in-Ok.ensures.asked))
+returns-in-Ok-stream-clause-demo_order g c = λ n stepping asks run. absurd (no_stream (map (λ w. w.now) c.args.words.now) c.in-Stream.options n stepping asks (subst (λ task. Asks task (map (λ w. w.now) c.args.words.now)) c.in-Stream.is c.in-Ok.ensures.asked))
 
 pub returns-in-Ok-run_demo-clause-demo_order : goal.returns-in-Ok-run_demo-clause-demo_order
-returns-in-Ok-run_demo-clause-demo_order g c = λ n asks run.
+returns-in-Ok-run_demo-clause-demo_order g c = λ n stepping asks run.
     let words = map (λ w. w.now) c.args.words.now in
-    let its : Asks (tasks.Demo c.in-Demo.moves) words = subst (λ task. Asks task words) c.in-Demo.is c.in-Ok.ensures.asked in
-    let same : c.in-Demo.moves ≡ n = same_moves words c.in-Demo.moves n its asks in
-    subst (λ moves. IsOrderedDemo moves (g.St.Sink.state c.args.steps.now) (g.St.Sink.state c.run_demo.new.steps) c.in-Ok-run_demo.status) same c.in-Ok-run_demo.ensures.order
+    let its : Asks (tasks.Demo c.in-Demo.moves c.in-Demo.stepping) words = subst (λ task. Asks task words) c.in-Demo.is c.in-Ok.ensures.asked in
+    let same = same_demo words c.in-Demo.moves n c.in-Demo.stepping stepping its asks in
+    subst (λ kind. IsOrderedDemo n kind (g.Co.Sink.state c.args.console.now) (g.Co.Sink.state c.run_demo.new.console) (g.St.Sink.state c.args.steps.now) (g.St.Sink.state c.run_demo.new.steps) c.in-Ok-run_demo.status) same.1
+    (subst (λ moves. IsOrderedDemo moves c.in-Demo.stepping (g.Co.Sink.state c.args.console.now) (g.Co.Sink.state c.run_demo.new.console) (g.St.Sink.state c.args.steps.now) (g.St.Sink.state c.run_demo.new.steps) c.in-Ok-run_demo.status) same.0
+    c.in-Ok-run_demo.ensures.order)
