@@ -29,6 +29,7 @@ ONE_THREAD = {"--lockstep", "--paced"}  # the words of such runs
 PACED_EVERY = 4  # each job of such a number by this is paced too
 COMPACT_IN = 4  # one job in so many is run with compact steps
 WIDE_IN = 4  # and one in so many with wide buffers
+SMOOTH_IN = 4  # and one in so many by subticks, which change no text
 THREAD_SECONDS = 120  # the same of four threads, which take it while they wait too
 STACK_KILOBYTES = 1024  # of each of the four threads
 KILOBYTES = 14 * 1024  # less than the largest job has, for the code, the stacks and all else
@@ -177,7 +178,7 @@ def what_is_unlike(told, first):
 class Tally:
     """What was tried: jobs, and the lines, heads, reports, cuts and resets of their runs; how many of the resets came before all was
     carried out; how many runs a soft limit ended, and in how many of these moves were dropped; how
-    many jobs were tried by more seeds, and how many were run with compact steps, and with wide buffers; how many runs were audited; and
+    many jobs were tried by more seeds, and how many were run with compact steps, with wide buffers, and by subticks; how many runs were audited; and
     the jobs that are left out, since the model would take too long."""
 
     jobs: int = 0
@@ -192,6 +193,7 @@ class Tally:
     alike: int = 0
     compact: int = 0
     wide: int = 0
+    smooth: int = 0
     audited: int = 0
     left_out: int = 0
 
@@ -202,7 +204,7 @@ class Tally:
     def __str__(self):
         rest = f"; {self.left_out} are left out, since they have too many steps" if self.left_out else ""
         rest = (f"; {self.audited} runs are audited" if self.audited else "; no run is audited, since no audit is built") + rest
-        return (f"{self.jobs} jobs, each as a stream and in lockstep, one in {PACED_EVERY} paced too, {self.compact} of them with compact steps, {self.wide} with wide buffers, {self.alike} by {SEEDS} more seeds, in all "
+        return (f"{self.jobs} jobs, each as a stream and in lockstep, one in {PACED_EVERY} paced too, {self.compact} of them with compact steps, {self.wide} with wide buffers, {self.smooth} by subticks, {self.alike} by {SEEDS} more seeds, in all "
                 f"{self.lines} lines with {self.heads} heads and {self.reports} reports, {self.cuts} cuts of jogs, {self.resets} "
                 f"resets, {self.broken_off} of them before all was done, and {self.alarms} runs that a soft limit ended, {self.stopped} of them before all was done{rest}")
 
@@ -246,6 +248,9 @@ class Trial:
         for option, is_given in (("--compact", is_compact), ("--wide", is_wide)):
             if is_given:
                 tries = [(start_it, chance.choice((["stream", option, *words[1:]], [*words, option]))) for start_it, words in tries]
+        if chance.randrange(SMOOTH_IN) == 0:
+            tally.smooth += 1
+            tries = [(start_it, [*words, "--smooth"]) for start_it, words in tries]
         for start_it, words in tries:
             told = run_program(start_it, words, job, folder)
             if isinstance(told, str):
