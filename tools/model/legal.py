@@ -21,6 +21,10 @@ class Stretch:
     def is_done(self):
         return self.tail == len(self.moves)
 
+    def is_left_to_jogs(self):
+        """Whether all that is left is of jogs."""
+        return all(move.is_jog for move in self.moves[self.tail :])
+
     def may_stop(self):
         """Whether the machine can stop over the events of the last head."""
         if self.last is None:
@@ -79,6 +83,8 @@ def read_legal(script, steps):
             stretch.take(text, script.is_reset)
         if script.is_reset and text.is_at_end():
             break
+        if is_cut and not stretch.is_left_to_jogs():
+            raise Wrong(f"the cut at line {text.at + 1} of the steps leaves out what is no jog")
         if not stretch.may_stop():
             raise Wrong(f"before line {text.at + 1} of the steps the machine can't stop")
         if mark != END:
@@ -143,7 +149,7 @@ def fault_of_texts(job, console, steps, most_events):
             Report.read(report)
     except (BadText, Bad) as fault:
         return str(fault)
-    right, epochs = run_of(job, most_events, told, plain)
+    right, epochs = run_of(job, most_events, told, plain, by_rules_alone=True)
     if told != right.console:
         return "the console differs"
     if len(parts_of(plain)) != len(epochs):

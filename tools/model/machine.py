@@ -68,9 +68,10 @@ class Kept(NamedTuple):
 
 class Machine:
     """Lines are answered in order, from a banner on; `console` has the lines of what is told, and the script what is asked of the
-    motion."""
+    motion. By the rules alone, a line may be refused since the machine moves, and jogs cut, also where answers before show that all is
+    done."""
 
-    def __init__(self, most_events, told, cuts=(), buffers=STANDARD):
+    def __init__(self, most_events, told, cuts=(), buffers=STANDARD, by_rules_alone=False):
         self.modes = {"motion": "G0", "plane": "G17", "units": "G21", "distance": "G90", "system": "G54"}
         self.spindle, self.coolant, self.tool, self.feed, self.speed = "M5", "M9", 0, 0, 0
         self.offsets = {name: [0] * 3 for name in OFFSETS}
@@ -82,6 +83,7 @@ class Machine:
         self.was_cut = False  # the next line is begun behind a cut, or where jogs are done
         self.under_way = ""  # the machine may be found in this state: "Run" or "Jog", or in none, since all is done
         self.has_moved = False  # a line has moved the machine, and none that settles is answered since
+        self.by_rules_alone, self.moved_in, self.last_was_jog = by_rules_alone, set(), False  # and so has a line of G-code, or a jog
         self.left, self.work = self.leave(), NOTHING
         self.course = Course(self.left, buffers=buffers)
 
@@ -130,10 +132,12 @@ class Machine:
             self.left = self.leave()
         else:
             self.console.append("ok")
-        self.work = self.work._replace(stood=self.work.stood or self.was_cut)
+        self.work = self.work._replace(stood=not self.by_rules_alone and (self.work.stood or self.was_cut))
         self.has_moved = not self.work.settles and (self.has_moved or self.work.moves > 0)
+        self.moved_in = set() if self.work.settles else self.moved_in | ({self.work.state} if self.work.moves else set())
         self.course.add(line, len(kept) + 1, self.left, self.script.ticks, self.work)
-        self.was_cut = bool(self.cuts) and self.cuts[0].number == self.number and self.under_way == "Jog"
+        is_cut = bool(self.cuts) and self.cuts[0].number == self.number
+        self.was_cut = is_cut and (self.by_rules_alone or self.under_way == "Jog")
         if self.was_cut:
             self.cut_jogs(self.cuts.pop(0))
 
@@ -181,8 +185,18 @@ class Machine:
     def refuse_in(self, states, error):
         """A line is refused where the machine is found in some states. Where it may be, the console tells whether it was."""
         at = len(self.console)
-        if self.under_way in states and self.told[at : at + 1] == [f"error:{error}"]:
+        if self.may_be_found(states) and self.told[at : at + 1] == [f"error:{error}"]:
             raise Refused(error)
+
+    def may_be_found(self, states):
+        """Whether the machine may be found in one of some states. The rules alone let a line of G-code find a jog wherever the last that
+        was accepted of both is one, and other lines moves that no line has settled: also behind a cut, and where an answer shows that
+        these are done."""
+        if not self.by_rules_alone:
+            return self.under_way in states
+        if "Run" not in states:
+            return self.last_was_jog
+        return not self.moved_in.isdisjoint(states) and ("Jog" in states or not self.last_was_jog)
 
     def leave_state(self, state):
         """A line is accepted that is not where the machine is found in this state: so all that may be under way in it is
@@ -259,8 +273,9 @@ class Machine:
         if self.leaves_travel([target]):
             raise Refused(15)
         stood = self.leave_state("Run")
-        moves = int(self.go(target, lengths["F"]))
+        moves = int(self.go(target, lengths["F"], True))
         self.has_jogged |= bool(moves)
+        self.last_was_jog = True
         self.under_way = "Jog" if moves else self.under_way
         self.work = Work(moves, "Jog", stood=stood)
 
@@ -315,7 +330,7 @@ class Machine:
         if self.leaves_travel([place for place, _ in ways]):
             self.work = Work(stood=stood, halts=True)
             raise Limited
-        self.feed = feed
+        self.feed, self.last_was_jog = feed, False
         self.tool = line.values.get("T", self.tool * WHOLE) // WHOLE
         marks = self.turn(line)
         self.modes = modes
@@ -417,14 +432,14 @@ class Machine:
         self.spindle, self.coolant, self.speed = spindle, coolant, speed
         return bool(marks)
 
-    def go(self, place, feed):
+    def go(self, place, feed, is_jog=False):
         """Moves to a place. Answers whether that has steps."""
         limits = Limits(*([self.settings[first + axis] for axis in range(3)] for first in (100, 110, 120)),
                         self.settings[11])
         goal = [to_steps(length, per_mm) for length, per_mm in zip(place, limits.per_mm)]
         ways = [to - fro for fro, to in zip(self.position_steps, goal)]
         self.position, self.position_steps = place, goal
-        return self.script.add(self.number, ways, feed, limits)
+        return self.script.add(self.number, ways, feed, limits, is_jog)
 
     def end_program(self):
         """The machine comes to rest, what is on is turned off, and the end is told."""

@@ -58,11 +58,11 @@ class Limits:
 
 
 class Move:
-    """A straight move of some steps on each axis, with its geometry under the limits that stand when it is added. Its
-    feed is in nm per minute, and a rapid has none."""
+    """A straight move of some steps on each axis, of a jog or of a line of G-code, with its geometry under the limits that
+    stand when it is added. Its feed is in nm per minute, and a rapid has none."""
 
-    def __init__(self, line, ways, feed, limits):
-        self.line, self.ways = line, ways
+    def __init__(self, line, ways, feed, limits, is_jog=False):
+        self.line, self.ways, self.is_jog = line, ways, is_jog
         counts = [abs(way) for way in ways]
         self.events, self.prepared = max(counts), 0
         lengths = [count * 10**9 // per_mm for count, per_mm in zip(counts, limits.per_mm)]
@@ -133,11 +133,11 @@ class Script:
         self.stretches.append((self.moves, END))
         self.moves = []
 
-    def add(self, line, ways, feed, limits):
+    def add(self, line, ways, feed, limits, is_jog=False):
         """Adds a move, if it has steps. Answers whether it has."""
         if not any(ways):
             return False
-        move = Move(line, ways, feed, limits)
+        move = Move(line, ways, feed, limits, is_jog)
         self.room -= move.events
         if self.room < 0:
             raise TooLong
