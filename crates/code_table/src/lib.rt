@@ -9,6 +9,7 @@ ghost use Rattle.code_table.specs.Tables.{Row, value_of, rises, IsReordered, Ans
 mod flags;
 pub mod groups;
 mod laws;
+mod refusals;
 mod standard;
 #[cfg(test)]
 mod tests;
