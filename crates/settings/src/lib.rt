@@ -74,7 +74,7 @@ macro_rules! take_row {
     (($n:ident, $v:ident) $($number:literal $keeping:ident $low:literal..=$high:literal, $($field:ident).+;)+) => {
         match $n {
             $($number => taken(Keeping::$keeping, $v, $low, $high),)+
-            _ => Err(Code(3)),
+            _ => Err(Code::INVALID_STATEMENT),
         }
     };
 }
@@ -117,7 +117,7 @@ fn taken(keeping: Keeping, v: Decimal, low: u32, high: u32) -> Result<u32, Code>
 {
     let value = kept(keeping, v);
     if value < u64::from(low) || u64::from(high) < value {
-        return Err(Code(3));
+        return Err(Code::INVALID_STATEMENT);
     }
     match keeping {
         Keeping::Switch => Ok(u32::from(value != 0)),
@@ -133,7 +133,7 @@ fn take(n: u16, v: Decimal) -> Result<u32, Code>
     ensures refused { IfErr result (λ code. set_refusal n v ≡ Some code) }
 {
     if v.micro < 0 {
-        return Err(Code(4));
+        return Err(Code::NEGATIVE_VALUE);
     }
     with_rows!(take_row(n, v))
 }
