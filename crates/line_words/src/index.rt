@@ -93,25 +93,25 @@ impl Index {
         ensures { (all before : List Word) → IsPassed self.now all before → result ≡ word_refusal before word.now }
     {
         if command_not_whole(word) {
-            return Some(Code(23));
+            return Some(Code::COMMAND_NOT_WHOLE);
         }
         if unsupported_command(word, group, slot) {
-            return Some(Code(20));
+            return Some(Code::UNSUPPORTED_COMMAND);
         }
         if self.second_axis_command(word) {
-            return Some(Code(24));
+            return Some(Code::AXIS_COMMAND_CONFLICT);
         }
         if self.group_stands(group) {
-            return Some(Code(21));
+            return Some(Code::MODAL_GROUP_VIOLATION);
         }
         if tool_out_of_range(word) {
-            return Some(Code(38));
+            return Some(Code::TOOL_OUT_OF_RANGE);
         }
         if self.repeated_word(word, slot) {
-            return Some(Code(25));
+            return Some(Code::REPEATED_WORD);
         }
         if negative_value(word) {
-            return Some(Code(4));
+            return Some(Code::NEGATIVE_VALUE);
         }
         None
     }
