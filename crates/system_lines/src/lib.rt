@@ -117,7 +117,7 @@ fn read_number(line: &[u8], at: usize) -> Result<(Decimal, usize), Code>
     ensures refused { IfErr result (λ refusal. refusal ≡ record { 0 = 2 }) }
     ensures not_read { OnErr result (IsErr (number_at line.now at)) }
 {
-    read_decimal(line, at).map_err(|_| Code(2))
+    read_decimal(line, at).map_err(|_| Code::BAD_NUMBER)
 }
 
 /// The number of a setting: a whole number from 0 to 255.
@@ -142,15 +142,15 @@ fn read_setting(line: &[u8]) -> Result<Command, Code>
 {
     let (n, equals) = read_number(line, 1)?;
     if line.get(equals) != Some(&b'=') {
-        return Err(Code(3));
+        return Err(Code::INVALID_STATEMENT);
     }
     let (value, end) = read_number(line, equals + 1)?;
     if end != line.len() {
-        return Err(Code(3));
+        return Err(Code::INVALID_STATEMENT);
     }
     match setting_number(n) {
         Some(n) => Ok(Command::Set { n, value }),
-        None => Err(Code(3)),
+        None => Err(Code::INVALID_STATEMENT),
     }
 }
 
@@ -172,7 +172,7 @@ pub fn read_command(line: &[u8]) -> Result<Command, Code>
         Kind::Unlock => Ok(Command::Unlock),
         Kind::ListOffsets => Ok(Command::ListOffsets),
         Kind::Setting => read_setting(line),
-        Kind::Jog | Kind::BareJog | Kind::Other => Err(Code(3)),
+        Kind::Jog | Kind::BareJog | Kind::Other => Err(Code::INVALID_STATEMENT),
     }
 }
 
