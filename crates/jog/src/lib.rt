@@ -97,25 +97,25 @@ fn first_error(s: &Settings, line: &Line<'_>, at: &Nm3) -> Option<Code>
     ensures { result ≡ jog_error s.now line.now at.now }
 {
     if line_number_out_of_range(line) {
-        return Some(Code(27));
+        return Some(Code::INVALID_LINE_NUMBER);
     }
     if has_no_feed(line) {
-        return Some(Code(22));
+        return Some(Code::UNDEFINED_FEED);
     }
     if !names_axis(line) {
-        return Some(Code(26));
+        return Some(Code::NO_AXIS_WORDS);
     }
     if unused_in_jog(line) {
-        return Some(Code(36));
+        return Some(Code::UNUSED_WORDS);
     }
     if has_other_code(line) {
-        return Some(Code(16));
+        return Some(Code::INVALID_JOG);
     }
     if is_far(at) {
-        return Some(Code(33));
+        return Some(Code::TARGET_OUT_OF_RANGE);
     }
     if leave_travel(s, &[*at]) {
-        return Some(Code(15));
+        return Some(Code::TRAVEL_EXCEEDED);
     }
     None
 }

@@ -17,7 +17,7 @@ fn jog_of(settings: &Settings, text: &[u8]) -> Result<JogMove, Code>
 {
     match words(text) {
         Ok(words) => check_jog(&Parser::opening(), settings, &words),
-        Err(_) => Err(Code(2)),
+        Err(_) => Err(Code::BAD_NUMBER),
     }
 }
 
