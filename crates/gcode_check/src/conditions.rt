@@ -135,25 +135,25 @@ fn command_error(p: &Parser, line: &Line<'_>) -> Option<Code>
         return None;
     }
     if dwell_without_time(line) {
-        return Some(Code(28));
+        return Some(Code::VALUE_WORD_MISSING);
     }
     if system_offset_without_axis(line) {
-        return Some(Code(26));
+        return Some(Code::NO_AXIS_WORDS);
     }
     if system_offset_without_system(line) {
-        return Some(Code(28));
+        return Some(Code::VALUE_WORD_MISSING);
     }
     if system_out_of_range(line) {
-        return Some(Code(29));
+        return Some(Code::UNSUPPORTED_SYSTEM);
     }
     if system_offset_unsupported(line) {
-        return Some(Code(20));
+        return Some(Code::UNSUPPORTED_COMMAND);
     }
     if shift_without_axis(line) {
-        return Some(Code(26));
+        return Some(Code::NO_AXIS_WORDS);
     }
     if machine_coordinates_without_motion(p, line) {
-        return Some(Code(30));
+        return Some(Code::MACHINE_COORDINATES_WITHOUT_MOTION);
     }
     None
 }
@@ -166,16 +166,16 @@ fn value_error(p: &Parser, line: &Line<'_>, points: &[Nm3]) -> Option<Code>
 {
     let motion = motion_of(p, line);
     if axis_words_without_motion(p, line, motion) {
-        return Some(Code(31));
+        return Some(Code::AXIS_WORDS_WITHOUT_MOTION);
     }
     if motion_without_feed(p, line, motion) {
-        return Some(Code(22));
+        return Some(Code::UNDEFINED_FEED);
     }
     if unused_words(line) {
-        return Some(Code(36));
+        return Some(Code::UNUSED_WORDS);
     }
     if target_out_of_range(p, line, points) {
-        return Some(Code(33));
+        return Some(Code::TARGET_OUT_OF_RANGE);
     }
     None
 }
@@ -187,7 +187,7 @@ fn first_error(p: &Parser, line: &Line<'_>, points: &[Nm3]) -> Option<Code>
     ensures { result ≡ line_refusal p.now line.now }
 {
     if line_number_out_of_range(line) {
-        return Some(Code(27));
+        return Some(Code::INVALID_LINE_NUMBER);
     }
     match command_error(p, line) {
         Some(code) => Some(code),
