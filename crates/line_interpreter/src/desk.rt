@@ -27,6 +27,7 @@ ghost use Rattle.run_rules.specs.Resets.{reset_state};
 
 use crate::kept::KeptLine;
 use crate::tasks::{Body, Line, Todo};
+use code_table::Code;
 use gcode_check::{Item, Refusal, take_line};
 use gcode_words::{WordFault, Words, read_words};
 use jog::{JogMove, check_jog};
@@ -59,12 +60,12 @@ pub enum Accepted {
 }
 
 /// The error of words that can't be read.
-fn fault_number(fault: WordFault) -> u8
-    ensures { result ≡ fault_number fault }
+fn fault_code(fault: WordFault) -> Code
+    ensures { result.0 ≡ fault_number fault }
 {
     match fault {
-        WordFault::Letter => 1,
-        WordFault::Number => 2,
+        WordFault::Letter => Code::EXPECTED_LETTER,
+        WordFault::Number => Code::BAD_NUMBER,
     }
 }
 
@@ -114,13 +115,13 @@ impl Desk {
     }
 
     /// The line is refused.
-    fn refuse(&mut self, number: u8) -> Accepted
+    fn refuse(&mut self, code: Code) -> Accepted
         requires ready { IsReady self.old }
-        ensures begun { (since : Since) → Begun self.new (refused (standing self.old since) number) result }
+        ensures begun { (since : Since) → Begun self.new (refused (standing self.old since) code.0) result }
         ensures number { self.new.number ≡ self.old.number }
         ensures ready { IsReady self.new }
     {
-        self.begin(Body::Refused(number));
+        self.begin(Body::Refused(code.0));
         Accepted::Neither
     }
 
@@ -147,7 +148,7 @@ impl Desk {
                 self.begin(Body::Accepted);
                 Accepted::Neither
             }
-            Err(code) => self.refuse(code.0),
+            Err(code) => self.refuse(code),
         }
     }
 
@@ -178,7 +179,7 @@ impl Desk {
     {
         match read_command(kept) {
             Ok(command) => self.obey(command),
-            Err(code) => self.refuse(code.0),
+            Err(code) => self.refuse(code),
         }
     }
 
@@ -201,7 +202,7 @@ impl Desk {
                 self.line.begin_items(self.number, &modal);
                 Accepted::Code
             }
-            Err(Refusal::Error(code)) => self.refuse(code.0),
+            Err(Refusal::Error(code)) => self.refuse(code),
             Err(Refusal::SoftLimit) => self.limit(),
         }
     }
@@ -216,7 +217,7 @@ impl Desk {
     {
         match read_words(kept, &mut self.words) {
             Ok(()) => self.judge_words(),
-            Err(fault) => self.refuse(fault_number(fault)),
+            Err(fault) => self.refuse(fault_code(fault)),
         }
     }
 
@@ -229,7 +230,7 @@ impl Desk {
         ensures ready { IsReady self.new }
     {
         if machine.locks() {
-            return self.refuse(9);
+            return self.refuse(Code::LOCKED_OUT);
         }
         self.judge_code(kept)
     }
@@ -262,7 +263,7 @@ impl Desk {
                 self.begin_jog(&jog);
                 Accepted::Jog
             }
-            Err(code) => self.refuse(code.0),
+            Err(code) => self.refuse(code),
         }
     }
 
@@ -276,7 +277,7 @@ impl Desk {
     {
         match read_words(jog_words(kept), &mut self.words) {
             Ok(()) => self.judge_jog_words(),
-            Err(fault) => self.refuse(fault_number(fault)),
+            Err(fault) => self.refuse(fault_code(fault)),
         }
     }
 
@@ -291,7 +292,7 @@ impl Desk {
     {
         let kind = Kind::of(kept);
         if machine.refuses(kind) {
-            return self.refuse(8);
+            return self.refuse(Code::NOT_IDLE);
         }
         if machine.is_unlocked_by(kind) {
             self.begin(Body::Unlocks);
@@ -330,7 +331,7 @@ impl Desk {
     {
         match line.bytes() {
             Some(kept) => self.judge_kept(kept, machine),
-            None => self.refuse(11),
+            None => self.refuse(Code::LINE_TOO_LONG),
         }
     }
 

@@ -16,7 +16,7 @@ returns-in-Ok-clause-begun c = λ since.
 pub returns-in-Err-clause-begun : goal.returns-in-Err-clause-begun
 returns-in-Err-clause-begun c = λ since.
     let b = standing c.args.self.now since in
-    let begun = rw c.fault_number.ensures at (c.refuse.ensures.begun since) in (
+    let begun = rw c.fault_code.ensures at (c.refuse.ensures.begun since) in (
       refused b (fault_number c.in-Err.fault),
       by_words b _ (Err c.in-Err.fault) (refused b (fault_number c.in-Err.fault)) (sym c.in-Err.ensures.err) refl,
       record { state = begun.state; left = begun.left; answer = begun.answer },
