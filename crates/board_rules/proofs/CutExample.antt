@@ -90,7 +90,7 @@ abbrev k8 : State → State → PlannedMove → PlannedMove → Segment → Jour
 k8 next last m n s = turned Did ∷ at_port (published (pieces.Segment s)) ∷ did (Take Go) (pieces.Segment s ∷ []) ∷ j7 next m s
 
 d8 : (first next last : State) (m n : PlannedMove) (s : Segment) → AreTwoJogs first next last m n s → Conducted (first_opening most_blocks first) (k8 next last m n s)
-d8 first next last m n s p = (ends _ _ (λ w. elsewhere _ w.stands refl) refl refl refl refl refl refl, ((refl, tt), ((record { goes = refl; empty = refl }, (p.one.taken, refl)), c7 first next m s p.one)))
+d8 first next last m n s p = (ends _ _ (λ w. elsewhere _ w.stands refl) refl refl refl refl refl refl, ((refl, refl), ((record { goes = refl; empty = refl; obeyed = refl }, (p.one.taken, refl)), c7 first next m s p.one)))
 
 abbrev k9 : State → State → PlannedMove → PlannedMove → Segment → Journal
 k9 next last m n s = line_taken (36 ∷ 74 ∷ 61 ∷ 88 ∷ 46 ∷ 48 ∷ 48 ∷ 56 ∷ 70 ∷ 57 ∷ []) (k8 next last m n s)

@@ -19,6 +19,7 @@ use Rattle.run_rules.specs.Outcomes.{Before, Becomes}
 use Rattle.board_rules.specs.Ports.PortStep.{answered, published, loaded, found_halt}
 use Rattle.board_rules.specs.Steps.{Journal, published_of, known_of, open_of, left_of, left_by, without_asks, hand_of, plan_of}
 use Rattle.board_rules.specs.Steps.Step.{at_port, began, did, made_end, evened, paused, became, cut, halted, closing, turned}
+use Rattle.board_rules.specs.Turns.{unobeyed_of}
 use Rattle.board_rules.specs.Conduct.{Conducted, Gives, MayDo, IsStopped, IsTimely, ticks_published}
 use Rattle.board_rules.proofs.Beginning.{caused, of_begun}
 use Rattle.board_rules.proofs.Keeping.{hand_is}
@@ -152,12 +153,14 @@ cut_known first h p c is cuts = by_hand (one_in_hand first h c)
 
 -- ---- when it may be published
 
--- a piece that is no cut, at any time
-pub other_timely : (p : Piece) (h : Journal) → marks_cut p ≡ false → IsTimely p h
-other_timely (pieces.Mark (marks.Cut k)) h other = absurd cc
-other_timely _ h other = tt
+-- a piece that is no cut, while no word waits to be obeyed
+pub other_timely : (p : Piece) (h : Journal) → marks_cut p ≡ false → unobeyed_of h ≡ [] → IsTimely p h
+other_timely (pieces.Mark (marks.Cut k)) h other obeyed = absurd cc
+other_timely (pieces.Segment s) h other obeyed = obeyed
+other_timely _ h other obeyed = tt
 
 -- and each piece behind a look
-pub timely_looked : (first : Opening) (p : Piece) (done : ℕ) (h : Journal) → Conducted first (at_port (loaded done) ∷ h) → hand_of h ≡ p ∷ [] → IsTimely p (at_port (loaded done) ∷ h)
-timely_looked first (pieces.Mark (marks.Cut k)) done h c is = (refl, cut_known first (at_port (loaded done) ∷ h) (pieces.Mark (marks.Cut k)) c is refl)
-timely_looked first _ done h c is = tt
+pub timely_looked : (first : Opening) (p : Piece) (done : ℕ) (h : Journal) → Conducted first (at_port (loaded done) ∷ h) → hand_of h ≡ p ∷ [] → unobeyed_of h ≡ [] → IsTimely p (at_port (loaded done) ∷ h)
+timely_looked first (pieces.Mark (marks.Cut k)) done h c is obeyed = (refl, cut_known first (at_port (loaded done) ∷ h) (pieces.Mark (marks.Cut k)) c is refl)
+timely_looked first (pieces.Segment s) done h c is obeyed = obeyed
+timely_looked first _ done h c is obeyed = tt

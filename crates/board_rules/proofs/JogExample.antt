@@ -151,7 +151,7 @@ abbrev j8 : State → PlannedMove → Segment → Journal
 j8 last m s = turned Did ∷ at_port (published (pieces.Segment s)) ∷ did (Take Go) (pieces.Segment s ∷ []) ∷ j7 last m s
 
 c8 : (first last : State) (m : PlannedMove) (s : Segment) → IsOneJog first last m s → Conducted (first_opening most_blocks first) (j8 last m s)
-c8 first last m s p = (ends _ _ (λ w. elsewhere _ w.stands refl) refl refl refl refl refl refl, ((refl, tt), ((record { goes = refl; empty = refl }, (p.taken, refl)), c7 first last m s p)))
+c8 first last m s p = (ends _ _ (λ w. elsewhere _ w.stands refl) refl refl refl refl refl refl, ((refl, refl), ((record { goes = refl; empty = refl; obeyed = refl }, (p.taken, refl)), c7 first last m s p)))
 
 abbrev j9 : State → PlannedMove → Segment → Journal
 j9 last m s = at_port found_empty ∷ j8 last m s

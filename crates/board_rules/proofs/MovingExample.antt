@@ -125,7 +125,7 @@ abbrev j11 : State → PlannedMove → Segment → Journal
 j11 last m s = turned Did ∷ at_port (published (pieces.Segment s)) ∷ did (Take Go) (pieces.Segment s ∷ []) ∷ j10 last m s
 
 c11 : (first last : State) (m : PlannedMove) (s : Segment) → IsOneSegment first last m s → Conducted (first_opening most_blocks first) (j11 last m s)
-c11 first last m s p = (ends _ _ (λ w. elsewhere _ w.stands refl) refl refl refl refl refl refl, ((refl, tt), ((record { goes = refl; empty = refl }, (p.taken, refl)), c10 first last m s p)))
+c11 first last m s p = (ends _ _ (λ w. elsewhere _ w.stands refl) refl refl refl refl refl refl, ((refl, refl), ((record { goes = refl; empty = refl; obeyed = refl }, (p.taken, refl)), c10 first last m s p)))
 
 abbrev j12 : State → PlannedMove → Segment → Journal
 j12 last m s = at_port found_empty ∷ j11 last m s

@@ -151,10 +151,12 @@ pub record MayKeep (done : ℕ) (h : Journal) : Type 0 where
 
 -- ---- the plan
 
--- a segment is taken as planned while moves or jogs are carried out, once the one before is published
+-- A segment is taken as planned while moves or jogs are carried out, once the one before is published. No word of requests waits to be
+-- obeyed: so a hold that comes with a `?` is obeyed, whether its report finds room or not, before the motion goes on.
 pub record MayGoOn (first : Opening) (h : Journal) : Type 0 where
   pub goes : is_going (motion_of first h) ≡ true
   pub empty : hand_of h ≡ []
+  pub obeyed : unobeyed_of h ≡ []
 
 -- a segment is taken so that the machine slows down, while it is to be held, or its jogs are cancelled
 pub record MaySlowDown (first : Opening) (h : Journal) : Type 0 where
@@ -235,9 +237,11 @@ pub record MayHalt (first : Opening) (h : Journal) : Type 0 where
   pub empty : hand_of h ≡ []
   pub done : known_of h ≡ ticks_given h
 
--- a cut is published in a turn in which a load gave all ticks that are published as done
+-- A cut is published in a turn in which a load gave all ticks that are published as done; and a segment only while no word of requests
+-- waits to be obeyed.
 abbrev pub IsTimely : Piece → Journal → Type 0
 IsTimely (pieces.Mark (marks.Cut k)) h = (list_any loads (this_turn h) ≡ true) × (known_of h ≡ ticks_published h)
+IsTimely (pieces.Segment s) h = unobeyed_of h ≡ []
 IsTimely p h = Unit {0}
 
 -- The machine has stopped. Jogs that were cancelled were cut, and a load in this turn gave the cut as done.

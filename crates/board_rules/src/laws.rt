@@ -177,7 +177,8 @@ pub fn boards_do_a_bounded_amount()
 /// was left to run, to the plan as it is, or to what a halt has dropped. The plan has no more blocks than it may hold
 /// (`sized`). Only a word that asks for a hold or a cancel
 /// slows it down, and behind the line that raised an alarm that alarm; and only a word that changes overrides plans it for others than 100 percent. Only cuts and halts take blocks away. Segments go on while the machine runs or
-/// jogs, and slow it down while it is being held, a jog is cancelled, or an alarm stops it. What was given is what the
+/// jogs, and slow it down while it is being held, a jog is cancelled, or an alarm stops it. While a word of requests waits to be
+/// obeyed none goes on, and none is published. What was given is what the
 /// plan gave, and the end after it if it was made; it is published, or in hand, and comes in turn, so that the piece in
 /// hand may be published.
 pub fn boards_run_their_plan()
@@ -192,6 +193,8 @@ pub fn boards_run_their_plan()
     ensures held { (first : Opening) (h : Journal) → Conducted first h → motion_of first h ≡ Holding → has_held_in (port_log h) ≡ true }
     ensures cancelled { (first : Opening) (h : Journal) → Conducted first h → motion_of first h ≡ Cancelling → has_slowed_in (port_log h) ≡ true }
     ensures going { (first : Opening) (h : Journal) (ps : List AnyPiece) → Conducted first (did (Take Go) ps ∷ h) → is_going (motion_of first h) ≡ true }
+    ensures obeyed { (first : Opening) (h : Journal) (ps : List AnyPiece) → Conducted first (did (Take Go) ps ∷ h) → unobeyed_of h ≡ [] }
+    ensures obeyed_first { (first : Opening) (h : Journal) (s : AnySegment) → Conducted first (at_port (published (AnyPiece.Segment s)) ∷ h) → unobeyed_of h ≡ [] }
     ensures slowing { (first : Opening) (h : Journal) (ps : List AnyPiece) → Conducted first (did (Take Hold) ps ∷ h) →
         (motion_of first h ≡ Holding) ⊎ ((motion_of first h ≡ Cancelling) ⊎ ((motion_of first h ≡ Stopping) × (has_limited h ≡ true))) }
     ensures hand { (first : Opening) (h : Journal) → Conducted first h → given_of h ≡ published_of h ++ hand_of h }

@@ -24,7 +24,7 @@ use Rattle.board_turns.specs.declared.board.Flags.TheVariants as words
 use Rattle.board_turns.specs.declared.board.Beat.TheVariants.{Motion, Main}
 use Rattle.board_turns.specs.Boards.{Keeps, Rounds, NoneWaits, GoingBetween, IsFree, TakesFlags, takes_no_word, has_published, changes_left, number_of}
 use Rattle.board_turns.specs.Turning.{IsNextMove, AreWorked, IsQuiet, IsReady, MayRun, MayAwait, HasStopped, NeedsNoWait, GoesOn, PassesNothing, HasFilled, HasTried, BoardWorked, WorksOn}
-pub use Rattle.board_turns.proofs.Freeing.{free_of, takes_none, no_word_left, free_passed, free_tried, flags_tried, flags_passed, taken_by, obeyed_by}
+pub use Rattle.board_turns.proofs.Freeing.{free_of, takes_none, no_word_left, free_passed, free_tried, flags_tried, flags_passed, taken_by, obeyed_by, obeyed_unless}
 use Rattle.board_rules.proofs.Facts.{not_whole, uncounted, uncounted_line, uncounted_owing}
 use Rattle.board_turns.proofs.Steps.{other_beat, halts_by, none_halts}
 

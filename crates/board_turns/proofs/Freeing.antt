@@ -1,12 +1,12 @@
 -- What words of flags are to be taken, or obeyed, behind steps that leave them.
-use Rattle.std.proofs.Common.{ℕ, ◌≡◌, Bool, true, false, [], sym, ap, ◌∙◌, subst}
+use Rattle.std.proofs.Common.{ℕ, ◌≡◌, Bool, true, false, [], Some, None, sym, ap, ◌∙◌, subst}
 use Rattle.board_rules.specs.Openings.{Opening}
 use Rattle.board_rules.specs.Steps.{Journal}
 use Rattle.board_rules.specs.Turns.{flags_taken, unobeyed_of, owes_report}
 use Rattle.board_turns.specs.declared.board.Board.{Board}
 use Rattle.board_turns.specs.declared.board.Flags.{Flags}
 use Rattle.board_turns.specs.declared.board.Flags.TheVariants as words
-use Rattle.board_turns.specs.Boards.{IsFree, TakesFlags, takes_no_word}
+use Rattle.board_turns.specs.Boards.{IsFree, TakesFlags, takes_no_word, has_word_waiting}
 use Rattle.board_turns.specs.Turning.{IsQuiet, PassesNothing, HasTried}
 
 pub free_of : (h : Journal) → IsQuiet h → IsFree h
@@ -44,6 +44,14 @@ taken_by words.Both h none takes = absurd cc
 taken_by words.Requests h none takes = absurd cc
 taken_by (words.Report word) h none takes = takes.flags
 taken_by words.None h none takes = takes.flags
+
+-- none waits to be obeyed where no word waits for a report
+pub obeyed_unless : (f : Flags) (h : Journal) → takes_no_word f ≡ true → has_word_waiting f ≡ false → TakesFlags f h → unobeyed_of h ≡ []
+obeyed_unless words.Both h none still takes = absurd cc
+obeyed_unless words.Requests h none still takes = absurd cc
+obeyed_unless (words.Report None) h none still takes = takes.next
+obeyed_unless (words.Report (Some word)) h none still takes = absurd cc
+obeyed_unless words.None h none still takes = takes.obeyed
 
 pub obeyed_by : (f : Flags) (h : Journal) → takes_no_word f ≡ true → TakesFlags f h → owes_report h ≡ false → unobeyed_of h ≡ []
 obeyed_by words.Both h none takes unowed = absurd cc

@@ -59,7 +59,6 @@ pub record IsFound (first : Opening) (word : Option Exec) (h : Journal) : Type 0
   pub idle : IsDrained h → is_going (motion_of first h) ≡ false
   pub stopped : IsStopped first h → ⊥
   pub unpolled : list_any found_none (this_turn h) ≡ false
-  pub tried : is_due first h ≡ true → waits_of h ≡ []
   pub none_waits : NoneWaits first h
   pub adds : NoneFits first h
   pub tries : tries_of first h + one_if (whole_of h) ≤ 1
@@ -78,7 +77,6 @@ found first word h next t o =
       idle = o.idle;
       stopped = o.stopped;
       unpolled = p.polled ∙ t.unpolled;
-      tried = λ due. p.waits ∙ t.tried (o.due due);
       none_waits = λ w. (none_waits_so first) h next p.jogged o.stays t.none_waits (o.waiting w) w;
       adds = none_fits_so first h next o.stays t.adds;
       tries = (let a = p.tries in let b = ap one_if p.whole in let d = t.tries in omega (arith, a, b, d));
@@ -98,7 +96,6 @@ found_room first word bytes h f =
       idle = λ d. f.idle (record { plan = d.plan; hand = d.hand; done = d.done });
       stopped = λ x. f.stopped (record { slowed = record { slows = x.slowed.slows; speed = x.slowed.speed; empty = x.slowed.empty }; done = x.done });
       unpolled = f.unpolled;
-      tried = f.tried;
       none_waits = λ w. f.none_waits (record { stands = w.stands; blocks = w.blocks });
       adds = f.adds;
       tries = f.tries;
@@ -162,7 +159,6 @@ reported_told first word r h f =
       load = f.load;
       stopped = λ x. f.stopped (record { slowed = record { slows = x.slowed.slows; speed = x.slowed.speed; empty = x.slowed.empty }; done = x.done });
       unpolled = f.unpolled;
-      tried = f.tried;
       none_waits = λ w. f.none_waits (record { stands = w.stands; blocks = w.blocks });
       adds = f.adds;
       tries = f.tries;
@@ -183,7 +179,6 @@ reported_kept first word h f =
       load = f.load;
       stopped = λ x. f.stopped (record { slowed = record { slows = x.slowed.slows; speed = x.slowed.speed; empty = x.slowed.empty }; done = x.done });
       unpolled = f.unpolled;
-      tried = f.tried;
       none_waits = λ w. f.none_waits (record { stands = w.stands; blocks = w.blocks });
       adds = f.adds;
       tries = f.tries;

@@ -1,19 +1,19 @@
--- A report that is owed is told next: where a piece that was tried first was handed back, and where no piece comes first.
-use Rattle.std.proofs.Common.{◌≡◌, inr, true, false, [], sym, refl, ap, ◌∙◌, arith}
+-- A report that is owed is told next: where a piece that was tried first was handed back, and where none was tried.
+use Rattle.std.proofs.Common.{◌≡◌, true, false, [], sym, refl, ap, ◌∙◌, arith}
 use Rattle.std.specs.declared.option.Option.{Option}
 use Rattle.code_table.specs.declared.flags.Exec.{Exec}
 use Rattle.board_rules.specs.Openings.{Opening}
 use Rattle.board_rules.specs.Steps.{Journal}
-use Rattle.board_rules.specs.Turns.{passing, found_none, is_due, waits_of}
+use Rattle.board_rules.specs.Turns.{passing, found_none}
 use Rattle.board_rules.specs.Conduct.{Conducted}
 use Rattle.board_rules.proofs.Waiting.{adds}
 use Rattle.units.specs.Truths.{one_if}
 use Rattle.board_turns.specs.declared.board.Flags.{Flags}
 use Rattle.board_turns.specs.declared.board.Flags.TheVariants as words
 use Rattle.board_turns.specs.declared.board.Beat.{Beat}
-use Rattle.board_turns.specs.declared.board.Beat.TheVariants.{Motion, Main}
+use Rattle.board_turns.specs.declared.board.Beat.TheVariants.{Motion}
 use Rattle.board_turns.specs.Boards.{Rounds, GoingBetween, IsAsked, takes_no_word}
-use Rattle.board_turns.specs.Turning.{HasPiece, HasFilled, HasTried}
+use Rattle.board_turns.specs.Turning.{HasFilled, HasTried}
 use Rattle.board_turns.specs.Reporting.{IsToReport}
 use Rattle.board_rules.proofs.Facts.{uncounted_owing}
 use Rattle.board_turns.proofs.Ends.{none_between, count_between, none_worked}
@@ -40,26 +40,20 @@ owing_tried first word h mid next r between asked tried filled =
       worked = a.worked (tried.worked (none_worked h between (λ e. absurd (let f = sym asked.owed ∙ e in cc))));
       asked = record { flags = a.flags ∙ tried.flags ∙ asked.flags; next = a.words ∙ tried.words ∙ asked.next; owed = a.owed ∙ tried.owed ∙ asked.owed };
       unpolled = a.polled ∙ tried.polled ∙ none_between h found_none between;
-      tried = λ due. a.waits ∙ tried.waits;
       none_waits = filled.none_waits;
       adds = filled.adds;
       tries = (let t = a.tries in let f = tried.later (uncounted_owing first h asked.owed) in let o = r.owed asked.owed in omega (arith, t, f, o, w));
     }
 
--- no piece comes first
-pub owing_now : (first : Opening) (beat : Beat) (word : Option Exec) (h : Journal) → Conducted first h → Rounds first beat h → GoingBetween h → IsAsked word h → (beat ≡ Motion → HasPiece first h → ⊥) → IsToReport first word h
-owing_now first beat word h c r between asked none = record {
+-- none was tried
+pub owing_now : (first : Opening) (beat : Beat) (word : Option Exec) (h : Journal) → Conducted first h → Rounds first beat h → GoingBetween h → IsAsked word h → IsToReport first word h
+owing_now first beat word h c r between asked = record {
   still = none_between h passing between;
   quiet = count_between h between;
   worked = none_worked h between (λ e. absurd (let f = sym asked.owed ∙ e in cc));
   asked = asked;
   unpolled = none_between h found_none between;
-  tried = λ due. by_beat beat r none due;
   none_waits = r.none_waits;
   adds = λ m next. adds first h m c between next;
   tries = r.owed asked.owed;
 }
-  where
-    by_beat : (b : Beat) → Rounds first b h → (b ≡ Motion → HasPiece first h → ⊥) → is_due first h ≡ true → waits_of h ≡ []
-    by_beat Main rounds no_piece due = rounds.waits refl
-    by_beat Motion rounds no_piece due = absurd (no_piece refl (inr due))

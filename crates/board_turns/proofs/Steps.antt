@@ -26,7 +26,7 @@ use Rattle.line_interpreter.specs.Interpreting.{Interpreting}
 use Rattle.board_rules.specs.Steps.{Journal, has_limited, closed_tells, given_of, hand_of, plan_of, motion_of}
 use Rattle.board_rules.specs.Steps.Step.{did, made_end, evened, paused, became}
 use Rattle.board_rules.specs.Cuts.{has_cut}
-use Rattle.board_rules.specs.Turns.{is_full, is_due, is_going, stands_still, is_locked}
+use Rattle.board_rules.specs.Turns.{is_full, is_due, is_going, stands_still, is_locked, unobeyed_of}
 use Rattle.board_rules.specs.Conduct.{MayDo, IsNextTask, IsDrained, MayStart}
 pub use Rattle.board_machine.proofs.Machining.{has_room}
 use Rattle.board_turns.specs.declared.board.Board.{Board}
@@ -84,19 +84,19 @@ stopping_mode motions.Cancelling slows = refl
 stopping_mode motions.Stopping slows = refl
 stopping_mode m slows = absurd cc
 
-may_take : (first : Opening) (h : Journal) → (is_going (motion_of first h) ≡ true) ⊎ (is_stopping (motion_of first h) ≡ true) → hand_of h ≡ [] → MayDo first (Take (mode_in (motion_of first h))) h
-may_take first h (inl goes) empty = subst (λ (mode : Mode). MayDo first (Take mode) h) (sym (going_mode (motion_of first h) goes)) (record { goes = goes; empty = empty })
-may_take first h (inr slows) empty = subst (λ (mode : Mode). MayDo first (Take mode) h) (sym (stopping_mode (motion_of first h) slows)) (record { slows = slows; empty = empty })
+may_take : (first : Opening) (h : Journal) → (is_going (motion_of first h) ≡ true) ⊎ (is_stopping (motion_of first h) ≡ true) → hand_of h ≡ [] → unobeyed_of h ≡ [] → MayDo first (Take (mode_in (motion_of first h))) h
+may_take first h (inl goes) empty obeyed = subst (λ (mode : Mode). MayDo first (Take mode) h) (sym (going_mode (motion_of first h) goes)) (record { goes = goes; empty = empty; obeyed = obeyed })
+may_take first h (inr slows) empty obeyed = subst (λ (mode : Mode). MayDo first (Take mode) h) (sym (stopping_mode (motion_of first h) slows)) (record { slows = slows; empty = empty })
 
 -- a segment is taken: to slow down where the machine is to stop
-pub took_segment : {N : ℕ} (first : Opening) (c : Board N) (m : Machine N) (s : Segment) (h : Journal) → Keeps first c h → (is_going (motion_of first h) ≡ true) ⊎ (is_stopping (motion_of first h) ≡ true) → hand_of h ≡ []
+pub took_segment : {N : ℕ} (first : Opening) (c : Board N) (m : Machine N) (s : Segment) (h : Journal) → Keeps first c h → (is_going (motion_of first h) ≡ true) ⊎ (is_stopping (motion_of first h) ≡ true) → hand_of h ≡ [] → unobeyed_of h ≡ []
     → IsNext (plan_of h) (mode_in (motion_of first h)) s → Runs m (advanced (plan_of h) s.n s.w_out) (motion_of first h) (pieces.Segment s ∷ []) (given_of h ++ pieces.Segment s ∷ [])
     → Keeps first (record c { machine = m }) (did (Take (mode_in (motion_of first h))) (pieces.Segment s ∷ []) ∷ h)
-took_segment first c m s h k moves empty next runs = record {
+took_segment first c m s h k moves empty obeyed next runs = record {
   placed = k.placed;
   sized = k.sized;
   short = k.short;
-  conducted = ((may_take first h moves empty, (next, refl)), k.conducted);
+  conducted = ((may_take first h moves empty obeyed, (next, refl)), k.conducted);
   machine = rw empty runs;
   lines = k.lines;
   input = k.input;
@@ -119,15 +119,15 @@ took_segment first c m s h k moves empty next runs = record {
 }
 
 -- the segment that is due comes into the empty hand
-pub took_next : {N : ℕ} (first : Opening) (c : Board N) (m : Machine N) (h : Journal) → Keeps first c h → HasPiece first h → c.machine.hand ≡ None
+pub took_next : {N : ℕ} (first : Opening) (c : Board N) (m : Machine N) (h : Journal) → Keeps first c h → HasPiece first h → unobeyed_of h ≡ [] → c.machine.hand ≡ None
     → ((p : Planned) (now : Motion) (given : List Piece) → Runs c.machine p now [] given
     → (s : Segment) × IsNext p (mode_in now) s × Runs m (advanced p s.n s.w_out) now (pieces.Segment s ∷ []) (given ++ pieces.Segment s ∷ []))
     → (s : Segment) × Keeps first (record c { machine = m }) (did (Take (mode_in (motion_of first h))) (pieces.Segment s ∷ []) ∷ h) × (is_due first h ≡ true) × (hand_of h ≡ [])
-took_next first c m h k has none takes =
+took_next first c m h k has obeyed none takes =
     let due = due_now first c h k has none in
     let empty = hand_empty first c h k none in
     let t = takes (plan_of h) (motion_of first h) (given_of h) (subst (λ (ps : List Piece). Runs c.machine (plan_of h) (motion_of first h) ps (given_of h)) empty k.machine) in
-    (t.0, took_segment first c m t.0 h k (due_moves first c h k due) empty t.1 t.2, due, empty)
+    (t.0, took_segment first c m t.0 h k (due_moves first c h k due) empty obeyed t.1 t.2, due, empty)
 
 -- a mark is made
 pub marked : {N : ℕ} (first : Opening) (c : Board N) (m : Machine N) (i : Interpreting) (mark : AnyMark) (h : Journal) → Keeps first c h → IsNextTask first (ask (a_mark mark)) h → IsMark mark → hand_of h ≡ [] → IsAtRest (plan_of h)

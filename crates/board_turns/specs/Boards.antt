@@ -1,5 +1,5 @@
 -- What the fields of a board say of what it has done.
-use Rattle.std.specs.Prelude.{◌-◌, ◌≡◌, ◌⊎◌, ℕ, ◌+◌, ◌*◌, ◌≤◌, ◌<◌, Bool, true, false, ◌||◌, nat_eq, List, [], ◌∷◌, ◌++◌, length, ◌^◌}
+use Rattle.std.specs.Prelude.{◌-◌, ◌≡◌, ◌⊎◌, ℕ, ◌+◌, ◌*◌, ◌≤◌, ◌<◌, Bool, true, false, ◌||◌, nat_eq, List, [], ◌∷◌, ◌++◌, length, ◌^◌, Some, None}
 use Rattle.std.specs.List.{list_any}
 use Rattle.outside.specs.declared.Turn.{Turn}
 use Rattle.outside.specs.declared.Turn.TheVariants.{Did}
@@ -150,6 +150,14 @@ takes_no_word words.Both = false
 takes_no_word words.Requests = false
 takes_no_word (words.Report word) = true
 takes_no_word words.None = true
+
+-- a word of requests waits to be obeyed until a report is told
+abbrev pub has_word_waiting : Flags → Bool
+has_word_waiting words.Both = false
+has_word_waiting words.Requests = false
+has_word_waiting (words.Report None) = false
+has_word_waiting (words.Report (Some word)) = true
+has_word_waiting words.None = false
 
 -- between two turns
 abbrev pub GoingBetween : Journal → Type 0

@@ -30,7 +30,6 @@ use Rattle.board_rules.specs.Turns.{
   takes_changes,
   replans,
   tries_of,
-  waits_of,
 }
 use Rattle.board_rules.specs.Conduct.{IsDrained, IsStopped, AreWaiting, MayObey, IsRoom, feed_of, shown_as, ticks_given}
 use Rattle.board_turns.specs.declared.board.Board.{Board}
@@ -41,15 +40,13 @@ use Rattle.board_turns.specs.Turning.{AreWorked, PassesNothing, NoneFits, StaysS
 -- ---- what is known
 
 -- A report is owed and is told next, and then a word is obeyed, if one waits for that. Nothing has passed in this turn,
--- nothing was published, and no byte was polled for. Where a segment is due one was tried to be published since
--- anything was waited for, and since a line was begun. No move that is next has room.
+-- nothing was published, and no byte was polled for. No move that is next has room.
 pub record IsToReport (first : Opening) (word : Option Exec) (h : Journal) : Type 0 where
   pub still : list_any passing (this_turn h) ≡ false
   pub quiet : count_by publishing (this_turn h) ≡ 0
   pub worked : AreWorked h
   pub asked : IsAsked word h
   pub unpolled : list_any found_none (this_turn h) ≡ false
-  pub tried : is_due first h ≡ true → waits_of h ≡ []
   pub none_waits : NoneWaits first h
   pub adds : NoneFits first h
   pub tries : tries_of first h + one_if (whole_of h) ≤ 1
@@ -100,7 +97,6 @@ pub record IsReported (first : Opening) (told : Bool) (word : Option Exec) (h : 
   pub load : list_any loads (this_turn h) ≡ true
   pub stopped : IsStopped first h → ⊥
   pub unpolled : list_any found_none (this_turn h) ≡ false
-  pub tried : is_due first h ≡ true → waits_of h ≡ []
   pub none_waits : NoneWaits first h
   pub adds : NoneFits first h
   pub tries : tries_of first h + one_if (whole_of h) ≤ 1

@@ -13,7 +13,7 @@ ghost use Rattle.board_rules.specs.Ports.PortStep.{answered};
 ghost use Rattle.board_rules.specs.Steps.{Journal, port_log, hand_of};
 ghost use Rattle.board_rules.specs.Steps.Step.{at_port};
 ghost use Rattle.board_rules.specs.Openings.{Opening};
-ghost use Rattle.board_rules.specs.Turns.{awaits_motion, has_blocks, is_full, owes_report};
+ghost use Rattle.board_rules.specs.Turns.{awaits_motion, has_blocks, is_full, owes_report, unobeyed_of};
 ghost use Rattle.board_rules.specs.Conduct.{IsNextTask, IsTimely};
 ghost use Rattle.board_turns.specs.Boards.{Keeps};
 ghost use Rattle.board_machine.specs.Machines.{marks_cut};
@@ -85,9 +85,9 @@ impl<const N: usize> Board<N> {
 
     /// Looks how many ticks are done where the flight has no room for a piece more, and before a cut is published.
     fn look_before<P: EpochPort>(&mut self, port: &mut P, piece: Piece)
-        requires stands { (rest : P.Rest) × (first : Opening) × (h : Journal) × P.stands port.old rest first (port_log h) × Keeps first self.old h }
+        requires stands { (rest : P.Rest) × (first : Opening) × (h : Journal) × P.stands port.old rest first (port_log h) × Keeps first self.old h × (unobeyed_of h ≡ []) }
         requires hand { self.old.machine.hand ≡ Some piece }
-        ensures goes_on { (rest : P.Rest) (first : Opening) (h : Journal) → P.stands port.old rest first (port_log h) → Keeps first self.old h
+        ensures goes_on { (rest : P.Rest) (first : Opening) (h : Journal) → P.stands port.old rest first (port_log h) → Keeps first self.old h → unobeyed_of h ≡ []
             → (next : Journal) × P.stands port.new rest first (port_log next) × Keeps first self.new next × MayHaveLooked h next × IsTimely piece next }
         ensures room { length self.new.flight.kept < flight_room }
         ensures same { self.new ≡ record self.old { flight = self.new.flight } }
@@ -98,11 +98,11 @@ impl<const N: usize> Board<N> {
         }
     }
 
-    /// Tries to publish the piece in hand. Answers whether it is published.
+    /// Tries to publish the piece in hand, while no word of requests waits to be obeyed. Answers whether it is published.
     pub(crate) fn publish<P: EpochPort>(&mut self, port: &mut P) -> bool
-        requires stands { (rest : P.Rest) × (first : Opening) × (h : Journal) × P.stands port.old rest first (port_log h) × Keeps first self.old h }
+        requires stands { (rest : P.Rest) × (first : Opening) × (h : Journal) × P.stands port.old rest first (port_log h) × Keeps first self.old h × (unobeyed_of h ≡ []) }
         requires some { self.old.machine.hand ≢ None }
-        ensures goes_on { (rest : P.Rest) (first : Opening) (h : Journal) → P.stands port.old rest first (port_log h) → Keeps first self.old h
+        ensures goes_on { (rest : P.Rest) (first : Opening) (h : Journal) → P.stands port.old rest first (port_log h) → Keeps first self.old h → unobeyed_of h ≡ []
             → (next : Journal) × P.stands port.new rest first (port_log next) × Keeps first self.new next × Tried result h next }
         ensures same { self.new ≡ record self.old { machine = self.new.machine; flight = self.new.flight } }
     {
@@ -118,10 +118,10 @@ impl<const N: usize> Board<N> {
         true
     }
 
-    /// Tries to publish the piece in hand, or else the segment that is due. Answers whether it is published.
+    /// Tries to publish the piece in hand, or else the segment that is due, likewise.
     pub(crate) fn publish_next<P: EpochPort>(&mut self, port: &mut P) -> bool
-        requires stands { (rest : P.Rest) × (first : Opening) × (h : Journal) × P.stands port.old rest first (port_log h) × Keeps first self.old h × HasPiece first h }
-        ensures goes_on { (rest : P.Rest) (first : Opening) (h : Journal) → P.stands port.old rest first (port_log h) → Keeps first self.old h → HasPiece first h
+        requires stands { (rest : P.Rest) × (first : Opening) × (h : Journal) × P.stands port.old rest first (port_log h) × Keeps first self.old h × HasPiece first h × (unobeyed_of h ≡ []) }
+        ensures goes_on { (rest : P.Rest) (first : Opening) (h : Journal) → P.stands port.old rest first (port_log h) → Keeps first self.old h → HasPiece first h → unobeyed_of h ≡ []
             → (next : Journal) × P.stands port.new rest first (port_log next) × Keeps first self.new next × HasTried first result h next }
         ensures same { self.new ≡ record self.old { machine = self.new.machine; flight = self.new.flight } }
     {

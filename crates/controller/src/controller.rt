@@ -37,9 +37,10 @@ impl<const N: usize> Controller<N> {
     }
 
     /// Takes a turn: behind a line feed and behind each wait it takes a word of flags, and does what that asks for;
-    /// else it publishes a piece where one is in hand or a segment is due, and else, or where there was no room for it,
-    /// does the next thing: tells a status report that was asked for, and then does what else its word asks for; tells
-    /// a reply, adds moves, makes a mark or the end, begins a line, or takes a byte. At most one thing is published.
+    /// else it publishes a piece where one is in hand or a segment is due, and no word waits to be obeyed; and else, or
+    /// where there was no room for it, does the next thing: tells a status report that was asked for, and then does what
+    /// else its word asks for; tells a reply, adds moves, makes a mark or the end, begins a line, or takes a byte. At most
+    /// one thing is published.
     /// Where the rules allow nothing, it answers what it waits for: for a machine that is held, its resume. It is done
     /// once Bye was told; from then on nothing changes. A turn that answers Did and moves nothing lowers the board's
     /// number, which is less than 64.

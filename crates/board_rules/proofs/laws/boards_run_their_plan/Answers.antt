@@ -37,6 +37,12 @@ returns-clause-cancelled c = cancelled_by_word
 pub returns-clause-going : goal.returns-clause-going
 returns-clause-going c = λ first h ps conducted. conducted.0.0.goes
 
+pub returns-clause-obeyed : goal.returns-clause-obeyed
+returns-clause-obeyed c = λ first h ps conducted. conducted.0.0.obeyed
+
+pub returns-clause-obeyed_first : goal.returns-clause-obeyed_first
+returns-clause-obeyed_first c = λ first h s conducted. conducted.0.1
+
 pub returns-clause-slowing : goal.returns-clause-slowing
 returns-clause-slowing c = λ first h ps conducted. slows_for first h conducted.1 conducted.0.0.slows
 

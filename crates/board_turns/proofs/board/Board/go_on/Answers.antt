@@ -1,5 +1,5 @@
-use Rattle.std.proofs.Common.{arith, rules, refl, subst}
-use Rattle.board_turns.specs.Boards.{TakesFlags}
+use Rattle.std.proofs.Common.{arith, rules, refl, ap, subst}
+use Rattle.board_turns.specs.Boards.{TakesFlags, has_word_waiting}
 use Rattle.board_turns.specs.declared.board.Beat.TheVariants.{Motion}
 use Rattle.board_turns.proofs.Steps.{other_beat}
 use Rattle.board_turns.proofs.Nexts.{ready_now}
@@ -18,7 +18,10 @@ publish_first-requires g c = (
       (
         let r = c.requires.stands in let first = r.1 in
             (c.begins_with_piece.ensures.yes first r.2 r.4.keeps c.if-begins_with_piece.true).0,
-        search rules,
+        (
+          search rules,
+          c.begins_with_piece.ensures.obeyed c.if-begins_with_piece.true,
+        ),
       ),
     ),
   ),
@@ -35,8 +38,7 @@ report-requires g c = (
     let r = c.requires.stands in let first = r.1 in
         let s = c.args.self.now in
         let asked = subst (λ x. TakesFlags x r.2) c.in-Report.is r.4.flags in
-        let none = c.begins_with_piece.ensures.no first r.2 r.4.keeps c.if-begins_with_piece.false in
-        (r.0, first, r.2, r.3, other_beat first s Motion r.2 r.4.keeps, owing_now first s.beat c.in-Report.word r.2 r.4.keeps.conducted r.4.rounds r.5 asked none),
+        (r.0, first, r.2, r.3, other_beat first s Motion r.2 r.4.keeps, owing_now first s.beat c.in-Report.word r.2 r.4.keeps.conducted r.4.rounds r.5 asked),
     search rules,
   ),
 )
@@ -49,7 +51,7 @@ main-requires g c =
     let free = subst (λ x. TakesFlags x r.2) none r.4.flags in (
       omega arith,
       (
-        (r.0, first, r.2, r.3, other_beat first s Motion r.2 r.4.keeps, ready_now first s.beat r.2 r.4.rounds r.5 free (c.begins_with_piece.ensures.no first r.2 r.4.keeps c.if-begins_with_piece.false)),
+        (r.0, first, r.2, r.3, other_beat first s Motion r.2 r.4.keeps, ready_now first s.beat r.2 r.4.rounds r.5 free (c.begins_with_piece.ensures.no first r.2 r.4.keeps c.if-begins_with_piece.false (ap has_word_waiting none))),
         (
           c.requires.open,
           (
@@ -67,8 +69,7 @@ pub returns-in-Report-clause-goes_on : goal.returns-in-Report-clause-goes_on
 returns-in-Report-clause-goes_on g c = λ rest first h stands f between.
     let s = c.args.self.now in
     let asked = subst (λ x. TakesFlags x h) c.in-Report.is f.flags in
-    let none = c.begins_with_piece.ensures.no first h f.keeps c.if-begins_with_piece.false in
-    c.report.ensures.goes_on rest first h s.flags stands (other_beat first s Motion h f.keeps) (owing_now first s.beat c.in-Report.word h f.keeps.conducted f.rounds between asked none)
+    c.report.ensures.goes_on rest first h s.flags stands (other_beat first s Motion h f.keeps) (owing_now first s.beat c.in-Report.word h f.keeps.conducted f.rounds between asked)
 
 pub returns : goal.returns
 returns g c =
@@ -77,6 +78,6 @@ returns g c =
     record {
       goes_on = λ rest first h stands f between.
           (let free = subst (λ x. TakesFlags x h) none f.flags in
-          c.main.ensures.goes_on rest first h stands (other_beat first s Motion h f.keeps) (ready_now first s.beat h f.rounds between free (c.begins_with_piece.ensures.no first h f.keeps c.if-begins_with_piece.false)));
+          c.main.ensures.goes_on rest first h stands (other_beat first s Motion h f.keeps) (ready_now first s.beat h f.rounds between free (c.begins_with_piece.ensures.no first h f.keeps c.if-begins_with_piece.false (ap has_word_waiting none))));
       going = c.main.ensures.going;
     }

@@ -8,7 +8,7 @@ use Rattle.board_rules.proofs.CutMarks.{other_timely, timely_looked}
 use Rattle.board_turns.proofs.board.Board.look_before.Goals as goal
 
 pub returns-then-needs_look-clause-goes_on : goal.returns-then-needs_look-clause-goes_on
-returns-then-needs_look-clause-goes_on g c = λ rest first h stands k.
+returns-then-needs_look-clause-goes_on g c = λ rest first h stands k obeyed.
     let s = c.args.self.now in
     let p = c.args.piece in
     let done = c.done-done.result in
@@ -18,7 +18,7 @@ returns-then-needs_look-clause-goes_on g c = λ rest first h stands k.
       c.done-done.ensures.done rest first h stands k.conducted,
       keeps,
       inr (done, refl),
-      timely_looked first p done h (may, k.conducted) (in_hand first s h p k c.requires.hand),
+      timely_looked first p done h (may, k.conducted) (in_hand first s h p k c.requires.hand) obeyed,
     )
 
 pub returns-then-needs_look-clause-room : goal.returns-then-needs_look-clause-room
@@ -27,4 +27,4 @@ returns-then-needs_look-clause-room g c =
     room_learned q.1 c.args.self.now c.learn.new.self q.2 c.done-done.result q.4 (c.done-done.ensures.known q.0 q.1 q.2 q.3 q.4.conducted) c.learn.ensures.room
 
 pub returns-else-needs_look-clause-goes_on : goal.returns-else-needs_look-clause-goes_on
-returns-else-needs_look-clause-goes_on g c = λ rest first h stands k. (h, stands, k, inl refl, other_timely c.args.piece h (c.needs_look.ensures c.if-needs_look.false).1)
+returns-else-needs_look-clause-goes_on g c = λ rest first h stands k obeyed. (h, stands, k, inl refl, other_timely c.args.piece h (c.needs_look.ensures c.if-needs_look.false).1 obeyed)

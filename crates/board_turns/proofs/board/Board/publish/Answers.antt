@@ -12,14 +12,14 @@ use Rattle.board_turns.proofs.board.Board.publish.Goals as goal
 pub publish-requires : goal.publish-requires
 publish-requires g c =
     let r = c.requires.stands in let first = r.1 in let s = c.look_before.new.self in let p = c.in-Some.piece in
-    let m = c.look_before.ensures.goes_on r.0 first r.2 r.3 r.4 in
+    let m = c.look_before.ensures.goes_on r.0 first r.2 r.3 r.4 r.5 in
     let hand = ap (λ (b : Board _). b.machine.hand) c.look_before.ensures.same ∙ c.in-Some.is in
     (r.0, first, m.0, m.1, may_publish_now first s m.0 p m.2 (in_hand first s m.0 p m.2 hand))
 
 pub returns-in_default-publish-clause-goes_on : goal.returns-in_default-publish-clause-goes_on
-returns-in_default-publish-clause-goes_on g c = λ rest first h stands k.
+returns-in_default-publish-clause-goes_on g c = λ rest first h stands k obeyed.
     let s = c.look_before.new.self in
-    let m = c.look_before.ensures.goes_on rest first h stands k in
+    let m = c.look_before.ensures.goes_on rest first h stands k obeyed in
     let hand = ap (λ (b : Board _). b.machine.hand) c.look_before.ensures.same ∙ c.in-Some.is in
     let full = c.in_default-publish.ensures.full rest first m.0 m.1 m.2.conducted in
     (at_port (no_piece_room full.0) ∷ m.0, full.1, not_sent first s full.0 m.0 m.2 (some_in_hand first s m.0 c.in-Some.piece m.2 hand) full.2, (full.0, m.0, m.3, refl))
@@ -27,14 +27,14 @@ returns-in_default-publish-clause-goes_on g c = λ rest first h stands k.
 pub push-requires-clause-fits : goal.push-requires-clause-fits
 push-requires-clause-fits g c =
     let r = c.requires.stands in let first = r.1 in let s = c.look_before.new.self in let p = c.in-Some.piece in
-    let m = c.look_before.ensures.goes_on r.0 first r.2 r.3 r.4 in
+    let m = c.look_before.ensures.goes_on r.0 first r.2 r.3 r.4 r.5 in
     let hand = ap (λ (b : Board _). b.machine.hand) c.look_before.ensures.same ∙ c.in-Some.is in
     fits_next p m.0 (may_publish first s m.0 p m.2 (in_hand first s m.0 p m.2 hand))
 
 pub returns-clause-goes_on : goal.returns-clause-goes_on
-returns-clause-goes_on g c = λ rest first h stands k.
+returns-clause-goes_on g c = λ rest first h stands k obeyed.
     let s = c.look_before.new.self in let p = c.in-Some.piece in
-    let m = c.look_before.ensures.goes_on rest first h stands k in
+    let m = c.look_before.ensures.goes_on rest first h stands k obeyed in
     let hand = ap (λ (b : Board _). b.machine.hand) c.look_before.ensures.same ∙ c.in-Some.is in
     let is = in_hand first s m.0 p m.2 hand in
     let runs = c.drop_hand.ensures (plan_of m.0) (motion_of first m.0) p (given_of m.0) (subst (λ ps. Runs s.machine (plan_of m.0) (motion_of first m.0) ps (given_of m.0)) is m.2.machine) in (

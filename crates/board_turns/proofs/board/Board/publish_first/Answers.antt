@@ -2,7 +2,7 @@ use Rattle.std.proofs.Common.{arith, ◌≡◌, true, false, [], sym, subst, ap,
 use Rattle.board_turns.specs.declared.board.Board.{Board}
 use Rattle.board_turns.specs.Boards.{Rounds, TakesFlags, takes_no_word}
 use Rattle.board_turns.specs.Turning.{HasTried, WorksOn}
-use Rattle.board_turns.proofs.Ends.{works_on, works_passed, number_tried, may_try_first, ready_tried, sent_by, flags_tried, flags_passed}
+use Rattle.board_turns.proofs.Ends.{works_on, works_passed, number_tried, may_try_first, ready_tried, sent_by, flags_tried, flags_passed, obeyed_unless}
 use Rattle.board_rules.specs.Turns.{tells_next}
 use Rattle.board_turns.proofs.Owing.{none_left, owing_tried}
 use Rattle.board_turns.proofs.Resetting.{unreset_between}
@@ -12,21 +12,21 @@ pub publish_next-published-requires : goal.publish_next-published-requires
 publish_next-published-requires g c =
     let r = c.requires.stands in let first = r.1 in (
       omega arith,
-      (r.0, first, r.2, r.3, r.4.keeps, r.6),
+      (r.0, first, r.2, r.3, r.4.keeps, r.6, obeyed_unless c.args.self.now.flags r.2 c.requires.flags c.requires.obeyed r.4.flags),
     )
 
 pub fill-requires : goal.fill-requires
 fill-requires g c = (
   omega arith,
   let r = c.requires.stands in let first = r.1 in
-      let n = c.publish_next-published.ensures.goes_on r.0 first r.2 r.3 r.4.keeps r.6 in
+      let n = c.publish_next-published.ensures.goes_on r.0 first r.2 r.3 r.4.keeps r.6 (obeyed_unless c.args.self.now.flags r.2 c.requires.flags c.requires.obeyed r.4.flags) in
       (first, n.0, n.2),
 )
 
 pub returns-then-published-clause-goes_on : goal.returns-then-published-clause-goes_on
 returns-then-published-clause-goes_on g c = λ rest first h stands f between piece.
     let s = c.args.self.now in
-    let n = c.publish_next-published.ensures.goes_on rest first h stands f.keeps piece in
+    let n = c.publish_next-published.ensures.goes_on rest first h stands f.keeps piece (obeyed_unless c.args.self.now.flags h c.requires.flags c.requires.obeyed f.flags) in
     let m = c.fill.ensures.filled first n.0 n.2 in
     let tried = subst (λ b. (HasTried first) b h n.0) c.if-published.true n.3 in
     let may = may_try_first first s.flags h (subst (λ b. (Rounds first) b h) c.requires.beat f.rounds) between c.requires.flags f.flags in
@@ -40,7 +40,7 @@ returns-then-published-clause-goes_on g c = λ rest first h stands f between pie
 pub fill-requires-in-Report : goal.fill-requires-in-Report
 fill-requires-in-Report g c =
     let r = c.requires.stands in let first = r.1 in
-    let n = c.publish_next-published.ensures.goes_on r.0 first r.2 r.3 r.4.keeps r.6 in
+    let n = c.publish_next-published.ensures.goes_on r.0 first r.2 r.3 r.4.keeps r.6 (obeyed_unless c.args.self.now.flags r.2 c.requires.flags c.requires.obeyed r.4.flags) in
     (omega arith, (first, n.0, n.2))
 
 pub report-requires : goal.report-requires
@@ -48,7 +48,7 @@ report-requires g c = (
   omega arith,
   (
     let r = c.requires.stands in let first = r.1 in
-        let n = c.publish_next-published.ensures.goes_on r.0 first r.2 r.3 r.4.keeps r.6 in
+        let n = c.publish_next-published.ensures.goes_on r.0 first r.2 r.3 r.4.keeps r.6 (obeyed_unless c.args.self.now.flags r.2 c.requires.flags c.requires.obeyed r.4.flags) in
         let m = c.fill-in-Report.ensures.filled first n.0 n.2 in
         let same = sym (ap (λ (b : Board _). b.flags) c.publish_next-published.ensures.same) ∙ c.in-Report.is in
         let asked = subst (λ x. TakesFlags x r.2) same r.4.flags in
@@ -63,7 +63,7 @@ returns-in-Report-clause-going g c = c.report.ensures.going
 pub main-requires : goal.main-requires
 main-requires g c =
     let r = c.requires.stands in let first = r.1 in
-    let n = c.publish_next-published.ensures.goes_on r.0 first r.2 r.3 r.4.keeps r.6 in
+    let n = c.publish_next-published.ensures.goes_on r.0 first r.2 r.3 r.4.keeps r.6 (obeyed_unless c.args.self.now.flags r.2 c.requires.flags c.requires.obeyed r.4.flags) in
     let same = ap (λ (b : Board _). b.flags) c.publish_next-published.ensures.same in
     let none = none_left _ (ap takes_no_word same ∙ c.requires.flags) c.in_default.not-Report in
     let free = subst (λ x. TakesFlags x r.2) (sym same ∙ none) r.4.flags in
@@ -87,7 +87,7 @@ main-requires g c =
 pub returns-in-Report-clause-goes_on : goal.returns-in-Report-clause-goes_on
 returns-in-Report-clause-goes_on g c = λ rest first h stands f between piece.
     let s = c.args.self.now in
-    let n = c.publish_next-published.ensures.goes_on rest first h stands f.keeps piece in
+    let n = c.publish_next-published.ensures.goes_on rest first h stands f.keeps piece (obeyed_unless c.args.self.now.flags h c.requires.flags c.requires.obeyed f.flags) in
     let m = c.fill-in-Report.ensures.filled first n.0 n.2 in
     let same = sym (ap (λ (b : Board _). b.flags) c.publish_next-published.ensures.same) ∙ c.in-Report.is in
     let asked = subst (λ x. TakesFlags x h) same f.flags in
@@ -104,7 +104,7 @@ returns g c =
     let none = none_left _ (ap takes_no_word same ∙ c.requires.flags) c.in_default.not-Report in
     record {
       goes_on = λ rest first h stands f between piece.
-          (let n = c.publish_next-published.ensures.goes_on rest first h stands f.keeps piece in
+          (let n = c.publish_next-published.ensures.goes_on rest first h stands f.keeps piece (obeyed_unless c.args.self.now.flags h c.requires.flags c.requires.obeyed f.flags) in
           let free = subst (λ x. TakesFlags x h) (sym same ∙ none) f.flags in
           let tried = subst (λ b. (HasTried first) b h n.0) c.if-published.false n.3 in
           let ready = ready_tried first h n.0 (subst (λ b. (Rounds first) b h) c.requires.beat f.rounds) between free tried in
