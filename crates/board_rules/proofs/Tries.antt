@@ -1,6 +1,7 @@
 -- What a step adds to a turn: what nothing passes with, and what was tried to be published.
-use Rattle.std.proofs.Common.{◌≡◌, ℕ, ◌+◌, ◌≤◌, inl, inr, Bool, List, [], ◌∷◌, ◌++◌, ◌&&◌, cond, drop, true, false, refl, sym, ap, ◌∙◌, subst, arith, append_assoc}
+use Rattle.std.proofs.Common.{◌≡◌, ℕ, ◌+◌, ◌≤◌, inl, inr, Bool, List, [], ◌∷◌, ◌++◌, ◌&&◌, ◌||◌, cond, drop, true, false, refl, sym, ap, ◌∙◌, subst, arith, append_assoc}
 use Rattle.std.specs.List.{list_any, count_by}
+use Rattle.std.proofs.lemmas.List.Folds.{list_any-append}
 use Rattle.std.proofs.lemmas.List.Sums.{sum_by-cons}
 use Rattle.std.proofs.lemmas.Bool.Decides.{nat_tests}
 use Rattle.feed_hold.specs.declared.Motion.{Motion}
@@ -25,7 +26,7 @@ use Rattle.board_rules.specs.Steps.{Step, Journal, left_of, left_by, without_ask
 use Rattle.board_rules.specs.Steps.Step.{at_port, began, did, made_end, evened, became, cut, closing, turned}
 use Rattle.board_rules.specs.Cuts.{has_cut, is_cancelling}
 use Rattle.board_rules.proofs.Dropping.{pauses_kept}
-use Rattle.board_rules.specs.Turns.{this_turn, publishing, moving, obeys, unobeyed_by, unobeyed_of, owes_report, takes_changes, replans, is_full, has_segment, is_due, is_counted, tries_of}
+use Rattle.board_rules.specs.Turns.{this_turn, publishing, moving, ends_turn, obeys, unobeyed_by, unobeyed_of, owes_report, takes_changes, replans, is_full, has_segment, is_due, is_counted, tries_of}
 use Rattle.board_rules.specs.Conduct.{AreWaiting}
 use Rattle.units.specs.Truths.{one_if}
 use Rattle.board_rules.specs.Within.{changes_left, AreWorked, PassesNothing, DidAlone, MayHaveLooked, Tried, HasTried}
@@ -98,6 +99,7 @@ passes_step first (turned t) h quiet words same pauses changes less = absurd cc
 passes_step first s h quiet words same pauses changes less = record {
   steps = s ∷ [];
   are = refl;
+  inner = refl;
   still = refl;
   quiet = publishes_none s (this_turn h) refl;
   polled = refl;
@@ -157,6 +159,7 @@ pub passes_load : (first : Opening) (done : ℕ) (h : Journal) → PassesNothing
 passes_load first done h = record {
   steps = at_port (loaded done) ∷ [];
   are = refl;
+  inner = refl;
   still = refl;
   quiet = publishes_none (at_port (loaded done)) (this_turn h) refl;
   polled = refl;
@@ -182,10 +185,15 @@ passes_load first done h = record {
 
 -- ---- no step, and some after others
 
+-- steps of one turn come behind others of it
+pub none_ends : (late early : List Step) → list_any ends_turn late ≡ false → list_any ends_turn early ≡ false → list_any ends_turn (late ++ early) ≡ false
+none_ends late early none_late none_early = list_any-append ends_turn late early ∙ ap (λ x. x || list_any ends_turn early) none_late ∙ none_early
+
 pub passes_none : (first : Opening) (h : Journal) → PassesNothing first h h
 passes_none first h = record {
   steps = [];
   are = refl;
+  inner = refl;
   still = refl;
   quiet = refl;
   polled = refl;
@@ -219,6 +227,7 @@ pub passes_on : (first : Opening) (h mid next : Journal) → PassesNothing first
 passes_on first h mid next a b = record {
   steps = b.steps ++ a.steps;
   are = are_both h mid next a.steps b.steps a.are b.are;
+  inner = none_ends b.steps a.steps b.inner a.inner;
   still = b.still ∙ a.still;
   quiet = b.quiet ∙ a.quiet;
   polled = b.polled ∙ a.polled;
@@ -270,6 +279,7 @@ pub tried_sent : (first : Opening) (p : Piece) (h : Journal) → drop 1 (hand_of
 tried_sent first p h one = record {
   steps = at_port (published p) ∷ [];
   are = refl;
+  inner = refl;
   still = λ e. absurd cc;
   quiet = publishes_one (at_port (published p)) (this_turn h) refl;
   polled = refl;
@@ -300,6 +310,7 @@ pub tried_kept : (first : Opening) (done : ℕ) (h : Journal) → HasTried first
 tried_kept first done h = record {
   steps = at_port (no_piece_room done) ∷ [];
   are = refl;
+  inner = refl;
   still = λ e. refl;
   quiet = publishes_none (at_port (no_piece_room done)) (this_turn h) refl ∙ omega arith;
   polled = refl;
@@ -331,6 +342,7 @@ tried_on : (first : Opening) (sent : Bool) (h mid next : Journal) → PassesNoth
 tried_on first sent h mid next p counted left motion cuts waiting full t = record {
   steps = t.steps ++ p.steps;
   are = are_both h mid next p.steps t.steps p.are t.are;
+  inner = none_ends t.steps p.steps t.inner p.inner;
   still = λ e. t.still e ∙ p.still;
   quiet = t.quiet ∙ ap (λ n. n + one_if sent) p.quiet;
   polled = t.polled ∙ p.polled;

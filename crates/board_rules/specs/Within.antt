@@ -16,6 +16,7 @@ use Rattle.board_rules.specs.Turns.{
   publishing,
   passing,
   moving,
+  ends_turn,
   found_none,
   loads,
   lacks_reply_room,
@@ -58,6 +59,7 @@ pub record MayFinish (first : Opening) (h : Journal) : Type 0 where
 pub record PassesNothing (first : Opening) (h next : Journal) : Type 0 where
   pub steps : List Step
   pub are : next ≡ steps ++ h
+  pub inner : list_any ends_turn steps ≡ false
   pub still : list_any passing (this_turn next) ≡ list_any passing (this_turn h)
   pub quiet : count_by publishing (this_turn next) ≡ count_by publishing (this_turn h)
   pub polled : list_any found_none (this_turn next) ≡ list_any found_none (this_turn h)
@@ -98,6 +100,7 @@ Tried false h next = (done : ℕ) × (mid : Journal) × MayHaveLooked h mid × (
 pub record HasTried (first : Opening) (published : Bool) (h next : Journal) : Type 0 where
   pub steps : List Step
   pub are : next ≡ steps ++ h
+  pub inner : list_any ends_turn steps ≡ false
   pub still : published ≡ false → list_any passing (this_turn next) ≡ list_any passing (this_turn h)
   pub quiet : count_by publishing (this_turn next) ≡ count_by publishing (this_turn h) + one_if published
   pub polled : list_any found_none (this_turn next) ≡ list_any found_none (this_turn h)

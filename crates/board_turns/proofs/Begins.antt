@@ -20,7 +20,7 @@ use Rattle.board_rules.specs.Steps.{Step}
 use Rattle.board_rules.specs.Steps.Step.{at_port, began, became}
 use Rattle.board_rules.specs.Cuts.{has_cut, is_cancelling}
 use Rattle.board_rules.proofs.Beginning.{caused, of_begun}
-use Rattle.board_rules.specs.Turns.{this_turn, publishing, moving, owes_report, unobeyed_of, flags_taken, found_none, has_blocks, has_jogged, machine_in, tries_of, missed_of, is_due, is_full, awaits_motion, halts_next, is_alarm, is_limited, is_locked, awaits_unlock, begins_in, starts_cycle}
+use Rattle.board_rules.specs.Turns.{this_turn, publishing, moving, ends_turn, owes_report, unobeyed_of, flags_taken, found_none, has_blocks, has_jogged, machine_in, tries_of, missed_of, is_due, is_full, awaits_motion, halts_next, is_alarm, is_limited, is_locked, awaits_unlock, begins_in, starts_cycle}
 use Rattle.board_rules.specs.Conduct.{MayBegin, MayStart}
 use Rattle.board_turns.specs.declared.board.Board.{Board}
 use Rattle.board_machine.specs.declared.machine.Machine.{Machine}
@@ -35,7 +35,7 @@ use Rattle.board_turns.specs.Turning.MayHaveTold.{untold, handed_back, was_told}
 use Rattle.board_rules.specs.Within.{AreWorked}
 use Rattle.board_turns.proofs.Starting.{starts_off, starts_to_begin}
 use Rattle.board_turns.proofs.Standing.{blocks_undrained}
-use Rattle.board_rules.proofs.Tries.{IsNoWord, worked_behind, publishes_one, publishes_none}
+use Rattle.board_rules.proofs.Tries.{IsNoWord, none_ends, worked_behind, publishes_one, publishes_none}
 use Rattle.board_rules.proofs.Uncut.{uncut_else}
 use Rattle.board_rules.proofs.HaltWorks.{HaltsOrNot, line_halts, none_halts_next}
 use Rattle.board_rules.proofs.Alarms.{still_locked}
@@ -377,6 +377,7 @@ judges_started first jog h l blocks = record {
 pub record IsBegun (first : Opening) (k : ℕ) (o : Outcome) (mid h : Journal) : Type 0 where
   pub front : List Step
   pub are : h ≡ front ++ began o ∷ mid
+  pub inner : list_any ends_turn front ≡ false
   pub worked : AreWorked mid → AreWorked h
   pub once : count_by publishing (this_turn h) ≤ count_by publishing (this_turn mid) + k
   pub unpolled : list_any found_none (this_turn h) ≡ list_any found_none (this_turn mid)
@@ -392,6 +393,7 @@ line_begun : (first : Opening) (o : Outcome) (mid : Journal) → IsBegun first 0
 line_begun first o mid = record {
   front = [];
   are = refl;
+  inner = refl;
   worked = worked_behind (began o) mid (began o ∷ mid) refl (record { no_changes = refl; none_planned = refl }) refl refl;
   once = (let c = publishes_none (began o) (this_turn mid) refl in omega (arith, c));
   unpolled = refl;
@@ -408,6 +410,7 @@ line_limited first o mid m =
     record {
       front = became on_limit m ∷ [];
       are = refl;
+      inner = refl;
       worked = λ w. worked_behind (became on_limit m) line (became on_limit m ∷ line) refl (record { no_changes = refl; none_planned = refl }) refl refl (b.worked w);
       once = (let c = publishes_none (became on_limit m) (this_turn line) refl in let had = b.once in omega (arith, c, had));
       unpolled = refl;
@@ -424,6 +427,7 @@ line_unlocked first o mid =
     record {
       front = became on_unlock motions.Idle ∷ [];
       are = refl;
+      inner = refl;
       worked = λ w. worked_behind (became on_unlock motions.Idle) line (became on_unlock motions.Idle ∷ line) refl (record { no_changes = refl; none_planned = refl }) refl refl (b.worked w);
       once = (let c = publishes_none (became on_unlock motions.Idle) (this_turn line) refl in let had = b.once in omega (arith, c, had));
       unpolled = refl;
@@ -439,10 +443,11 @@ has_begun first o mid line (inr (inr is)) = subst (λ (j : Journal). IsBegun fir
 
 -- a step at the port behind it that takes no byte, tries no piece and takes no word of flags
 begun_on : (first : Opening) (o : Outcome) (mid h next : Journal) (s : Step) → next ≡ s ∷ h → IsBegun first 0 o mid h → IsNoWord s → owes_report next ≡ owes_report h → unobeyed_of next ≡ unobeyed_of h → flags_taken next ≡ flags_taken h
-    → this_turn next ≡ s ∷ this_turn h → found_none s ≡ false → tries_of first next ≡ tries_of first h → whole_of next ≡ whole_of h → IsBegun first 1 o mid next
-begun_on first o mid h next s is b plain owed words flags turn none tries whole = record {
+    → this_turn next ≡ s ∷ this_turn h → found_none s ≡ false → ends_turn s ≡ false → tries_of first next ≡ tries_of first h → whole_of next ≡ whole_of h → IsBegun first 1 o mid next
+begun_on first o mid h next s is b plain owed words flags turn none inner tries whole = record {
   front = s ∷ b.front;
   are = is ∙ ap (λ (j : Journal). s ∷ j) b.are;
+  inner = ap (λ t. t || list_any ends_turn b.front) inner ∙ b.inner;
   worked = λ w. worked_behind s h next turn plain owed words (b.worked w);
   once = (let c = ap (λ ss. count_by publishing ss) turn in let one = at_most_one s (this_turn h) in let had = b.once in omega (arith, c, one, had));
   unpolled = ap (λ ss. list_any found_none ss) turn ∙ ap (λ t. t || list_any found_none (this_turn h)) none ∙ b.unpolled;
@@ -462,13 +467,13 @@ begun_on first o mid h next s is b plain owed words flags turn none tries whole 
 pub has_spoken : (first : Opening) (o : Outcome) (mid line next : Journal) → HasBegun first o mid line → MayHaveTold line next → IsBegun first 1 o mid next
 has_spoken first o mid line next begun (untold is) =
     let b = has_begun first o mid line begun in
-    subst (λ (j : Journal). IsBegun first 1 o mid j) (sym is) (record { front = b.front; are = b.are; worked = b.worked; once = (let c = b.once in omega (arith, c)); unpolled = b.unpolled; tries = b.tries; free = b.free; moved = b.moved })
+    subst (λ (j : Journal). IsBegun first 1 o mid j) (sym is) (record { front = b.front; are = b.are; inner = b.inner; worked = b.worked; once = (let c = b.once in omega (arith, c)); unpolled = b.unpolled; tries = b.tries; free = b.free; moved = b.moved })
 has_spoken first o mid line next begun (handed_back is) =
     subst (λ (j : Journal). IsBegun first 1 o mid j) (sym is)
-    (begun_on first o mid line (at_port no_reply_room ∷ line) (at_port no_reply_room) refl (has_begun first o mid line begun) (record { no_changes = refl; none_planned = refl }) refl refl refl refl refl refl refl)
+    (begun_on first o mid line (at_port no_reply_room ∷ line) (at_port no_reply_room) refl (has_begun first o mid line begun) (record { no_changes = refl; none_planned = refl }) refl refl refl refl refl refl refl refl)
 has_spoken first o mid line next begun (was_told r is) =
     subst (λ (j : Journal). IsBegun first 1 o mid j) (sym is)
-    (begun_on first o mid line (at_port (answered r) ∷ line) (at_port (answered r)) refl (has_begun first o mid line begun) (record { no_changes = refl; none_planned = refl }) refl refl refl refl refl refl refl)
+    (begun_on first o mid line (at_port (answered r) ∷ line) (at_port (answered r)) refl (has_begun first o mid line begun) (record { no_changes = refl; none_planned = refl }) refl refl refl refl refl refl refl refl)
 
 -- no report is owed behind a line that was begun
 pub begun_unowed : (first : Opening) (o : Outcome) (mid line : Journal) → MayJudge first mid → HasBegun first o mid line → owes_report line ≡ false
@@ -489,9 +494,10 @@ did_begin_line first was board h seen mid spoken next o ready line look alone b 
     let steps = b.front ++ began o ∷ (a.steps ++ look.steps) in
     let before : began o ∷ mid ≡ began o ∷ ((a.steps ++ look.steps) ++ h) = ap (λ (j : Journal). began o ∷ j) (a.are ∙ ap (λ (j : Journal). a.steps ++ j) look.are ∙ sym (append_assoc a.steps look.steps h)) in
     let are : spoken ≡ steps ++ h = b.are ∙ ap (λ (j : Journal). b.front ++ j) before ∙ sym (append_assoc b.front (began o ∷ (a.steps ++ look.steps)) h) in
+    let inner : list_any ends_turn steps ≡ false = none_ends b.front (began o ∷ (a.steps ++ look.steps)) b.inner (none_ends a.steps look.steps a.inner look.inner) in
     let once = b.once in
     let tried = b.tries in
-    did_filled first was board h spoken next steps are keeps beat taken filled (b.worked (a.worked (look.worked ready.quiet.worked)))
+    did_filled first was board h spoken next steps are inner keeps beat taken filled (b.worked (a.worked (look.worked ready.quiet.worked)))
     (omega (arith, once, quiet)) (b.unpolled ∙ a.polled ∙ look.polled ∙ ready.unpolled) (omega (arith, few, tries, tried)) (inl (filled.alone.passes.moves b.moved))
 
 -- the port knows nothing of that

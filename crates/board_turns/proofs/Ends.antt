@@ -15,7 +15,7 @@ use Rattle.step_line.specs.Asking.Asked.{a_move, a_mark, a_rest}
 use Rattle.board_rules.specs.Ports.{BoardLog}
 use Rattle.board_rules.specs.Steps.{Step, Journal, left_of, plan_of, motion_of, whole_of, closed_tells}
 use Rattle.board_rules.specs.Cuts.{has_cut}
-use Rattle.board_rules.specs.Turns.{this_turn, publishing, passing, moving, found_none, unobeyed_of, owes_report, takes_changes, replans, flags_taken, awaits_motion, has_jogged, is_full, begins_in, halts_next, is_halting, is_limited, is_counted, has_blocks, has_segment, is_due, starts_cycle, tries_of, missed_of, waits_of}
+use Rattle.board_rules.specs.Turns.{this_turn, publishing, passing, moving, ends_turn, found_none, unobeyed_of, owes_report, takes_changes, replans, flags_taken, awaits_motion, has_jogged, is_full, begins_in, halts_next, is_halting, is_limited, is_counted, has_blocks, has_segment, is_due, starts_cycle, tries_of, missed_of, waits_of}
 use Rattle.board_rules.specs.Conduct.{Conducted, AreWaiting, IsNextTask}
 use Rattle.units.specs.Truths.{one_if}
 use Rattle.board_turns.specs.declared.board.Board.{Board}
@@ -26,6 +26,7 @@ use Rattle.board_turns.specs.Boards.{Keeps, Rounds, NoneWaits, GoingBetween, IsF
 use Rattle.board_turns.specs.Turning.{IsNextMove, AreWorked, IsQuiet, IsReady, MayRun, MayAwait, HasStopped, NeedsNoWait, GoesOn, PassesNothing, HasFilled, HasTried, BoardWorked, WorksOn}
 pub use Rattle.board_turns.proofs.Freeing.{free_of, takes_none, no_word_left, free_passed, free_tried, flags_tried, flags_passed, taken_by, obeyed_by, obeyed_unless}
 use Rattle.board_rules.proofs.Facts.{not_whole, uncounted, uncounted_line, uncounted_owing}
+use Rattle.board_rules.proofs.Tries.{none_ends}
 use Rattle.board_turns.proofs.Steps.{other_beat, halts_by, none_halts}
 
 -- ---- what follows
@@ -47,9 +48,9 @@ number_tried first was p h next t =
     (let m = ap (λ m. changes_left m (has_cut next)) t.motion in let c = ap (changes_left (motion_of first h)) t.cuts in omega (arith, m, c)) t.closed
 
 -- what a board has worked up to an answer behind further steps
-pub worked_on : {N : ℕ} (first : Opening) (t : Turn) (was : Flags) (board : Board N) (h mid next : Journal) (steps : List Step) → mid ≡ steps ++ h → number_of first was mid ≤ number_of first was h → BoardWorked first t was board mid next
+pub worked_on : {N : ℕ} (first : Opening) (t : Turn) (was : Flags) (board : Board N) (h mid next : Journal) (steps : List Step) → mid ≡ steps ++ h → list_any ends_turn steps ≡ false → number_of first was mid ≤ number_of first was h → BoardWorked first t was board mid next
     → BoardWorked first t was board h next
-worked_on first t was board h mid next steps is fewer w = record {
+worked_on first t was board h mid next steps is inner fewer w = record {
   keeps = w.keeps;
   rounds = w.rounds;
   flags = w.flags;
@@ -57,6 +58,7 @@ worked_on first t was board h mid next steps is fewer w = record {
   beat = w.beat;
   steps = w.steps ++ steps;
   are = w.are ∙ ap (λ (x : Journal). w.steps ++ x) is ∙ sym (append_assoc w.steps steps h);
+  inner = none_ends w.steps steps w.inner inner;
   may = w.may;
   moves = λ e. further (w.moves e);
 }
@@ -65,13 +67,13 @@ worked_on first t was board h mid next steps is fewer w = record {
     further (inl moved) = inl moved
     further (inr falls) = inr (omega (arith, falls, fewer))
 
-pub works_on : {N : ℕ} (first : Opening) (stands : BoardLog → Type 0) (t : Turn) (was : Flags) (board : Board N) (h mid : Journal) (steps : List Step) → mid ≡ steps ++ h → number_of first was mid ≤ number_of first was h
+pub works_on : {N : ℕ} (first : Opening) (stands : BoardLog → Type 0) (t : Turn) (was : Flags) (board : Board N) (h mid : Journal) (steps : List Step) → mid ≡ steps ++ h → list_any ends_turn steps ≡ false → number_of first was mid ≤ number_of first was h
     → WorksOn first stands t was board mid → WorksOn first stands t was board h
-works_on first stands t was board h mid steps is fewer w = (w.0, w.1, worked_on first t was board h mid w.0 steps is fewer w.2)
+works_on first stands t was board h mid steps is inner fewer w = (w.0, w.1, worked_on first t was board h mid w.0 steps is inner fewer w.2)
 
 -- so it has behind steps that pass nothing
 pub works_passed : {N : ℕ} (first : Opening) (stands : BoardLog → Type 0) (t : Turn) (was : Flags) (board : Board N) (h mid : Journal) → PassesNothing first h mid → WorksOn first stands t was board mid → WorksOn first stands t was board h
-works_passed first stands t was board h mid p w = works_on first stands t was board h mid p.steps p.are (number_passes first was h mid p) w
+works_passed first stands t was board h mid p w = works_on first stands t was board h mid p.steps p.are p.inner (number_passes first was h mid p) w
 
 -- ---- truths
 
@@ -204,6 +206,7 @@ sent_by first was board h mid next may tried filled keeps no_word takes =
       beat = λ o e. absurd cc;
       steps = a.steps ++ tried.steps;
       are = a.are ∙ ap (λ (x : Journal). a.steps ++ x) tried.are ∙ sym (append_assoc a.steps tried.steps h);
+      inner = none_ends a.steps tried.steps a.inner tried.inner;
       may = record {
         once = (let q = tried.quiet in let r = a.quiet in let s = may.quiet in omega arith);
         adds = filled.adds;
@@ -255,6 +258,7 @@ handed_back first was board h mid next may tried filled keeps beat no_word =
       beat = λ o e. beat;
       steps = a.steps ++ tried.steps;
       are = a.are ∙ ap (λ (x : Journal). a.steps ++ x) tried.are ∙ sym (append_assoc a.steps tried.steps h);
+      inner = none_ends a.steps tried.steps a.inner tried.inner;
       may = record {
         ends = record {
           once = (let q = tried.quiet in let r = a.quiet in let s = may.quiet.quiet in omega arith);
@@ -442,10 +446,10 @@ needs_no_wait first b h k stopped no_rest no_normal awaits = by_task (awaited (l
 -- ---- what was done moves on
 
 -- something was done up to a journal, behind which moves were added
-pub did_filled : {N : ℕ} (first : Opening) (was : Flags) (board : Board N) (h mid next : Journal) (steps : List Step) → mid ≡ steps ++ h → Keeps first board next → board.beat ≡ Motion → TakesFlags board.flags next → HasFilled first mid next
+pub did_filled : {N : ℕ} (first : Opening) (was : Flags) (board : Board N) (h mid next : Journal) (steps : List Step) → mid ≡ steps ++ h → list_any ends_turn steps ≡ false → Keeps first board next → board.beat ≡ Motion → TakesFlags board.flags next → HasFilled first mid next
     → AreWorked mid → count_by publishing (this_turn mid) ≤ 1 → list_any found_none (this_turn mid) ≡ false → tries_of first mid + one_if (whole_of mid) ≤ 1
     → (list_any moving (this_turn next) ≡ true) ⊎ (number_of first board.flags next < number_of first was h) → BoardWorked first Did was board h next
-did_filled first was board h mid next steps is keeps beat taken filled worked once unpolled few moves =
+did_filled first was board h mid next steps is inner keeps beat taken filled worked once unpolled few moves =
     let a = filled.alone.passes in
     let now = a.worked worked in
     let t = a.tries in
@@ -458,6 +462,7 @@ did_filled first was board h mid next steps is keeps beat taken filled worked on
       beat = λ o e. beat;
       steps = a.steps ++ steps;
       are = a.are ∙ ap (λ (x : Journal). a.steps ++ x) is ∙ sym (append_assoc a.steps steps h);
+      inner = none_ends a.steps steps a.inner inner;
       may = record {
         once = (let q = a.quiet in omega arith);
         adds = filled.adds;

@@ -26,7 +26,7 @@ use Rattle.board_rules.specs.Ports.PortStep.{took_exec}
 use Rattle.board_rules.specs.Steps.{Step, Journal, left_of, whole_of, closed_tells, hand_of, plan_of, motion_of}
 use Rattle.board_rules.specs.Steps.Step.{at_port, became}
 use Rattle.board_rules.specs.Cuts.{has_cut}
-use Rattle.board_rules.specs.Turns.{this_turn, is_going, publishing, passing, unobeyed_of, owes_report, takes_changes, replans, asks_no_start, flags_taken, has_blocks, has_jogged, has_jog_to_start, waits_to_jog, has_segment, is_full, is_due, is_halting, is_limited, halts_next, is_counted, is_held_up, needs_motion, awaits_motion, tells_next, starts_cycle, tries_of, most_tries}
+use Rattle.board_rules.specs.Turns.{this_turn, ends_turn, is_going, publishing, passing, unobeyed_of, owes_report, takes_changes, replans, asks_no_start, flags_taken, has_blocks, has_jogged, has_jog_to_start, waits_to_jog, has_segment, is_full, is_due, is_halting, is_limited, halts_next, is_counted, is_held_up, needs_motion, awaits_motion, tells_next, starts_cycle, tries_of, most_tries}
 use Rattle.board_rules.specs.Conduct.{Conducted, EndsTurn, IsNextTask, AreWaiting, HasSlowedDown}
 use Rattle.board_rules.proofs.Staying.{both_taken, stays_held}
 use Rattle.board_rules.proofs.Given.{known_within}
@@ -149,6 +149,7 @@ did_settle first board was h next k halted s slowed other beat no_word none = re
   beat = λ o e. beat;
   steps = s.passes.steps;
   are = s.passes.are;
+  inner = s.passes.inner;
   may = ends_settled first h next halted s (halts_by first board next k);
   moves = λ e. inr (fewer_words first board.flags was h next no_word none falls);
 }
@@ -237,6 +238,7 @@ waits_for_stop first board was h next k halted s slowed beat no_word = record {
   beat = λ o e. beat;
   steps = s.passes.steps;
   are = s.passes.are;
+  inner = s.passes.inner;
   may = record {
     ends = ends_settled first h next halted s (halts_by first board next k);
     cause = record {
@@ -338,10 +340,10 @@ leaves first None h = record { left = refl; closed = refl; still = refl; unasked
 leaves first (Some word) h = record { left = refl; closed = refl; still = refl; unasked = refl; held_up = refl }
 
 pub behind_word : (first : Opening) (waiting : Option Exec) (h next : Journal) → IsBehind h next → IsBehind h (obeying first waiting next)
-behind_word first None h next b = record { steps = b.steps; are = b.are }
+behind_word first None h next b = record { steps = b.steps; are = b.are; inner = b.inner }
 behind_word first (Some word) h next b =
     let s = became (on_exec word (has_blocks (plan_of next).blocks)) (after_word word (has_blocks (plan_of next).blocks) (motion_of first next)) in
-    record { steps = s ∷ b.steps; are = ap (λ (j : Journal). s ∷ j) b.are }
+    record { steps = s ∷ b.steps; are = ap (λ (j : Journal). s ∷ j) b.are; inner = b.inner }
 
 -- a word was taken behind which a report is told first
 abbrev pub taken : Exec → Journal → Journal
@@ -450,8 +452,8 @@ rounds_awaited first word board h mid halted s beat =
     (rounds_behind first (to_obey word) (taken word mid) (λ w. absurd (none_wait first h halted.halts (s.waiting (record { stands = w.stands; blocks = w.blocks })))) (few_settled first h mid s (few_halted first h halted)))
 
 -- the steps of a word that is taken, and obeyed
-pub obeyed_behind : (first : Opening) (word : Exec) (h mid : Journal) (steps : List Step) → mid ≡ steps ++ h → IsBehind h (obeyed first word mid)
-obeyed_behind first word h mid steps are = behind_word first (to_obey word) h (taken word mid) (record { steps = at_port (took_exec word) ∷ steps; are = ap (λ (j : Journal). at_port (took_exec word) ∷ j) are })
+pub obeyed_behind : (first : Opening) (word : Exec) (h mid : Journal) (steps : List Step) → mid ≡ steps ++ h → list_any ends_turn steps ≡ false → IsBehind h (obeyed first word mid)
+obeyed_behind first word h mid steps are inner = behind_word first (to_obey word) h (taken word mid) (record { steps = at_port (took_exec word) ∷ steps; are = ap (λ (j : Journal). at_port (took_exec word) ∷ j) are; inner = inner })
 
 -- the machine is resumed
 pub did_resume : {N : ℕ} (first : Opening) (board : Board N) (was : Flags) (word : Exec) (h mid : Journal) → Keeps first board (obeyed first word mid) → IsHeldUp first h → HasSettled first h mid → motion_of first h ≡ motions.Held
@@ -462,8 +464,9 @@ did_resume first board was word h mid k halted s held resumes unowed beat no_wor
   flags = takes_none board (obeyed first word mid) no_word (free_now first word mid (both_taken mid (s.passes.flags ∙ halted.ready.quiet.flags)).1 (free_settled first h mid halted s).obeyed unowed);
   still = λ e. no_word_left board.flags no_word;
   beat = λ o e. beat;
-  steps = (obeyed_behind first word h mid s.passes.steps s.passes.are).steps;
-  are = (obeyed_behind first word h mid s.passes.steps s.passes.are).are;
+  steps = (obeyed_behind first word h mid s.passes.steps s.passes.are s.passes.inner).steps;
+  are = (obeyed_behind first word h mid s.passes.steps s.passes.are s.passes.inner).are;
+  inner = (obeyed_behind first word h mid s.passes.steps s.passes.are s.passes.inner).inner;
   may = ends_awaited first board word h mid k halted s;
   moves = λ e. inr (fewer_words first board.flags was h (obeyed first word mid) no_word none falls);
 }
@@ -487,8 +490,9 @@ waits_for_resume first board was word h mid k halted s held stays unowed beat no
   flags = takes_none board (obeyed first word mid) no_word free;
   still = λ e. no_word_left board.flags no_word;
   beat = λ o e. beat;
-  steps = (obeyed_behind first word h mid s.passes.steps s.passes.are).steps;
-  are = (obeyed_behind first word h mid s.passes.steps s.passes.are).are;
+  steps = (obeyed_behind first word h mid s.passes.steps s.passes.are s.passes.inner).steps;
+  are = (obeyed_behind first word h mid s.passes.steps s.passes.are s.passes.inner).are;
+  inner = (obeyed_behind first word h mid s.passes.steps s.passes.are s.passes.inner).inner;
   may = record {
     ends = ends_awaited first board word h mid k halted s;
     cause = record { held = stays; unasked = l.unasked ∙ or_first (asks_no_start (at_port (took_exec word))) (list_any asks_no_start (this_turn mid)) unasked; held_up = l.held_up ∙ held_up s.stays };
@@ -536,6 +540,7 @@ did_ask first board was word h mid k halted s owed beat asks none = record {
   beat = λ o e. beat;
   steps = at_port (took_exec word) ∷ s.passes.steps;
   are = ap (λ (j : Journal). at_port (took_exec word) ∷ j) s.passes.are;
+  inner = s.passes.inner;
   may = (let ends = ends_settled first h mid halted s (halts_by first board (taken word mid) k) in
       ends_taken first word mid owed (s.passes.quiet ∙ halted.ready.quiet.quiet) (s.passes.worked halted.ready.quiet.worked) ends.adds ends.starts ends.tries (halts_by first board (taken word mid) k));
   moves = λ e. inr falls;

@@ -109,6 +109,7 @@ waits_at_limit first b h done k ready is next none beat no_word found fewer =
       beat = λ other e. beat;
       steps = at_port (loaded done) ∷ [];
       are = refl;
+      inner = refl;
       may = record {
         ends = record {
           once = let q = quiet.quiet in omega (arith, q);
@@ -138,6 +139,7 @@ passes_halted : (first : Opening) (h : Journal) → PassesNothing first h (halte
 passes_halted first h = record {
   steps = halted ∷ [];
   are = refl;
+  inner = refl;
   still = refl;
   quiet = publishes_none halted (this_turn h) refl;
   polled = refl;
@@ -295,6 +297,7 @@ closes_limited first board now h k keeps ready alarmed none open_yet beat no_wor
       beat = λ o e. beat;
       steps = closing ∷ [];
       are = refl;
+      inner = refl;
       may = record {
         once = (let a = publishes_none closing (this_turn h) refl in let q = ready.quiet.quiet in omega (arith, a, q));
         adds = λ m e. absurd cc;

@@ -259,6 +259,7 @@ told_later first was board h r k ready next beat no_word =
       beat = λ o e. beat;
       steps = at_port no_reply_room ∷ [];
       are = refl;
+      inner = refl;
       may = record {
         ends = record {
           once = (let a = publishes_none (at_port no_reply_room) (this_turn h) refl in let q = ready.quiet.quiet in omega arith);
@@ -295,6 +296,7 @@ took_worked first was board b h keeps takes ready may beat =
       beat = λ o e. beat;
       steps = at_port (took b) ∷ [];
       are = refl;
+      inner = refl;
       may = record {
         once = (let a = publishes_one (at_port (took b)) (this_turn h) refl in let q = ready.quiet.quiet in omega arith);
         adds = λ m e. absurd (none_next (left_of first h) (ask (a_move m)) may.all_done e);
@@ -360,6 +362,7 @@ waits_for_byte first was board h k polled found none beat no_word =
       beat = λ o e. beat;
       steps = [];
       are = refl;
+      inner = refl;
       may = record {
         ends = record {
           once = (let q = polled.quiet.quiet in omega arith);
@@ -444,6 +447,7 @@ closes_worked first board is h keeps polled none beat no_word_was no_word =
       beat = λ o e. beat;
       steps = closing ∷ [];
       are = refl;
+      inner = refl;
       may = record {
         once = (let a = publishes_none closing (this_turn h) refl in let q = polled.quiet.quiet in omega arith);
         adds = λ m e. absurd cc;

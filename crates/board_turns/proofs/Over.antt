@@ -25,6 +25,7 @@ over_worked first c h f between rests = record {
   beat = λ o e. absurd cc;
   steps = [];
   are = refl;
+  inner = refl;
   may = record { finished = record { left = sym f.keeps.lines.left_is ∙ rests.none; closed = f.keeps.closed rests.closing }; still = between };
   moves = λ e. absurd cc;
 }

@@ -25,7 +25,7 @@ use Rattle.epoch_ports.specs.Serving.{MayTellNow}
 use Rattle.board_rules.specs.Ports.PortStep.{found_free, reported, no_reply_room}
 use Rattle.board_rules.specs.Steps.{Step, Journal, port_log, published_of, known_of, whole_of, plan_of, motion_of}
 use Rattle.board_rules.specs.Steps.Step.{at_port, became}
-use Rattle.board_rules.specs.Turns.{this_turn, publishing, passing, moving, found_none, lacks_reply_room, loads, has_blocks, is_going, is_due, flags_taken, unobeyed_of, owes_report, takes_changes, replans, tries_of, waits_of}
+use Rattle.board_rules.specs.Turns.{this_turn, publishing, passing, moving, ends_turn, found_none, lacks_reply_room, loads, has_blocks, is_going, is_due, flags_taken, unobeyed_of, owes_report, takes_changes, replans, tries_of, waits_of}
 use Rattle.board_rules.specs.Conduct.{IsDrained, IsStopped, IsReportAt}
 use Rattle.units.specs.Truths.{one_if}
 use Rattle.board_turns.specs.declared.board.Board.{Board}
@@ -37,7 +37,7 @@ use Rattle.board_turns.specs.Turning.{NoneFits, HasPiece, HasTried, HasFilled, B
 use Rattle.board_turns.specs.Reporting.{HasObserved, HasAskedRoom, IsBehind, IsReported, IsTold, IsToReport, LacksRoom, obeying}
 use Rattle.board_turns.proofs.Steps.{other_flags, halts_by}
 use Rattle.board_turns.proofs.PortSteps.{report_told, report_kept}
-use Rattle.board_rules.proofs.Tries.{counts_none, publishes_none, publishes_one}
+use Rattle.board_rules.proofs.Tries.{counts_none, none_ends, publishes_none, publishes_one}
 use Rattle.board_rules.proofs.Facts.{uncounted_owing}
 use Rattle.board_rules.proofs.Greeted.{owed_greeted}
 pub use Rattle.board_turns.proofs.Halting.{behind_word}
@@ -119,8 +119,8 @@ behind_asked : (first : Opening) (buffer : Option (ℕ × ℕ)) (h mid next : Jo
 behind_asked first buffer h mid next o a = by_are a.are
   where
     by_are : (next ≡ mid) ⊎ ((bytes : ℕ) × (next ≡ at_port (found_free bytes) ∷ mid)) → IsBehind h next
-    by_are (inl same) = record { steps = o.passes.steps; are = same ∙ o.passes.are }
-    by_are (inr asked) = record { steps = at_port (found_free asked.0) ∷ o.passes.steps; are = asked.1 ∙ ap (λ (j : Journal). at_port (found_free asked.0) ∷ j) o.passes.are }
+    by_are (inl same) = record { steps = o.passes.steps; are = same ∙ o.passes.are; inner = o.passes.inner }
+    by_are (inr asked) = record { steps = at_port (found_free asked.0) ∷ o.passes.steps; are = asked.1 ∙ ap (λ (j : Journal). at_port (found_free asked.0) ∷ j) o.passes.are; inner = o.passes.inner }
 
 -- the room that was asked for is known
 pub room_known : (first : Opening) (buffer : Option (ℕ × ℕ)) (h next : Journal) → HasAskedRoom first buffer h next → HasAskedRoom first buffer next next
@@ -200,7 +200,7 @@ reports first Rest old new rest (Ok x) c word buffer r h mid next t o a k told s
       ok rest first next stood (may_tell first c r next k told),
       report_told first c r next k (report_at first c word r next k f told),
       reported_told first word r next f,
-      record { steps = at_port (reported r) ∷ b.steps; are = ap (λ (j : Journal). at_port (reported r) ∷ j) b.are },
+      record { steps = at_port (reported r) ∷ b.steps; are = ap (λ (j : Journal). at_port (reported r) ∷ j) b.are; inner = b.inner },
     )
 reports first Rest old new rest (Err e) c word buffer r h mid next t o a k told stood ok full =
     let f = found_asked first word buffer mid next (found first word h mid t o) a in
@@ -209,7 +209,7 @@ reports first Rest old new rest (Err e) c word buffer r h mid next t o a k told 
       full rest first (port_log next) stood,
       report_kept first c next k f.owed,
       reported_kept first word next f,
-      record { steps = at_port no_reply_room ∷ b.steps; are = ap (λ (j : Journal). at_port no_reply_room ∷ j) b.are },
+      record { steps = at_port no_reply_room ∷ b.steps; are = ap (λ (j : Journal). at_port no_reply_room ∷ j) b.are; inner = b.inner },
     )
 
 -- ---- where there is no room for it
@@ -218,9 +218,9 @@ motion_beat : {N : ℕ} (board : Board N) → board.beat ≡ Motion → has_publ
 motion_beat board beat e = absurd (let s = sym (ap has_published beat) ∙ e in cc)
 
 -- the room is waited for
-waits_for_room : {N : ℕ} (first : Opening) (board : Board N) (was : Flags) (h next : Journal) (steps : List Step) → next ≡ steps ++ h → Keeps first board next → LacksRoom first next → (is_due first next ≡ true → waits_of next ≡ []) → board.beat ≡ Motion
+waits_for_room : {N : ℕ} (first : Opening) (board : Board N) (was : Flags) (h next : Journal) (steps : List Step) → next ≡ steps ++ h → list_any ends_turn steps ≡ false → Keeps first board next → LacksRoom first next → (is_due first next ≡ true → waits_of next ≡ []) → board.beat ≡ Motion
     → board.flags ≡ words.Both → BoardWorked first (Wait ReplyRoom) was board h next
-waits_for_room first board was h next steps are keeps l tried beat both = record {
+waits_for_room first board was h next steps are inner keeps l tried beat both = record {
   keeps = keeps;
   rounds = subst (λ b. (Rounds first) b next) (sym beat) (rounds_still first next l.none_waits l.tries);
   flags = subst (λ f. TakesFlags f next) (sym both) (record { greeted = owed_greeted first next keeps.conducted l.owed; obeyed = l.words });
@@ -228,6 +228,7 @@ waits_for_room first board was h next steps are keeps l tried beat both = record
   beat = λ o e. beat;
   steps = steps;
   are = are;
+  inner = inner;
   may = record {
     ends = record {
       once = (let q = l.quiet in omega (arith, q));
@@ -251,14 +252,14 @@ waits_for_room first board was h next steps are keeps l tried beat both = record
 -- nothing is in hand, nor due
 pub waits_idle : {N : ℕ} (first : Opening) (board : Board N) (was : Flags) (h : Journal) → Keeps first board h → LacksRoom first h → (HasPiece first h → ⊥) → board.beat ≡ Motion → BoardWorked first (Wait ReplyRoom) was (record board { flags = words.Both }) h h
 waits_idle first board was h k l none beat =
-    waits_for_room first (record board { flags = words.Both }) was h h [] refl (other_flags first board words.Both h k) l (λ due. absurd (none (inr due))) beat refl
+    waits_for_room first (record board { flags = words.Both }) was h h [] refl refl (other_flags first board words.Both h k) l (λ due. absurd (none (inr due))) beat refl
 
 -- a piece was handed back
 pub waits_handed : {N : ℕ} (first : Opening) (board : Board N) (was : Flags) (h mid next : Journal) → Keeps first board next → LacksRoom first h → HasTried first false h mid → HasFilled first mid next → board.beat ≡ Motion → board.flags ≡ words.Both
     → BoardWorked first (Wait ReplyRoom) was board h next
 waits_handed first board was h mid next k l tried filled beat both =
     let a = filled.alone.passes in
-    waits_for_room first board was h next (a.steps ++ tried.steps) (a.are ∙ ap (λ (x : Journal). a.steps ++ x) tried.are ∙ sym (append_assoc a.steps tried.steps h)) k
+    waits_for_room first board was h next (a.steps ++ tried.steps) (a.are ∙ ap (λ (x : Journal). a.steps ++ x) tried.are ∙ sym (append_assoc a.steps tried.steps h)) (none_ends a.steps tried.steps a.inner tried.inner) k
     (record {
       still = a.still ∙ tried.still refl ∙ l.still;
       quiet = (let q = tried.quiet in let r = a.quiet in let s = l.quiet in omega arith);
@@ -379,6 +380,7 @@ did_report first board was waiting h next k r b beat =
       beat = λ on e. beat;
       steps = on.steps;
       are = on.are;
+      inner = on.inner;
       may = record {
         once = (let q = o.quiet in omega (arith, q));
         adds = o.adds;
@@ -401,6 +403,7 @@ went_on first t board was h mid next b w moved = record {
   beat = w.beat;
   steps = w.steps ++ b.steps;
   are = w.are ∙ ap (λ (x : Journal). w.steps ++ x) b.are ∙ sym (append_assoc w.steps b.steps h);
+  inner = none_ends w.steps b.steps w.inner b.inner;
   may = w.may;
   moves = λ e. inl (moved e);
 }

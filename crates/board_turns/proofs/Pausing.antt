@@ -18,7 +18,7 @@ use Rattle.board_turns.specs.Boards.{Keeps, Rounds, number_of}
 use Rattle.board_turns.specs.Turning.{IsReady, PassesNothing, HasFilled, BoardWorked}
 use Rattle.board_rules.proofs.Facts.{not_whole}
 use Rattle.board_turns.proofs.Steps.{halts_by}
-use Rattle.board_rules.proofs.Tries.{publishes_none, worked_behind}
+use Rattle.board_rules.proofs.Tries.{none_ends, publishes_none, worked_behind}
 use Rattle.board_turns.proofs.Ends.{none_called, rounds_still, free_of, free_passed, takes_none, no_word_left}
 
 -- a pause less is left
@@ -50,6 +50,7 @@ paused_filled first board was h next k ready task filled keeps beat no_word =
       still = λ e. no_word_left board.flags no_word;
       steps = a.steps ++ paused ∷ [];
       are = a.are ∙ sym (append_assoc a.steps (paused ∷ []) h);
+      inner = none_ends a.steps (paused ∷ []) a.inner refl;
       may = record {
         once = (let q = a.quiet in let p = publishes_none paused (this_turn h) refl in let r = ready.quiet.quiet in omega (arith, q, p, r));
         adds = filled.adds;

@@ -197,6 +197,7 @@ waits_for_motion first b h done k may beat no_word found hand none fewer =
       beat = λ other e. beat;
       steps = at_port (loaded done) ∷ [];
       are = refl;
+      inner = refl;
       may = record {
         ends = record {
           once = let q = quiet.quiet in omega (arith, q);

@@ -97,6 +97,7 @@ pub board_turned : {N : ℕ} (first : Opening) (t : Turn) (before board : Board 
 board_turned first t before board h next w = record {
   steps = w.steps;
   are = ap (λ (x : Journal). turned t ∷ x) w.are;
+  inner = w.inner;
   moves = λ e. by_move e (w.moves e);
 }
   where

@@ -19,7 +19,7 @@ use Rattle.board_rules.specs.Ports.PortStep.{took_exec, took_ovr}
 use Rattle.board_rules.specs.Steps.{Step, Journal, port_log, left_of, whole_of, closed_tells, plan_of, motion_of}
 use Rattle.board_rules.specs.Steps.Step.{at_port, did}
 use Rattle.board_rules.specs.Cuts.{has_cut}
-use Rattle.board_rules.specs.Turns.{this_turn, publishing, found_none, is_greeted, unobeyed_of, owes_report, takes_changes, replans, changes_taken, starts_cycle, has_blocks, has_jogged, has_jog_to_start, is_full, tries_of}
+use Rattle.board_rules.specs.Turns.{this_turn, publishing, ends_turn, found_none, is_greeted, unobeyed_of, owes_report, takes_changes, replans, changes_taken, starts_cycle, has_blocks, has_jogged, has_jog_to_start, is_full, tries_of}
 use Rattle.board_rules.specs.Conduct.{IsNextTask, AreWaiting, MayObey}
 use Rattle.board_rules.proofs.Waiting.{adds}
 use Rattle.units.specs.Truths.{one_if}
@@ -65,6 +65,7 @@ worked_between first h between none = record {
 record TakesChanges (first : Opening) (h next : Journal) : Type 0 where
   steps : List Step
   are : next ≡ steps ++ h
+  inner : list_any ends_turn steps ≡ false
   one : count_by publishing (this_turn next) ≡ count_by publishing (this_turn h) + 1
   worked : AreWorked h → AreWorked next
   polled : list_any found_none (this_turn next) ≡ list_any found_none (this_turn h)
@@ -85,6 +86,7 @@ none_changed : (first : Opening) (word : Ovr) (h : Journal) → has_changes word
 none_changed first word h none = record {
   steps = at_port (took_ovr word) ∷ [];
   are = refl;
+  inner = refl;
   one = counts_one publishing (at_port (took_ovr word)) (this_turn h) refl;
   worked = λ w. record {
     obeyed = w.obeyed;
@@ -113,6 +115,7 @@ some_changed first word h some =
     record {
       steps = plans ∷ takes ∷ [];
       are = refl;
+      inner = refl;
       one = counts_none publishing plans (takes ∷ ss) refl ∙ counts_one publishing takes ss refl;
       worked = λ w. record {
         obeyed = w.obeyed;
@@ -155,6 +158,7 @@ changes_worked first was board h next f between both t keeps same_beat flag = re
   beat = λ o e. absurd cc;
   steps = t.steps;
   are = t.are;
+  inner = t.inner;
   may = record {
     once = (let one = t.one in let zero = count_between h publishing between in omega (arith, one, zero));
     adds = λ m move. t.full ∙ adds first h m f.keeps.conducted between (subst (λ (ts : List Task). ts ≡ ask (a_move m) ∷ drop 1 ts) t.left move);
@@ -246,8 +250,9 @@ took_obeyed first was board word h mid t keeps unowed no_word = record {
   flags = takes_none board (obeyed first word mid) no_word (free_now first word mid (s.changes ∙ (has_changes_at first was h t.fits t.flag).changes) none_left unowed);
   still = λ e. no_word_left board.flags no_word;
   beat = λ o e. absurd cc;
-  steps = (obeyed_behind first word h mid s.passes.steps s.passes.are).steps;
-  are = (obeyed_behind first word h mid s.passes.steps s.passes.are).are;
+  steps = (obeyed_behind first word h mid s.passes.steps s.passes.are s.passes.inner).steps;
+  are = (obeyed_behind first word h mid s.passes.steps s.passes.are s.passes.inner).are;
+  inner = (obeyed_behind first word h mid s.passes.steps s.passes.are s.passes.inner).inner;
   may = ends_obeyed first word mid (s.passes.quiet ∙ count_between h publishing t.between) none_left (s.passes.worked (worked_between first h t.between (has_changes_at first was h t.fits t.flag).obeyed))
       (may_add_there first was board h mid t) (none_called_there first was board h mid t) (omega (arith, few)) (halts_by first board (obeyed first word mid) keeps);
   moves = λ e. inr falls;
@@ -288,6 +293,7 @@ took_asked first was board word h mid t keeps owed asks = record {
   beat = λ o e. absurd cc;
   steps = at_port (took_exec word) ∷ s.passes.steps;
   are = ap (λ (j : Journal). at_port (took_exec word) ∷ j) s.passes.are;
+  inner = s.passes.inner;
   may = ends_taken first word mid owed (s.passes.quiet ∙ count_between h publishing t.between) (s.passes.worked (worked_between first h t.between (has_changes_at first was h t.fits t.flag).obeyed))
       (may_add_there first was board h mid t) (none_called_there first was board h mid t) (omega (arith, few)) (halts_by first board (taken_word word mid) keeps);
   moves = λ e. inr falls;

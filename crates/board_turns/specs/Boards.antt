@@ -14,7 +14,7 @@ use Rattle.std.specs.declared.option.Option.{Option}
 use Rattle.board_rules.specs.Openings.{Opening, IsPlaced}
 use Rattle.board_rules.specs.Steps.{Step, Journal, taken_of, has_limited, published_of, known_of, open_of, whole_of, before_of, left_of, closed_tells, given_of, hand_of, plan_of, motion_of}
 use Rattle.board_rules.specs.Steps.Step.{turned}
-use Rattle.board_rules.specs.Turns.{this_turn, is_greeted, unobeyed_of, owes_report, moving, is_full, is_halting, awaits_unlock, awaits_motion, has_jogged, changes_taken, flags_taken, tries_of, missed_of, waits_of}
+use Rattle.board_rules.specs.Turns.{this_turn, ends_turn, is_greeted, unobeyed_of, owes_report, moving, is_full, is_halting, awaits_unlock, awaits_motion, has_jogged, changes_taken, flags_taken, tries_of, missed_of, waits_of}
 use Rattle.board_rules.specs.Conduct.{Conducted, AreWaiting}
 use Rattle.board_rules.specs.Cuts.{has_cut}
 pub use Rattle.board_rules.specs.Within.{changes_left}
@@ -194,10 +194,12 @@ number_of first f h = 3 * (words_left f + pauses (left_of first h)) + changes_le
 abbrev pub board_number : {N : ℕ} → Opening → Board N → Journal → ℕ
 board_number first board h = number_of first board.flags h
 
--- A turn adds what was done in it, and its answer; where that is Did, something moves, or the board's number falls.
+-- A turn adds what was done in it, which ends no other turn, and its answer; where that is Did, something moves, or the board's number
+-- falls.
 pub record GoingTurned {N : ℕ} (first : Opening) (t : Turn) (was is : Board N) (h next : Journal) : Type 0 where
   pub steps : List Step
   pub are : next ≡ turned t ∷ (steps ++ h)
+  pub inner : list_any ends_turn steps ≡ false
   pub moves : t ≡ Did → (list_any moving (this_turn (steps ++ h)) ≡ true) ⊎ (number_of first is.flags next < number_of first was.flags h)
 
 -- a board that has closed its run, and has nothing left to do

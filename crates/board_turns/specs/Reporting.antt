@@ -18,6 +18,7 @@ use Rattle.board_rules.specs.Turns.{
   publishing,
   passing,
   moving,
+  ends_turn,
   found_none,
   lacks_reply_room,
   loads,
@@ -78,10 +79,11 @@ pub record IsTold {N : ℕ} (first : Opening) (board : Board N) (r : Report) (h 
   pub state : r.state ≡ shown_as (motion_of first h)
   pub valid : IsReport r
 
--- a journal goes on
+-- a journal goes on in one turn
 pub record IsBehind (h next : Journal) : Type 0 where
   pub steps : List Step
   pub are : next ≡ steps ++ h
+  pub inner : list_any ends_turn steps ≡ false
 
 -- A report was tried to be told in this turn: it was, or there was no room for it, and it is still owed. It was looked
 -- how many ticks are done before. The word that waits for the report may be obeyed.

@@ -28,7 +28,7 @@ use Rattle.board_rules.specs.Steps.Step.{at_port, began, did, became, cut}
 use Rattle.board_rules.specs.Cuts.{has_cut}
 use Rattle.run_rules.specs.Outcomes.{jogged_behind, begins_with_dollar}
 use Rattle.run_rules.specs.Finding.{Found}
-use Rattle.board_rules.specs.Turns.{this_turn, publishing, passing, moving, found_none, loads, has_blocks, awaits_motion, has_jog_to_start, is_full, is_going, begins_in, is_due, is_held_up, is_halting, machine_in, is_limited, is_locked as locked_still, is_counted, changes_taken, flags_taken, owes_report, tries_of, missed_of, waits_of}
+use Rattle.board_rules.specs.Turns.{this_turn, publishing, passing, moving, ends_turn, found_none, loads, has_blocks, awaits_motion, has_jog_to_start, is_full, is_going, begins_in, is_due, is_held_up, is_halting, machine_in, is_limited, is_locked as locked_still, is_counted, changes_taken, flags_taken, owes_report, tries_of, missed_of, waits_of}
 use Rattle.board_rules.specs.Conduct.{MayTurn, IsNextTask, IsDrained, HasSlowedDown, IsStopped, AreWaiting, ticks_given}
 use Rattle.units.specs.Truths.{one_if}
 pub use Rattle.board_rules.specs.Within.{AreWorked, MayFinish, PassesNothing, DidAlone, MayHaveLooked, Tried, HasTried}
@@ -319,6 +319,7 @@ pub record BoardWorked {N : ℕ} (first : Opening) (t : Turn) (was : Flags) (boa
   pub beat : (on : On) → t ≡ Wait on → board.beat ≡ Motion
   pub steps : List Step
   pub are : next ≡ steps ++ h
+  pub inner : list_any ends_turn steps ≡ false
   pub may : MayTurn first t next
   pub moves : t ≡ Did → (list_any moving (this_turn next) ≡ true) ⊎ (number_of first board.flags next < number_of first was h)
 

@@ -61,7 +61,7 @@ still_goes {N} stands t state was is es h w f same unready = (
     unready = unready;
   },
   w.between,
-  record { steps = w.turned.steps; are = inl (ap (λ (j : Journal). goes es j) w.turned.are); moves = moves_any t state was is es h w.next w.turned },
+  record { steps = w.turned.steps; are = inl (ap (λ (j : Journal). goes es j) w.turned.are); inner = w.turned.inner; moves = moves_any t state was is es h w.next w.turned },
 )
 
 -- a reset is worked behind it
@@ -72,5 +72,5 @@ reset_begins stands t state was is board es h w f few = (
   w.port,
   f,
   refl,
-  record { steps = w.turned.steps; are = inr (ap (λ (j : Journal). resets es j []) w.turned.are); moves = λ did. inr (λ s. omega (arith, few)) },
+  record { steps = w.turned.steps; are = inr (ap (λ (j : Journal). resets es j []) w.turned.are); inner = w.turned.inner; moves = λ did. inr (λ s. omega (arith, few)) },
 )

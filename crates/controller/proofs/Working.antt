@@ -53,7 +53,7 @@ still_works {N} stands t state was is old new es h w n f had same unworked = (
     unworked = unworked;
   },
   n.1.between,
-  record { steps = n.2.steps; are = inl (ap (λ (j : Work). resets es h j) n.2.are); moves = λ did. by_kind (n.2.moves did) },
+  record { steps = n.2.steps; are = inl (ap (λ (j : Work). resets es h j) n.2.are); inner = n.2.inner; moves = λ did. by_kind (n.2.moves did) },
 )
   where
     now : work_number is.reset ≡ number_of_work new
@@ -86,7 +86,7 @@ epoch_begins {N} stands t state was is old new es h w n had f worked = (
   n.1.port,
   f,
   refl,
-  record { steps = n.2.steps; are = inr (ap (λ (j : Work). goes (record { journal = h; work = j } ∷ es) []) n.2.are); moves = λ did. inr less },
+  record { steps = n.2.steps; are = inr (ap (λ (j : Work). goes (record { journal = h; work = j } ∷ es) []) n.2.are); inner = n.2.inner; moves = λ did. inr less },
 )
   where
     less : (s : State) → number_in s is (goes (record { journal = h; work = n.0 } ∷ es) []) < work_number was.reset

@@ -1,5 +1,5 @@
 -- What the fields of a controller say of what it has done, epoch by epoch.
-use Rattle.std.specs.Prelude.{◌≡◌, ◌⊎◌, ℕ, ◌+◌, ◌-◌, ◌<◌, true, Some, None, [], ◌∷◌, ◌++◌, List}
+use Rattle.std.specs.Prelude.{◌≡◌, ◌⊎◌, ℕ, ◌+◌, ◌-◌, ◌<◌, true, false, Some, None, [], ◌∷◌, ◌++◌, List}
 use Rattle.std.specs.List.{list_any}
 use Rattle.std.specs.declared.option.Option.{Option}
 use Rattle.outside.specs.declared.Turn.{Turn}
@@ -10,7 +10,7 @@ use Rattle.step_line.specs.Logs.{NewestFirst}
 use Rattle.board_rules.specs.Conduct.{IsFinished}
 use Rattle.board_rules.specs.Steps.{Step, Journal}
 use Rattle.board_rules.specs.Steps.Step.{turned}
-use Rattle.board_rules.specs.Turns.{this_turn, moving}
+use Rattle.board_rules.specs.Turns.{this_turn, moving, ends_turn}
 use Rattle.board_epochs.specs.Epochs.{Closed, Epochs, AreEpochs, closed_log, last_line, log_behind, opening_behind}
 use Rattle.board_epochs.specs.Epochs.Epochs.{goes, resets}
 use Rattle.board_epochs.specs.Resets.{MayReset}
@@ -104,9 +104,10 @@ abbrev pub number_in : {N : ℕ} → State → Controller N → Epochs → ℕ
 number_in {N} state c (goes es h) = going_number + board_number (opening_behind (N - 1) state es) c.board h
 number_in state c (resets es h w) = work_number c.reset
 
--- A turn adds what was done in it, and its answer. Behind that a reset is worked as soon as it may be, and the next epoch begins as soon as
+-- A turn adds what was done in it, which ends no other turn, and its answer. Behind that a reset is worked as soon as it may be, and the next epoch begins as soon as
 -- it is worked. Where the answer is Did, something moves, or the board's number falls.
 pub record BoardTurned {N : ℕ} (t : Turn) (was is : Controller N) (e next : Epochs) : Type 0 where
   pub steps : List Step
   pub are : (next ≡ added t steps e) ⊎ (next ≡ parted (added t steps e))
+  pub inner : list_any ends_turn steps ≡ false
   pub moves : t ≡ Did → (list_any moving (this_turn (steps ++ latest e)) ≡ true) ⊎ ((state : State) → number_in state is next < number_in state was e)

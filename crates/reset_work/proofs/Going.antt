@@ -70,7 +70,7 @@ pub turned_by : (is : BoardLog → Type 0) (t : Turn) (was new : ResetWork) (blo
 turned_by is t was new blocks state es h w e port epochs working moves ends = (
   turned t ∷ at_port e ∷ w,
   record { port = port; epochs = epochs; working = working; between = refl },
-  record { steps = at_port e ∷ []; are = refl; moves = moves; ends = λ worked. ends (is_last new.stage (sym working.stage_is ∙ worked.done)) },
+  record { steps = at_port e ∷ []; are = refl; inner = refl; moves = moves; ends = λ worked. ends (is_last new.stage (sym working.stage_is ∙ worked.done)) },
 )
 
 -- a turn waits with one step that neither goes out nor goes on, once both words were taken

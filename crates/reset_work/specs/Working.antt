@@ -1,5 +1,5 @@
 -- What the fields of a reset's work say of what was done, and what a turn of it adds.
-use Rattle.std.specs.Prelude.{◌≡◌, ◌⊎◌, ℕ, ◌+◌, ◌-◌, ◌<◌, true, List, [], ◌∷◌, ◌++◌, length}
+use Rattle.std.specs.Prelude.{◌≡◌, ◌⊎◌, ℕ, ◌+◌, ◌-◌, ◌<◌, true, false, List, [], ◌∷◌, ◌++◌, length}
 use Rattle.std.specs.List.{list_any}
 use Rattle.outside.specs.declared.Turn.{Turn}
 use Rattle.outside.specs.declared.Turn.TheVariants.{Did, Wait}
@@ -11,7 +11,7 @@ use Rattle.step_line.specs.Logs.{NewestFirst}
 use Rattle.board_rules.specs.Ports.{BoardLog, taken_in, known_in}
 use Rattle.board_rules.specs.Steps.{Step, Journal, port_log}
 use Rattle.board_rules.specs.Steps.Step.{turned}
-use Rattle.board_rules.specs.Turns.{this_turn, moving}
+use Rattle.board_rules.specs.Turns.{this_turn, moving, ends_turn}
 use Rattle.board_epochs.specs.Bounds.{loaded_mark}
 use Rattle.board_epochs.specs.Epochs.{Closed, AreEpochs, closed_log, last_line, log_behind, log_of, opening_behind}
 use Rattle.board_epochs.specs.Epochs.Epochs.{resets}
@@ -115,11 +115,12 @@ words_left None = 0
 abbrev pub number_of : ResetWork → ℕ
 number_of it = number_at it.stage + words_left it.words
 
--- A turn adds what was done in it, and its answer; where that is Did, something moves, or the work's number falls. Before the last turn
--- it is above what is left of it.
+-- A turn adds what was done in it, which ends no other turn, and its answer; where that is Did, something moves, or the work's number
+-- falls. Before the last turn it is above what is left of it.
 pub record WorkTurned (before : BoardLog) (t : Turn) (was is : ResetWork) (w next : Work) : Type 0 where
   pub steps : List Step
   pub are : next ≡ turned t ∷ (steps ++ w)
+  pub inner : list_any ends_turn steps ≡ false
   pub moves : t ≡ Did → (list_any moving (this_turn (steps ++ w)) ≡ true) ⊎ (number_of is < number_of was)
   pub ends : IsWorked before next → number_left < number_of was
 

@@ -49,12 +49,12 @@ returns-in-Byte-clause-goes_on g c = λ rest first h stands keeps ready may.
 
 pub returns-in-Empty-clause-goes_on : goal.returns-in-Empty-clause-goes_on
 returns-in-Empty-clause-goes_on g c = λ rest first h stands keeps ready may.
-    works_on first (g.P.EpochPort.stands c.without_byte.new.port rest first) c.without_byte.result c.args.self.now.flags _ h (at_port found_empty ∷ h) (at_port found_empty ∷ []) refl (omega arith)
+    works_on first (g.P.EpochPort.stands c.without_byte.new.port rest first) c.without_byte.result c.args.self.now.flags _ h (at_port found_empty ∷ h) (at_port found_empty ∷ []) refl refl (omega arith)
     (c.without_byte.ensures.goes_on rest first (at_port found_empty ∷ h) (c.byte.ensures.empty c.in-Empty.is rest first (port_log h) stands) (polled_empty first c.args.self.now h keeps may) (polled_none first h ready may) refl)
 
 pub returns-in-Closed-clause-goes_on : goal.returns-in-Closed-clause-goes_on
 returns-in-Closed-clause-goes_on g c = λ rest first h stands keeps ready may.
-    works_on first (g.P.EpochPort.stands c.close.new.port rest first) c.close.result c.args.self.now.flags _ h (at_port found_closed ∷ h) (at_port found_closed ∷ []) refl (omega arith)
+    works_on first (g.P.EpochPort.stands c.close.new.port rest first) c.close.result c.args.self.now.flags _ h (at_port found_closed ∷ h) (at_port found_closed ∷ []) refl refl (omega arith)
     (c.close.ensures.goes_on rest first (at_port found_closed ∷ h) (c.byte.ensures.closed c.in-Closed.is rest first (port_log h) stands) (polled_closed first c.args.self.now h keeps may) (polled_end first h ready may) refl)
 
 pub keep-requires : goal.keep-requires

@@ -94,7 +94,7 @@ returns-in-Report-clause-goes_on g c = λ rest first h stands f between piece.
     let tried = subst (λ b. (HasTried first) b h n.0) c.if-published.false n.3 in
     let owing = owing_tried first c.in-Report.word h n.0 m.0 (subst (λ b. (Rounds first) b h) c.requires.beat f.rounds) between asked tried m.2 in
     let old = g.P.EpochPort.stands c.report.new.port rest first in
-    works_on first old c.report.result s.flags c.report.new.self h n.0 tried.steps tried.are (number_tried first s.flags false h n.0 tried)
+    works_on first old c.report.result s.flags c.report.new.self h n.0 tried.steps tried.are tried.inner (number_tried first s.flags false h n.0 tried)
     (works_passed first old c.report.result s.flags c.report.new.self n.0 m.0 m.2.alone.passes (c.report.ensures.goes_on rest first m.0 s.flags (rw m.2.alone.port n.1) m.1 owing))
 
 pub returns : goal.returns
@@ -111,6 +111,6 @@ returns g c =
           let was = c.publish_next-published.new.self.flags in
           let old = g.P.EpochPort.stands c.main.new.port rest first in
           subst (λ x. (WorksOn first) old c.main.result x c.main.new.self h) same
-          (works_on first old c.main.result was c.main.new.self h n.0 tried.steps tried.are (number_tried first was false h n.0 tried) (c.main.ensures.goes_on rest first n.0 n.1 n.2 ready)));
+          (works_on first old c.main.result was c.main.new.self h n.0 tried.steps tried.are tried.inner (number_tried first was false h n.0 tried) (c.main.ensures.goes_on rest first n.0 n.1 n.2 ready)));
       going = c.main.ensures.going;
     }

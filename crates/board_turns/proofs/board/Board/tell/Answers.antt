@@ -85,4 +85,4 @@ returns-clause-goes_on g c = λ rest first h stands keeps ready.
     let beat = ap (λ (b : Board _). b.beat) c.fill.ensures.same ∙ ap (λ (b : Board _). b.beat) c.told.ensures.same ∙ c.requires.beat in
     let none = ap (λ (b : Board _). b.flags) c.fill.ensures.same ∙ ap (λ (b : Board _). b.flags) c.told.ensures.same ∙ c.requires.flags in
     let taken = takes_none c.fill.new.self n.0 none (free_passed first mid n.0 n.2.alone.passes freed) in
-    (n.0, rw (n.2.alone.port, sym said_is) stood, did_filled first _ _ h mid n.0 (at_port (answered r) ∷ []) refl n.1 beat taken n.2 worked (omega (arith, one, quiet)) ready.unpolled few (inl (n.2.alone.passes.moves refl)))
+    (n.0, rw (n.2.alone.port, sym said_is) stood, did_filled first _ _ h mid n.0 (at_port (answered r) ∷ []) refl refl n.1 beat taken n.2 worked (omega (arith, one, quiet)) ready.unpolled few (inl (n.2.alone.passes.moves refl)))
