@@ -96,6 +96,21 @@ abbrev pub goes_out : Step → Bool
 goes_out (at_port stored_stop) = true
 goes_out s = publishing s
 
+-- it is looked for what the other side does: for a mark of the link, a halt, room for the mark of the reset, or how many ticks are done
+abbrev pub looks_out : Step → Bool
+looks_out (at_port (found_mark number bytes)) = true
+looks_out (at_port found_no_halt) = true
+looks_out (at_port (found_halt done)) = true
+looks_out (at_port (published p)) = true
+looks_out (at_port (no_piece_room done)) = true
+looks_out (at_port (loaded done)) = true
+looks_out _ = false
+
+-- in a turn the other side can see one step at most, and it is looked for once at most
+pub record IsOneTurn (w : Work) : Type 0 where
+  pub once : count_by goes_out (this_turn w) ≤ 1
+  pub looks : count_by looks_out (this_turn w) ≤ 1
+
 -- a byte is dropped, a stop is stored, or the mark is published
 abbrev pub goes_on : Step → Bool
 goes_on (at_port (took b)) = true
@@ -136,14 +151,14 @@ NeedsAt o stage w = ⊥
 
 -- A turn waits: nothing went on in it, and both words of flags were taken since the work began, or since the last wait.
 pub record WorkWaits (before : BoardLog) (o : On) (w : Work) : Type 0 where
-  pub once : count_by goes_out (this_turn w) ≤ 1
+  pub one : IsOneTurn w
   pub cause : NeedsAt o (stage_of before w) w
   pub still : list_any goes_on (this_turn w) ≡ false
   pub requests : requests_dropped w ≡ true
   pub changes : changes_dropped w ≡ true
 
 abbrev pub MayEndWork : BoardLog → Turn → Work → Type 0
-MayEndWork before Did w = count_by goes_out (this_turn w) ≤ 1
+MayEndWork before Did w = IsOneTurn w
 MayEndWork before (Wait o) w = WorkWaits before o w
 MayEndWork before Done w = ⊥
 

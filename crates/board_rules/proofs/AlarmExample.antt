@@ -38,7 +38,7 @@ abbrev h8 : State → State → PlannedMove → Segment → Journal
 h8 first last m s = line_taken (71 ∷ 48 ∷ 88 ∷ 57 ∷ []) (j7 last m s)
 
 a8 : (first last : State) (m : PlannedMove) (s : Segment) → IsBeyondBehind first last m s → Conducted (first_opening most_blocks first) (h8 first last m s)
-a8 first last m s p = may_take_line (first_opening most_blocks first) (71 ∷ 48 ∷ 88 ∷ 57 ∷ []) (j7 last m s) (c7 first last m s p.one) refl (record { calm = refl; all_done = refl; partial = refl; unclosed = refl }) refl (under _ _ refl)
+a8 first last m s p = may_take_line (first_opening most_blocks first) (71 ∷ 48 ∷ 88 ∷ 57 ∷ []) (j7 last m s) (c7 first last m s p.one) refl (record { once = refl; calm = refl; all_done = refl; partial = refl; unclosed = refl }) refl (under _ _ refl)
 
 abbrev h9 : State → State → PlannedMove → Segment → Journal
 h9 first last m s = words_taken no_changes nothing motions.Idle (h8 first last m s)
@@ -62,13 +62,13 @@ abbrev h12 : State → State → PlannedMove → Segment → Journal
 h12 first last m s = turned Did ∷ at_port (answered (Alarm 2)) ∷ halted ∷ h11 first last m s
 
 a12 : (first last : State) (m : PlannedMove) (s : Segment) → IsBeyondBehind first last m s → Conducted (first_opening most_blocks first) (h12 first last m s)
-a12 first last m s p = (ends _ _ (λ w. elsewhere _ w.stands refl) refl refl refl refl refl refl, (record { next = refl; plain = refl; unowed = refl; empty = λ e. absurd cc; unlocked = refl }, (record { next = refl; alarm = refl; still = refl; empty = refl; done = refl }, a11 first last m s p)))
+a12 first last m s p = (ends _ _ (λ w. elsewhere _ w.stands refl) refl refl refl refl refl refl, (record { once = refl; next = refl; plain = refl; unowed = refl; empty = λ e. absurd cc; unlocked = refl }, (record { next = refl; alarm = refl; still = refl; empty = refl; done = refl }, a11 first last m s p)))
 
 abbrev h13 : State → State → PlannedMove → Segment → Journal
 h13 first last m s = turned Did ∷ closing ∷ at_port (answered (Message ResetToContinue)) ∷ h12 first last m s
 
 a13 : (first last : State) (m : PlannedMove) (s : Segment) → IsBeyondBehind first last m s → Conducted (first_opening most_blocks first) (h13 first last m s)
-a13 first last m s p = (ends _ _ (λ w. elsewhere _ w.stands refl) refl refl refl refl refl refl, (record { free = refl; going = refl; begun = refl; closed = inr refl }, (record { next = refl; plain = refl; unowed = refl; empty = λ e. absurd cc; unlocked = refl }, a12 first last m s p)))
+a13 first last m s p = (ends _ _ (λ w. elsewhere _ w.stands refl) refl refl refl refl refl refl, (record { free = refl; going = refl; begun = refl; closed = inr refl }, (record { once = refl; next = refl; plain = refl; unowed = refl; empty = λ e. absurd cc; unlocked = refl }, a12 first last m s p)))
 
 abbrev h14 : State → State → PlannedMove → Segment → Journal
 h14 first last m s = turned Did ∷ at_port (published pieces.End) ∷ made_end ∷ h13 first last m s
@@ -80,7 +80,7 @@ abbrev h15 : State → State → PlannedMove → Segment → Journal
 h15 first last m s = turned Did ∷ at_port (answered Bye) ∷ h14 first last m s
 
 a15 : (first last : State) (m : PlannedMove) (s : Segment) → IsBeyondBehind first last m s → Conducted (first_opening most_blocks first) (h15 first last m s)
-a15 first last m s p = (ends _ _ (λ w. elsewhere _ w.stands refl) refl refl refl refl refl refl, (record { next = refl; plain = refl; unowed = refl; empty = λ e. refl; unlocked = refl }, a14 first last m s p))
+a15 first last m s p = (ends _ _ (λ w. elsewhere _ w.stands refl) refl refl refl refl refl refl, (record { once = refl; next = refl; plain = refl; unowed = refl; empty = λ e. refl; unlocked = refl }, a14 first last m s p))
 
 abbrev pub h16 : State → State → PlannedMove → Segment → Journal
 h16 first last m s = turned Done ∷ h15 first last m s

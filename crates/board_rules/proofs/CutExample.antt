@@ -96,7 +96,7 @@ abbrev k9 : State → State → PlannedMove → PlannedMove → Segment → Jour
 k9 next last m n s = line_taken (36 ∷ 74 ∷ 61 ∷ 88 ∷ 46 ∷ 48 ∷ 48 ∷ 56 ∷ 70 ∷ 57 ∷ []) (k8 next last m n s)
 
 d9 : (first next last : State) (m n : PlannedMove) (s : Segment) → AreTwoJogs first next last m n s → Conducted (first_opening most_blocks first) (k9 next last m n s)
-d9 first next last m n s p = may_take_line (first_opening most_blocks first) (36 ∷ 74 ∷ 61 ∷ 88 ∷ 46 ∷ 48 ∷ 48 ∷ 56 ∷ 70 ∷ 57 ∷ []) (k8 next last m n s) (d8 first next last m n s p) refl (record { calm = refl; all_done = refl; partial = refl; unclosed = refl }) refl (under _ _ refl)
+d9 first next last m n s p = may_take_line (first_opening most_blocks first) (36 ∷ 74 ∷ 61 ∷ 88 ∷ 46 ∷ 48 ∷ 48 ∷ 56 ∷ 70 ∷ 57 ∷ []) (k8 next last m n s) (d8 first next last m n s p) refl (record { once = refl; calm = refl; all_done = refl; partial = refl; unclosed = refl }) refl (under _ _ refl)
 
 abbrev k10 : State → State → PlannedMove → PlannedMove → Segment → Journal
 k10 next last m n s = words_taken no_changes nothing motions.Jog (k9 next last m n s)
@@ -156,7 +156,7 @@ abbrev k19 : State → State → PlannedMove → PlannedMove → Segment → Jou
 k19 next last m n s = turned Did ∷ at_port (answered Ok) ∷ k18 next last m n s
 
 d19 : (first next last : State) (m n : PlannedMove) (s : Segment) → AreTwoJogs first next last m n s → Conducted (first_opening most_blocks first) (k19 next last m n s)
-d19 first next last m n s p = (ends _ _ (λ w. elsewhere _ w.stands refl) refl refl refl refl refl refl, (record { next = refl; plain = refl; unowed = refl; empty = λ e. absurd cc; unlocked = refl }, d18 first next last m n s p))
+d19 first next last m n s p = (ends _ _ (λ w. elsewhere _ w.stands refl) refl refl refl refl refl refl, (record { once = refl; next = refl; plain = refl; unowed = refl; empty = λ e. absurd cc; unlocked = refl }, d18 first next last m n s p))
 
 abbrev k20 : State → State → PlannedMove → PlannedMove → Segment → Journal
 k20 next last m n s = at_port (loaded (all_ticks s + 1)) ∷ k19 next last m n s

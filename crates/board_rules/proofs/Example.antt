@@ -132,13 +132,13 @@ abbrev j1 : Settings → Journal
 j1 s = turned Did ∷ at_port (answered Banner) ∷ j0 s
 
 c1 : (s : Settings) → Conducted (first_opening most_blocks (first_state s)) (j1 s)
-c1 s = (ends _ _ (λ w. untrue w.blocks) refl refl refl refl refl refl, (record { next = refl; plain = refl; unowed = refl; empty = λ e. absurd cc; unlocked = refl }, c0 s))
+c1 s = (ends _ _ (λ w. untrue w.blocks) refl refl refl refl refl refl, (record { once = refl; next = refl; plain = refl; unowed = refl; empty = λ e. absurd cc; unlocked = refl }, c0 s))
 
 abbrev j2 : Settings → Journal
 j2 s = line_taken (77 ∷ 56 ∷ []) (j1 s)
 
 c2 : (s : Settings) → Conducted (first_opening most_blocks (first_state s)) (j2 s)
-c2 s = may_take_line (first_opening most_blocks (first_state s)) (77 ∷ 56 ∷ []) (j1 s) (c1 s) refl (record { calm = refl; all_done = refl; partial = refl; unclosed = refl }) refl (under _ _ refl)
+c2 s = may_take_line (first_opening most_blocks (first_state s)) (77 ∷ 56 ∷ []) (j1 s) (c1 s) refl (record { once = refl; calm = refl; all_done = refl; partial = refl; unclosed = refl }) refl (under _ _ refl)
 
 abbrev j3 : Settings → Journal
 j3 s = words_taken no_changes hold motions.Held (j2 s)
@@ -216,13 +216,13 @@ abbrev j15 : Settings → Journal
 j15 s = turned Did ∷ at_port (answered Ok) ∷ j14 s
 
 c15 : (s : Settings) → Conducted (first_opening most_blocks (first_state s)) (j15 s)
-c15 s = (ends _ _ (λ w. untrue w.blocks) refl refl refl refl refl refl, (record { next = refl; plain = refl; unowed = refl; empty = λ e. absurd cc; unlocked = refl }, c14 s))
+c15 s = (ends _ _ (λ w. untrue w.blocks) refl refl refl refl refl refl, (record { once = refl; next = refl; plain = refl; unowed = refl; empty = λ e. absurd cc; unlocked = refl }, c14 s))
 
 abbrev j16 : Settings → Journal
 j16 s = at_port found_empty ∷ j15 s
 
 c16 : (s : Settings) → Conducted (first_opening most_blocks (first_state s)) (j16 s)
-c16 s = (record { calm = refl; all_done = refl; partial = refl; unclosed = refl }, c15 s)
+c16 s = (record { once = refl; calm = refl; all_done = refl; partial = refl; unclosed = refl }, c15 s)
 
 abbrev j17 : Settings → Journal
 j17 s = turned (Wait on.Byte) ∷ j16 s
@@ -240,7 +240,7 @@ abbrev j19 : Settings → Journal
 j19 s = closing ∷ at_port found_closed ∷ j18 s
 
 c19 : (s : Settings) → Conducted (first_opening most_blocks (first_state s)) (j19 s)
-c19 s = (record { free = refl; going = refl; begun = refl; closed = inl refl }, (record { calm = refl; all_done = refl; partial = refl; unclosed = refl }, c18 s))
+c19 s = (record { free = refl; going = refl; begun = refl; closed = inl refl }, (record { once = refl; calm = refl; all_done = refl; partial = refl; unclosed = refl }, c18 s))
 
 abbrev j20 : Settings → Journal
 j20 s = turned Did ∷ at_port (published pieces.End) ∷ made_end ∷ j19 s
@@ -252,7 +252,7 @@ abbrev j21 : Settings → Journal
 j21 s = turned Did ∷ at_port (answered Bye) ∷ j20 s
 
 c21 : (s : Settings) → Conducted (first_opening most_blocks (first_state s)) (j21 s)
-c21 s = (ends _ _ (λ w. untrue w.blocks) refl refl refl refl refl refl, (record { next = refl; plain = refl; unowed = refl; empty = λ e. refl; unlocked = refl }, c20 s))
+c21 s = (ends _ _ (λ w. untrue w.blocks) refl refl refl refl refl refl, (record { once = refl; next = refl; plain = refl; unowed = refl; empty = λ e. refl; unlocked = refl }, c20 s))
 
 abbrev j22 : Settings → Journal
 j22 s = turned Done ∷ j21 s

@@ -109,13 +109,13 @@ abbrev j1 : State → PlannedMove → Segment → Journal
 j1 last m s = turned Did ∷ at_port (answered Banner) ∷ j0 last m s
 
 c1 : (first last : State) (m : PlannedMove) (s : Segment) → IsOneJog first last m s → Conducted (first_opening most_blocks first) (j1 last m s)
-c1 first last m s p = (ends _ _ (λ w. untrue w.blocks) refl refl refl refl refl refl, (record { next = refl; plain = refl; unowed = refl; empty = λ e. absurd cc; unlocked = refl }, c0 first last m s p))
+c1 first last m s p = (ends _ _ (λ w. untrue w.blocks) refl refl refl refl refl refl, (record { once = refl; next = refl; plain = refl; unowed = refl; empty = λ e. absurd cc; unlocked = refl }, c0 first last m s p))
 
 abbrev j2 : State → PlannedMove → Segment → Journal
 j2 last m s = line_taken (36 ∷ 74 ∷ 61 ∷ 88 ∷ 46 ∷ 48 ∷ 48 ∷ 52 ∷ 70 ∷ 57 ∷ []) (j1 last m s)
 
 c2 : (first last : State) (m : PlannedMove) (s : Segment) → IsOneJog first last m s → Conducted (first_opening most_blocks first) (j2 last m s)
-c2 first last m s p = may_take_line (first_opening most_blocks first) (36 ∷ 74 ∷ 61 ∷ 88 ∷ 46 ∷ 48 ∷ 48 ∷ 52 ∷ 70 ∷ 57 ∷ []) (j1 last m s) (c1 first last m s p) refl (record { calm = refl; all_done = refl; partial = refl; unclosed = refl }) refl (under _ _ refl)
+c2 first last m s p = may_take_line (first_opening most_blocks first) (36 ∷ 74 ∷ 61 ∷ 88 ∷ 46 ∷ 48 ∷ 48 ∷ 52 ∷ 70 ∷ 57 ∷ []) (j1 last m s) (c1 first last m s p) refl (record { once = refl; calm = refl; all_done = refl; partial = refl; unclosed = refl }) refl (under _ _ refl)
 
 abbrev j3 : State → PlannedMove → Segment → Journal
 j3 last m s = words_taken no_changes nothing motions.Idle (j2 last m s)
@@ -145,7 +145,7 @@ abbrev pub j7 : State → PlannedMove → Segment → Journal
 j7 last m s = turned Did ∷ at_port (answered Ok) ∷ j6 last m s
 
 pub c7 : (first last : State) (m : PlannedMove) (s : Segment) → IsOneJog first last m s → Conducted (first_opening most_blocks first) (j7 last m s)
-c7 first last m s p = (ends _ _ (λ w. elsewhere _ w.stands refl) refl refl refl refl refl refl, (record { next = refl; plain = refl; unowed = refl; empty = λ e. absurd cc; unlocked = refl }, c6 first last m s p))
+c7 first last m s p = (ends _ _ (λ w. elsewhere _ w.stands refl) refl refl refl refl refl refl, (record { once = refl; next = refl; plain = refl; unowed = refl; empty = λ e. absurd cc; unlocked = refl }, c6 first last m s p))
 
 abbrev j8 : State → PlannedMove → Segment → Journal
 j8 last m s = turned Did ∷ at_port (published (pieces.Segment s)) ∷ did (Take Go) (pieces.Segment s ∷ []) ∷ j7 last m s
@@ -157,7 +157,7 @@ abbrev j9 : State → PlannedMove → Segment → Journal
 j9 last m s = at_port found_empty ∷ j8 last m s
 
 c9 : (first last : State) (m : PlannedMove) (s : Segment) → IsOneJog first last m s → Conducted (first_opening most_blocks first) (j9 last m s)
-c9 first last m s p = (record { calm = refl; all_done = refl; partial = refl; unclosed = refl }, c8 first last m s p)
+c9 first last m s p = (record { once = refl; calm = refl; all_done = refl; partial = refl; unclosed = refl }, c8 first last m s p)
 
 abbrev j10 : State → PlannedMove → Segment → Journal
 j10 last m s = became on_drained motions.Idle ∷ at_port (loaded (ticks_together (pieces.Segment s ∷ []))) ∷ j9 last m s
@@ -181,7 +181,7 @@ abbrev j13 : State → PlannedMove → Segment → Journal
 j13 last m s = closing ∷ at_port found_closed ∷ j12 last m s
 
 c13 : (first last : State) (m : PlannedMove) (s : Segment) → IsOneJog first last m s → Conducted (first_opening most_blocks first) (j13 last m s)
-c13 first last m s p = (record { free = refl; going = refl; begun = refl; closed = inl refl }, (record { calm = refl; all_done = refl; partial = refl; unclosed = refl }, c12 first last m s p))
+c13 first last m s p = (record { free = refl; going = refl; begun = refl; closed = inl refl }, (record { once = refl; calm = refl; all_done = refl; partial = refl; unclosed = refl }, c12 first last m s p))
 
 abbrev j14 : State → PlannedMove → Segment → Journal
 j14 last m s = turned Did ∷ at_port (published pieces.End) ∷ made_end ∷ j13 last m s
@@ -193,7 +193,7 @@ abbrev j15 : State → PlannedMove → Segment → Journal
 j15 last m s = turned Did ∷ at_port (answered Bye) ∷ j14 last m s
 
 c15 : (first last : State) (m : PlannedMove) (s : Segment) → IsOneJog first last m s → Conducted (first_opening most_blocks first) (j15 last m s)
-c15 first last m s p = (ends _ _ (λ w. absurd (no_blocks m s p.rests w.blocks)) refl refl refl refl refl refl, (record { next = refl; plain = refl; unowed = refl; empty = λ e. refl; unlocked = refl }, c14 first last m s p))
+c15 first last m s p = (ends _ _ (λ w. absurd (no_blocks m s p.rests w.blocks)) refl refl refl refl refl refl, (record { once = refl; next = refl; plain = refl; unowed = refl; empty = λ e. refl; unlocked = refl }, c14 first last m s p))
 
 abbrev j16 : State → PlannedMove → Segment → Journal
 j16 last m s = turned Done ∷ j15 last m s

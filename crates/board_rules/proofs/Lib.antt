@@ -62,3 +62,4 @@ pub mod Speeds
 pub mod Uncut
 pub mod CutMarks
 pub mod Tries
+pub mod Polling

@@ -65,13 +65,13 @@ abbrev j1 : State → PlannedMove → Segment → Journal
 j1 last m s = turned Did ∷ at_port (answered Banner) ∷ j0 last m s
 
 c1 : (first last : State) (m : PlannedMove) (s : Segment) → IsOneSegment first last m s → Conducted (first_opening most_blocks first) (j1 last m s)
-c1 first last m s p = (ends _ _ (λ w. untrue w.blocks) refl refl refl refl refl refl, (record { next = refl; plain = refl; unowed = refl; empty = λ e. absurd cc; unlocked = refl }, c0 first last m s p))
+c1 first last m s p = (ends _ _ (λ w. untrue w.blocks) refl refl refl refl refl refl, (record { once = refl; next = refl; plain = refl; unowed = refl; empty = λ e. absurd cc; unlocked = refl }, c0 first last m s p))
 
 abbrev j2 : State → PlannedMove → Segment → Journal
 j2 last m s = line_taken (71 ∷ 48 ∷ 88 ∷ 46 ∷ 48 ∷ 48 ∷ 52 ∷ []) (j1 last m s)
 
 c2 : (first last : State) (m : PlannedMove) (s : Segment) → IsOneSegment first last m s → Conducted (first_opening most_blocks first) (j2 last m s)
-c2 first last m s p = may_take_line (first_opening most_blocks first) (71 ∷ 48 ∷ 88 ∷ 46 ∷ 48 ∷ 48 ∷ 52 ∷ []) (j1 last m s) (c1 first last m s p) refl (record { calm = refl; all_done = refl; partial = refl; unclosed = refl }) refl (under _ _ refl)
+c2 first last m s p = may_take_line (first_opening most_blocks first) (71 ∷ 48 ∷ 88 ∷ 46 ∷ 48 ∷ 48 ∷ 52 ∷ []) (j1 last m s) (c1 first last m s p) refl (record { once = refl; calm = refl; all_done = refl; partial = refl; unclosed = refl }) refl (under _ _ refl)
 
 abbrev j3 : State → PlannedMove → Segment → Journal
 j3 last m s = words_taken no_changes nothing motions.Idle (j2 last m s)
@@ -101,13 +101,13 @@ abbrev pub j7 : State → PlannedMove → Segment → Journal
 j7 last m s = turned Did ∷ at_port (answered Ok) ∷ j6 last m s
 
 pub c7 : (first last : State) (m : PlannedMove) (s : Segment) → IsOneSegment first last m s → Conducted (first_opening most_blocks first) (j7 last m s)
-c7 first last m s p = (ends _ _ (λ w. refl) refl refl refl refl refl refl, (record { next = refl; plain = refl; unowed = refl; empty = λ e. absurd cc; unlocked = refl }, c6 first last m s p))
+c7 first last m s p = (ends _ _ (λ w. refl) refl refl refl refl refl refl, (record { once = refl; next = refl; plain = refl; unowed = refl; empty = λ e. absurd cc; unlocked = refl }, c6 first last m s p))
 
 abbrev j8 : State → PlannedMove → Segment → Journal
 j8 last m s = became (on_start false) motions.Run ∷ at_port found_empty ∷ j7 last m s
 
 c8 : (first last : State) (m : PlannedMove) (s : Segment) → IsOneSegment first last m s → Conducted (first_opening most_blocks first) (j8 last m s)
-c8 first last m s p = ((refl, record { goes = refl; blocks = refl; called = refl; jogs = refl }), (record { calm = refl; all_done = refl; partial = refl; unclosed = refl }, c7 first last m s p))
+c8 first last m s p = ((refl, record { goes = refl; blocks = refl; called = refl; jogs = refl }), (record { once = refl; calm = refl; all_done = refl; partial = refl; unclosed = refl }, c7 first last m s p))
 
 abbrev j9 : State → PlannedMove → Segment → Journal
 j9 last m s = turned (Wait on.Byte) ∷ j8 last m s
@@ -131,7 +131,7 @@ abbrev j12 : State → PlannedMove → Segment → Journal
 j12 last m s = at_port found_empty ∷ j11 last m s
 
 c12 : (first last : State) (m : PlannedMove) (s : Segment) → IsOneSegment first last m s → Conducted (first_opening most_blocks first) (j12 last m s)
-c12 first last m s p = (record { calm = refl; all_done = refl; partial = refl; unclosed = refl }, c11 first last m s p)
+c12 first last m s p = (record { once = refl; calm = refl; all_done = refl; partial = refl; unclosed = refl }, c11 first last m s p)
 
 abbrev j13 : State → PlannedMove → Segment → Journal
 j13 last m s = became on_drained motions.Idle ∷ at_port (loaded (ticks_together (pieces.Segment s ∷ []))) ∷ j12 last m s
@@ -155,7 +155,7 @@ abbrev j16 : State → PlannedMove → Segment → Journal
 j16 last m s = closing ∷ at_port found_closed ∷ j15 last m s
 
 c16 : (first last : State) (m : PlannedMove) (s : Segment) → IsOneSegment first last m s → Conducted (first_opening most_blocks first) (j16 last m s)
-c16 first last m s p = (record { free = refl; going = refl; begun = refl; closed = inl refl }, (record { calm = refl; all_done = refl; partial = refl; unclosed = refl }, c15 first last m s p))
+c16 first last m s p = (record { free = refl; going = refl; begun = refl; closed = inl refl }, (record { once = refl; calm = refl; all_done = refl; partial = refl; unclosed = refl }, c15 first last m s p))
 
 abbrev j17 : State → PlannedMove → Segment → Journal
 j17 last m s = turned Did ∷ at_port (published pieces.End) ∷ made_end ∷ j16 last m s
@@ -167,7 +167,7 @@ abbrev j18 : State → PlannedMove → Segment → Journal
 j18 last m s = turned Did ∷ at_port (answered Bye) ∷ j17 last m s
 
 c18 : (first last : State) (m : PlannedMove) (s : Segment) → IsOneSegment first last m s → Conducted (first_opening most_blocks first) (j18 last m s)
-c18 first last m s p = (ends _ _ (λ w. absurd (no_blocks m s p.rests w.blocks)) refl refl refl refl refl refl, (record { next = refl; plain = refl; unowed = refl; empty = λ e. refl; unlocked = refl }, c17 first last m s p))
+c18 first last m s p = (ends _ _ (λ w. absurd (no_blocks m s p.rests w.blocks)) refl refl refl refl refl refl, (record { once = refl; next = refl; plain = refl; unowed = refl; empty = λ e. refl; unlocked = refl }, c17 first last m s p))
 
 abbrev j19 : State → PlannedMove → Segment → Journal
 j19 last m s = turned Done ∷ j18 last m s

@@ -195,5 +195,5 @@ may_take_line first [] h c between polls plain few = may_take_byte first 10 h c 
 may_take_line first (b ∷ bytes) h c between polls plain few =
     let none = neither (nat_eq b 10) (list_any (λ b. nat_eq b 10) bytes) plain in
     let long = length-append (taken_of h) (b ∷ []) in
-    let polls_on : MayPoll first (byte_taken b h) = record { calm = polls.calm; all_done = polls.all_done; partial = none.0; unclosed = polls.unclosed } in
+    let polls_on : MayPoll first (byte_taken b h) = record { once = refl; calm = polls.calm; all_done = polls.all_done; partial = none.0; unclosed = polls.unclosed } in
     may_take_line first bytes (byte_taken b h) (may_take_byte first b h c between (record { polls = polls; few = omega (arith, few) })) refl polls_on none.1 (omega (arith, few, long))

@@ -56,6 +56,8 @@ use Rattle.board_rules.specs.Turns.{
   asks_no_start,
   flags_taken,
   found_nothing,
+  polls_byte,
+  polls_room,
   lacks_reply_room,
   lacks_piece_room,
   finds_free,
@@ -111,9 +113,10 @@ pub record IsDrained (h : Journal) : Type 0 where
 
 -- ---- what is done at the port
 
--- The next byte is polled for: nothing is left to do, no line waits to be begun, the run is not being closed, and no
+-- The next byte is polled for, once in a turn: nothing is left to do, no line waits to be begun, the run is not being closed, and no
 -- line has raised an alarm.
 pub record MayPoll (first : Opening) (h : Journal) : Type 0 where
+  pub once : list_any polls_byte (this_turn h) ≡ false
   pub calm : has_limited h ≡ false
   pub all_done : left_of first h ≡ []
   pub partial : whole_of h ≡ false
@@ -124,9 +127,14 @@ pub record MayTake (first : Opening) (h : Journal) : Type 0 where
   pub polls : MayPoll first h
   pub few : HasTakenFew (port_log h)
 
+-- One reply is tried to be told in a turn.
+abbrev pub AsksForRoom : Journal → Type 0
+AsksForRoom h = list_any polls_room (this_turn h) ≡ false
+
 -- The next reply is answered, while no report is owed; Bye only with an empty hand, so that all that was given is
 -- published by then. A machine that a line unlocks is unlocked before that is told.
 pub record MayTell (first : Opening) (r : Reply) (h : Journal) : Type 0 where
+  pub once : AsksForRoom h
   pub next : IsNextTask first (tell r) h
   pub plain : is_report r ≡ false
   pub unowed : OwesNone h
@@ -335,6 +343,7 @@ IsRoom first (Some (blocks, bytes)) h = (blocks + length (plan_of h).blocks ≡ 
 -- is that after these, on all axes; the cycle is over if nothing is left to run and each is done, and a machine that
 -- has stopped is held, or its jogs are cut. The feed is 0 if each tick that was given is done.
 pub record IsReportAt (first : Opening) (r : Report) (h : Journal) : Type 0 where
+  pub once : AsksForRoom h
   pub owed : owes_report h ≡ true
   pub load : list_any loads (this_turn h) ≡ true
   pub idle : IsDrained h → is_going (motion_of first h) ≡ false
@@ -355,7 +364,7 @@ MayAtPort first found_empty h = MayPoll first h
 MayAtPort first found_closed h = MayPoll first h
 MayAtPort first (answered r) h = MayTell first r h
 MayAtPort first (reported r) h = IsReportAt first r h
-MayAtPort first no_reply_room h = (tells_next (left_of first h) || owes_report h) ≡ true
+MayAtPort first no_reply_room h = ((tells_next (left_of first h) || owes_report h) ≡ true) × AsksForRoom h
 MayAtPort first (took_exec word) h = MayTakeRequests word h
 MayAtPort first (took_ovr word) h = MayTakeChanges h
 MayAtPort first (published p) h = IsInHand p h × IsTimely p h

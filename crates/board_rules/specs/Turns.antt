@@ -82,6 +82,20 @@ found_none (at_port found_empty) = true
 found_none (at_port found_closed) = true
 found_none _ = false
 
+-- a byte is polled for: one is taken, or none was found
+abbrev pub polls_byte : Step → Bool
+polls_byte (at_port (took b)) = true
+polls_byte (at_port found_empty) = true
+polls_byte (at_port found_closed) = true
+polls_byte _ = false
+
+-- a reply is tried to be told: it is, or it was handed back
+abbrev pub polls_room : Step → Bool
+polls_room (at_port (answered r)) = true
+polls_room (at_port (reported r)) = true
+polls_room (at_port no_reply_room) = true
+polls_room _ = false
+
 -- a reply was handed back
 abbrev pub lacks_reply_room : Step → Bool
 lacks_reply_room (at_port no_reply_room) = true

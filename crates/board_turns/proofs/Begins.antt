@@ -21,7 +21,7 @@ use Rattle.board_rules.specs.Steps.Step.{at_port, began, became}
 use Rattle.board_rules.specs.Cuts.{has_cut, is_cancelling}
 use Rattle.board_rules.proofs.Beginning.{caused, of_begun}
 use Rattle.board_rules.specs.Turns.{this_turn, publishing, moving, ends_turn, owes_report, unobeyed_of, flags_taken, found_none, has_blocks, has_jogged, machine_in, tries_of, missed_of, is_due, is_full, awaits_motion, halts_next, is_alarm, is_limited, is_locked, awaits_unlock, begins_in, starts_cycle}
-use Rattle.board_rules.specs.Conduct.{MayBegin, MayStart}
+use Rattle.board_rules.specs.Conduct.{MayBegin, MayStart, AsksForRoom}
 use Rattle.board_turns.specs.declared.board.Board.{Board}
 use Rattle.board_machine.specs.declared.machine.Machine.{Machine}
 use Rattle.units.specs.Truths.{one_if}
@@ -35,6 +35,7 @@ use Rattle.board_turns.specs.Turning.MayHaveTold.{untold, handed_back, was_told}
 use Rattle.board_rules.specs.Within.{AreWorked}
 use Rattle.board_turns.proofs.Starting.{starts_off, starts_to_begin}
 use Rattle.board_turns.proofs.Standing.{blocks_undrained}
+use Rattle.board_rules.proofs.Polling.{none_told}
 use Rattle.board_rules.proofs.Tries.{IsNoWord, none_ends, worked_behind, publishes_one, publishes_none}
 use Rattle.board_rules.proofs.Uncut.{uncut_else}
 use Rattle.board_rules.proofs.HaltWorks.{HaltsOrNot, line_halts, none_halts_next}
@@ -334,6 +335,7 @@ looked_whole first h next ready line l =
       idle = l.idle;
       none_waits = l.none_waits ready.none_waits;
       unpolled = p.polled ∙ ready.unpolled;
+      untold = none_told (this_turn next) (p.still ∙ ready.quiet.still) (p.replies ∙ ready.quiet.untold);
       unmissed = p.missed ∙ ready.unmissed;
       tries = (let few = few_where_whole (tries_of first h) (whole_of h) line.whole ready.tries in let t = p.tries in omega (arith, few, t));
     }
@@ -365,6 +367,7 @@ judges_started first jog h l blocks = record {
     idle = λ d. absurd (blocks_undrained (starting jog h) blocks d);
     none_waits = λ w. starts_off jog w.stands;
     unpolled = l.unpolled;
+    untold = l.untold;
     unmissed = l.unmissed;
     tries = l.tries;
   };
@@ -480,6 +483,12 @@ pub begun_unowed : (first : Opening) (o : Outcome) (mid line : Journal) → MayJ
 begun_unowed first o mid line may (inl is) = ap owes_report is ∙ may.looked.unowed
 begun_unowed first o mid line may (inr (inl is)) = ap owes_report is ∙ may.looked.unowed
 begun_unowed first o mid line may (inr (inr is)) = ap owes_report is ∙ may.looked.unowed
+
+-- nor was a reply tried to be told
+pub begun_untold : (first : Opening) (o : Outcome) (mid line : Journal) → MayJudge first mid → HasBegun first o mid line → AsksForRoom line
+begun_untold first o mid line may (inl is) = subst AsksForRoom (sym is) may.looked.untold
+begun_untold first o mid line may (inr (inl is)) = subst AsksForRoom (sym is) may.looked.untold
+begun_untold first o mid line may (inr (inr is)) = subst AsksForRoom (sym is) may.looked.untold
 
 -- a line is begun, its first reply is told where it has room, and moves are added behind it
 pub did_begin_line : {N : ℕ} (first : Opening) (was : Flags) (board : Board N) (h seen mid spoken next : Journal) (o : Outcome) → IsReady first h → IsWholeLine first h → PassesNothing first h seen → DidAlone first seen mid → IsBegun first 1 o mid spoken → Keeps first board next

@@ -15,7 +15,7 @@ use Rattle.step_line.specs.Asking.Asked.{a_move, a_mark, a_rest}
 use Rattle.board_rules.specs.Ports.{BoardLog}
 use Rattle.board_rules.specs.Steps.{Step, Journal, left_of, plan_of, motion_of, whole_of, closed_tells}
 use Rattle.board_rules.specs.Cuts.{has_cut}
-use Rattle.board_rules.specs.Turns.{this_turn, publishing, passing, moving, ends_turn, found_none, unobeyed_of, owes_report, takes_changes, replans, flags_taken, awaits_motion, has_jogged, is_full, begins_in, halts_next, is_halting, is_limited, is_counted, has_blocks, has_segment, is_due, starts_cycle, tries_of, missed_of, waits_of}
+use Rattle.board_rules.specs.Turns.{this_turn, publishing, passing, moving, ends_turn, found_none, lacks_reply_room, unobeyed_of, owes_report, takes_changes, replans, flags_taken, awaits_motion, has_jogged, is_full, begins_in, halts_next, is_halting, is_limited, is_counted, has_blocks, has_segment, is_due, starts_cycle, tries_of, missed_of, waits_of}
 use Rattle.board_rules.specs.Conduct.{Conducted, AreWaiting, IsNextTask}
 use Rattle.units.specs.Truths.{one_if}
 use Rattle.board_turns.specs.declared.board.Board.{Board}
@@ -302,6 +302,7 @@ quiet_between h between free = record {
   worked = none_worked h between (λ e. free.obeyed);
   flags = free.flags;
   unowed = free.unowed;
+  untold = none_between h lacks_reply_room between;
 }
 
 pub may_try_first : (first : Opening) (f : Flags) (h : Journal) → Rounds first Motion h → GoingBetween h → takes_no_word f ≡ true → TakesFlags f h → MayTry first h
@@ -330,6 +331,7 @@ ready_tried first h next r between free tried =
         worked = tried.worked (none_worked h between (λ e. free.obeyed));
         flags = tried.flags ∙ free.flags;
         unowed = tried.owed ∙ free.unowed;
+        untold = tried.replies ∙ none_between h lacks_reply_room between;
       };
       unpolled = tried.polled ∙ none_between h found_none between;
       tried = λ due. tried.waits;
@@ -405,6 +407,7 @@ ready_stopped first h next ready passes stopped =
         worked = passes.worked ready.quiet.worked;
         flags = passes.flags ∙ ready.quiet.flags;
         unowed = passes.owed ∙ ready.quiet.unowed;
+        untold = passes.replies ∙ ready.quiet.untold;
       };
       unpolled = passes.polled ∙ ready.unpolled;
       tried = λ due. absurd (let e = sym due ∙ not_due first next stopped in cc);

@@ -37,6 +37,7 @@ use Rattle.board_turns.proofs.Begins.{still_is}
 use Rattle.board_turns.proofs.Steps.{is_next, begins_by, calm_now, halts_by}
 use Rattle.board_turns.proofs.PortSteps.{not_told}
 use Rattle.board_rules.proofs.Facts.{not_whole, uncounted, unmissed}
+use Rattle.board_rules.proofs.Polling.{none_polled, none_told}
 use Rattle.board_rules.proofs.Tries.{publishes_none, publishes_one, worked_behind, passes_did, passes_end, passes_motion}
 use Rattle.board_turns.proofs.Standing.{full_is_queued, goes_or_stands}
 use Rattle.board_turns.proofs.Starting.{none_left_to_change, starts_off, starts_going, full_is}
@@ -148,8 +149,9 @@ lets_locked first b h k is none = record { calm = calm; begins = λ free whole. 
     by_cause (inr locked) = or_locked (begins_in (motion_of first h)) (is_locked first h) (still_is first h k.unlocked calm locked.1)
 
 -- a byte may be polled for where no line waits to be begun
-pub may_poll : {N : ℕ} (first : Opening) (b : Board N) (h : Journal) → Keeps first b h → LetsLines first h → b.lines.left ≡ [] → b.closing ≡ false → b.input.whole ≡ false → MayPoll first h
-may_poll first b h k goes none open_yet partial = record {
+pub may_poll : {N : ℕ} (first : Opening) (b : Board N) (h : Journal) → Keeps first b h → IsReady first h → LetsLines first h → b.lines.left ≡ [] → b.closing ≡ false → b.input.whole ≡ false → MayPoll first h
+may_poll first b h k ready goes none open_yet partial = record {
+  once = none_polled (this_turn h) ready.quiet.still ready.unpolled;
   calm = goes.calm;
   all_done = none_left first b h k none;
   partial = sym k.input.whole_is ∙ partial;
@@ -212,6 +214,7 @@ quiet_on first h next quiet passes = record {
   worked = passes.worked quiet.worked;
   flags = passes.flags ∙ quiet.flags;
   unowed = passes.owed ∙ quiet.unowed;
+  untold = passes.replies ∙ quiet.untold;
 }
 
 pub may_run_marked : (first : Opening) (h : Journal) (m : AnyMark) (ps : List Piece) → Conducted first h → IsReady first h → IsNextTask first (ask (a_mark m)) h → MayRun first (did (Mark m) ps ∷ h)
@@ -252,7 +255,7 @@ told_later first was board h r k ready next beat no_word =
     let free = free_of h ready.quiet in
     let none : NoneWaits first (at_port no_reply_room ∷ h) = (λ waiting. ready.none_waits (record { stands = waiting.stands; blocks = waiting.blocks })) in
     record {
-      keeps = not_told first board h k (ap tells_next next);
+      keeps = not_told first board h k (ap tells_next next) (none_told (this_turn h) ready.quiet.still ready.quiet.untold);
       rounds = subst (λ b. (Rounds first) b (at_port no_reply_room ∷ h)) (sym beat) (rounds_still first (at_port no_reply_room ∷ h) none few);
       flags = takes_none board (at_port no_reply_room ∷ h) no_word (record { flags = free.flags; obeyed = free.obeyed; unowed = free.unowed });
       still = λ e. no_word_left board.flags no_word;
@@ -317,6 +320,7 @@ polled_none first h ready may = record {
     worked = worked_behind (at_port found_empty) h (at_port found_empty ∷ h) refl (record { no_changes = refl; none_planned = refl }) refl refl ready.quiet.worked;
     flags = ready.quiet.flags;
     unowed = ready.quiet.unowed;
+    untold = ready.quiet.untold;
   };
   found = refl;
   free = may.all_done;
@@ -335,6 +339,7 @@ polled_end first h ready may = record {
     worked = worked_behind (at_port found_closed) h (at_port found_closed ∷ h) refl (record { no_changes = refl; none_planned = refl }) refl refl ready.quiet.worked;
     flags = ready.quiet.flags;
     unowed = ready.quiet.unowed;
+    untold = ready.quiet.untold;
   };
   found = refl;
   free = may.all_done;

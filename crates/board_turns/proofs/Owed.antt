@@ -39,6 +39,7 @@ use Rattle.board_turns.proofs.Steps.{other_flags, halts_by}
 use Rattle.board_turns.proofs.PortSteps.{report_told, report_kept}
 use Rattle.board_rules.proofs.Tries.{counts_none, none_ends, publishes_none, publishes_one}
 use Rattle.board_rules.proofs.Facts.{uncounted_owing}
+use Rattle.board_rules.proofs.Polling.{none_told}
 use Rattle.board_rules.proofs.Greeted.{owed_greeted}
 pub use Rattle.board_turns.proofs.Halting.{behind_word}
 use Rattle.board_turns.proofs.Halting.{waited_before}
@@ -59,6 +60,7 @@ pub record IsFound (first : Opening) (word : Option Exec) (h : Journal) : Type 0
   pub idle : IsDrained h → is_going (motion_of first h) ≡ false
   pub stopped : IsStopped first h → ⊥
   pub unpolled : list_any found_none (this_turn h) ≡ false
+  pub untold : list_any lacks_reply_room (this_turn h) ≡ false
   pub none_waits : NoneWaits first h
   pub adds : NoneFits first h
   pub tries : tries_of first h + one_if (whole_of h) ≤ 1
@@ -77,6 +79,7 @@ found first word h next t o =
       idle = o.idle;
       stopped = o.stopped;
       unpolled = p.polled ∙ t.unpolled;
+      untold = p.replies ∙ t.untold;
       none_waits = λ w. (none_waits_so first) h next p.jogged o.stays t.none_waits (o.waiting w) w;
       adds = none_fits_so first h next o.stays t.adds;
       tries = (let a = p.tries in let b = ap one_if p.whole in let d = t.tries in omega (arith, a, b, d));
@@ -96,6 +99,7 @@ found_room first word bytes h f =
       idle = λ d. f.idle (record { plan = d.plan; hand = d.hand; done = d.done });
       stopped = λ x. f.stopped (record { slowed = record { slows = x.slowed.slows; speed = x.slowed.speed; empty = x.slowed.empty }; done = x.done });
       unpolled = f.unpolled;
+      untold = f.untold;
       none_waits = λ w. f.none_waits (record { stands = w.stands; blocks = w.blocks });
       adds = f.adds;
       tries = f.tries;
@@ -133,6 +137,7 @@ may_tell first c r h k told = record { conducted = k.conducted; next = inl refl;
 
 report_at : {N : ℕ} (first : Opening) (c : Board N) (word : Option Exec) (r : Report) (h : Journal) (k : Keeps first c h) → IsFound first word h → IsTold first c r h → IsReportAt first r h
 report_at first c word r h k f told = record {
+  once = none_told (this_turn h) f.still f.untold;
   owed = f.owed;
   load = f.load;
   idle = f.idle;
@@ -207,7 +212,7 @@ reports first Rest old new rest (Err e) c word buffer r h mid next t o a k told 
     let b = behind_asked first buffer h mid next o a in (
       at_port no_reply_room ∷ next,
       full rest first (port_log next) stood,
-      report_kept first c next k f.owed,
+      report_kept first c next k f.owed (none_told (this_turn next) f.still f.untold),
       reported_kept first word next f,
       record { steps = at_port no_reply_room ∷ b.steps; are = ap (λ (j : Journal). at_port no_reply_room ∷ j) b.are; inner = b.inner },
     )

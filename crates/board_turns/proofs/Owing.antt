@@ -4,7 +4,7 @@ use Rattle.std.specs.declared.option.Option.{Option}
 use Rattle.code_table.specs.declared.flags.Exec.{Exec}
 use Rattle.board_rules.specs.Openings.{Opening}
 use Rattle.board_rules.specs.Steps.{Journal}
-use Rattle.board_rules.specs.Turns.{passing, found_none}
+use Rattle.board_rules.specs.Turns.{passing, found_none, lacks_reply_room}
 use Rattle.board_rules.specs.Conduct.{Conducted}
 use Rattle.board_rules.proofs.Waiting.{adds}
 use Rattle.units.specs.Truths.{one_if}
@@ -40,6 +40,7 @@ owing_tried first word h mid next r between asked tried filled =
       worked = a.worked (tried.worked (none_worked h between (λ e. absurd (let f = sym asked.owed ∙ e in cc))));
       asked = record { flags = a.flags ∙ tried.flags ∙ asked.flags; next = a.words ∙ tried.words ∙ asked.next; owed = a.owed ∙ tried.owed ∙ asked.owed };
       unpolled = a.polled ∙ tried.polled ∙ none_between h found_none between;
+      untold = a.replies ∙ tried.replies ∙ none_between h lacks_reply_room between;
       none_waits = filled.none_waits;
       adds = filled.adds;
       tries = (let t = a.tries in let f = tried.later (uncounted_owing first h asked.owed) in let o = r.owed asked.owed in omega (arith, t, f, o, w));
@@ -53,6 +54,7 @@ owing_now first beat word h c r between asked = record {
   worked = none_worked h between (λ e. absurd (let f = sym asked.owed ∙ e in cc));
   asked = asked;
   unpolled = none_between h found_none between;
+  untold = none_between h lacks_reply_room between;
   none_waits = r.none_waits;
   adds = λ m next. adds first h m c between next;
   tries = r.owed asked.owed;

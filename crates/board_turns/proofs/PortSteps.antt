@@ -16,7 +16,7 @@ use Rattle.board_rules.specs.Ports.PortStep.{found_empty, found_closed, answered
 use Rattle.board_rules.specs.Steps.{Journal, port_log, published_of, before_of, left_of, given_of, hand_of, plan_of, motion_of}
 use Rattle.board_rules.specs.Steps.Step.{at_port}
 use Rattle.board_rules.specs.Turns.{owes_report, tells_next}
-use Rattle.board_rules.specs.Conduct.{IsNextTask, IsTimely, MayPoll, IsReportAt}
+use Rattle.board_rules.specs.Conduct.{IsNextTask, AsksForRoom, IsTimely, MayPoll, IsReportAt}
 use Rattle.board_turns.specs.declared.board.Board.{Board}
 use Rattle.board_machine.specs.declared.machine.Machine.{Machine}
 use Rattle.board_machine.specs.Machines.{Runs}
@@ -119,13 +119,13 @@ one_less c i first h w is = record {
 }
 
 -- a reply is told
-pub told : {N : ℕ} (first : Opening) (c : Board N) (i : Interpreting) (s : State) (greeted : Bool) (r : Reply) (h : Journal) → Keeps first c h → IsNextTask first (tell r) h → is_report r ≡ false → owes_report h ≡ false → (r ≡ Bye → hand_of h ≡ []) → i ≡ record c.lines { left = drop 1 c.lines.left }
+pub told : {N : ℕ} (first : Opening) (c : Board N) (i : Interpreting) (s : State) (greeted : Bool) (r : Reply) (h : Journal) → Keeps first c h → IsNextTask first (tell r) h → AsksForRoom h → is_report r ≡ false → owes_report h ≡ false → (r ≡ Bye → hand_of h ≡ []) → i ≡ record c.lines { left = drop 1 c.lines.left }
     → s ≡ cond (is_answer r) c.lines.state c.answered → greeted ≡ (is_banner r || c.greeted) → Keeps first (record c { lines = i; answered = s; greeted = greeted }) (at_port (answered r) ∷ h)
-told first c i s greeted r h k next plain unowed empty is state greets = record {
+told first c i s greeted r h k next once plain unowed empty is state greets = record {
   placed = k.placed;
   sized = k.sized;
   short = k.short;
-  conducted = (record { next = next; plain = plain; unowed = unowed; empty = empty; unlocked = k.unlocked }, k.conducted);
+  conducted = (record { once = once; next = next; plain = plain; unowed = unowed; empty = empty; unlocked = k.unlocked }, k.conducted);
   machine = k.machine;
   lines = one_less c i first h k.lines is;
   input = k.input;
@@ -148,12 +148,12 @@ told first c i s greeted r h k next plain unowed empty is state greets = record 
 }
 
 -- it is handed back
-pub not_told : {N : ℕ} (first : Opening) (c : Board N) (h : Journal) → Keeps first c h → tells_next (left_of first h) ≡ true → Keeps first c (at_port no_reply_room ∷ h)
-not_told first c h k next = record {
+pub not_told : {N : ℕ} (first : Opening) (c : Board N) (h : Journal) → Keeps first c h → tells_next (left_of first h) ≡ true → AsksForRoom h → Keeps first c (at_port no_reply_room ∷ h)
+not_told first c h k next once = record {
   placed = k.placed;
   sized = k.sized;
   short = k.short;
-  conducted = (ap (λ b. b || owes_report h) next, k.conducted);
+  conducted = ((ap (λ b. b || owes_report h) next, once), k.conducted);
   machine = k.machine;
   lines = k.lines;
   input = k.input;
@@ -208,12 +208,12 @@ or_true true b e = refl
 or_true false b e = e
 
 -- it is handed back
-pub report_kept : {N : ℕ} (first : Opening) (c : Board N) (h : Journal) → Keeps first c h → owes_report h ≡ true → Keeps first (record c { owes = true }) (at_port no_reply_room ∷ h)
-report_kept first c h k owed = record {
+pub report_kept : {N : ℕ} (first : Opening) (c : Board N) (h : Journal) → Keeps first c h → owes_report h ≡ true → AsksForRoom h → Keeps first (record c { owes = true }) (at_port no_reply_room ∷ h)
+report_kept first c h k owed once = record {
   placed = k.placed;
   sized = k.sized;
   short = k.short;
-  conducted = (or_true (tells_next (left_of first h)) (owes_report h) owed, k.conducted);
+  conducted = ((or_true (tells_next (left_of first h)) (owes_report h) owed, once), k.conducted);
   machine = k.machine;
   lines = k.lines;
   input = k.input;

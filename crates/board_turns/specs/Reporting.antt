@@ -41,13 +41,14 @@ use Rattle.board_turns.specs.Turning.{AreWorked, PassesNothing, NoneFits, StaysS
 -- ---- what is known
 
 -- A report is owed and is told next, and then a word is obeyed, if one waits for that. Nothing has passed in this turn,
--- nothing was published, and no byte was polled for. No move that is next has room.
+-- nothing was published, no byte was polled for, and no reply was handed back. No move that is next has room.
 pub record IsToReport (first : Opening) (word : Option Exec) (h : Journal) : Type 0 where
   pub still : list_any passing (this_turn h) ≡ false
   pub quiet : count_by publishing (this_turn h) ≡ 0
   pub worked : AreWorked h
   pub asked : IsAsked word h
   pub unpolled : list_any found_none (this_turn h) ≡ false
+  pub untold : list_any lacks_reply_room (this_turn h) ≡ false
   pub none_waits : NoneWaits first h
   pub adds : NoneFits first h
   pub tries : tries_of first h + one_if (whole_of h) ≤ 1

@@ -28,8 +28,8 @@ use Rattle.board_rules.specs.Steps.Step.{at_port, began, did, became, cut}
 use Rattle.board_rules.specs.Cuts.{has_cut}
 use Rattle.run_rules.specs.Outcomes.{jogged_behind, begins_with_dollar}
 use Rattle.run_rules.specs.Finding.{Found}
-use Rattle.board_rules.specs.Turns.{this_turn, publishing, passing, moving, ends_turn, found_none, loads, has_blocks, awaits_motion, has_jog_to_start, is_full, is_going, begins_in, is_due, is_held_up, is_halting, machine_in, is_limited, is_locked as locked_still, is_counted, changes_taken, flags_taken, owes_report, tries_of, missed_of, waits_of}
-use Rattle.board_rules.specs.Conduct.{MayTurn, IsNextTask, IsDrained, HasSlowedDown, IsStopped, AreWaiting, ticks_given}
+use Rattle.board_rules.specs.Turns.{this_turn, publishing, passing, moving, ends_turn, found_none, lacks_reply_room, loads, has_blocks, awaits_motion, has_jog_to_start, is_full, is_going, begins_in, is_due, is_held_up, is_halting, machine_in, is_limited, is_locked as locked_still, is_counted, changes_taken, flags_taken, owes_report, tries_of, missed_of, waits_of}
+use Rattle.board_rules.specs.Conduct.{MayTurn, AsksForRoom, IsNextTask, IsDrained, HasSlowedDown, IsStopped, AreWaiting, ticks_given}
 use Rattle.units.specs.Truths.{one_if}
 pub use Rattle.board_rules.specs.Within.{AreWorked, MayFinish, PassesNothing, DidAlone, MayHaveLooked, Tried, HasTried}
 use Rattle.board_turns.specs.declared.board.Board.{Board}
@@ -50,13 +50,15 @@ IsNextMove first h = (m : PlannedMove) × IsNextTask first (ask (a_move m)) h
 abbrev pub HasPiece : Opening → Journal → Type 0
 HasPiece first h = (hand_of h ≡ [] → ⊥) ⊎ (is_due first h ≡ true)
 
--- Nothing has passed in this turn, and nothing was published. No word of flags is to be taken, and no report is owed.
+-- Nothing has passed in this turn, nothing was published, and no reply was handed back. No word of flags is to be taken, and no report is
+-- owed.
 pub record IsQuiet (h : Journal) : Type 0 where
   pub still : list_any passing (this_turn h) ≡ false
   pub quiet : count_by publishing (this_turn h) ≡ 0
   pub worked : AreWorked h
   pub flags : flags_taken h ≡ true
   pub unowed : owes_report h ≡ false
+  pub untold : list_any lacks_reply_room (this_turn h) ≡ false
 
 -- Nothing has passed in this turn, and no byte was polled for. Where a segment is due one was tried to be published since
 -- anything was waited for, and since a line was begun.
@@ -147,6 +149,7 @@ pub record IsLooked (first : Opening) (h : Journal) : Type 0 where
   pub idle : IsDrained h → is_going (motion_of first h) ≡ false
   pub none_waits : NoneWaits first h
   pub unpolled : list_any found_none (this_turn h) ≡ false
+  pub untold : AsksForRoom h
   pub unmissed : missed_of first h ≡ false
   pub tries : tries_of first h ≤ 1
 

@@ -14,7 +14,7 @@ ghost use Rattle.board_rules.specs.Steps.{Journal, port_log, hand_of};
 ghost use Rattle.board_rules.specs.Steps.Step.{at_port};
 ghost use Rattle.board_rules.specs.Openings.{Opening};
 ghost use Rattle.board_rules.specs.Turns.{awaits_motion, has_blocks, is_full, owes_report, unobeyed_of};
-ghost use Rattle.board_rules.specs.Conduct.{IsNextTask, IsTimely};
+ghost use Rattle.board_rules.specs.Conduct.{IsNextTask, AsksForRoom, IsTimely};
 ghost use Rattle.board_turns.specs.Boards.{Keeps};
 ghost use Rattle.board_machine.specs.Machines.{marks_cut};
 ghost use Rattle.flight.specs.Flights.{flight_room};
@@ -175,7 +175,7 @@ impl<const N: usize> Board<N> {
     /// The reply that was next is told. Where it answers a line, the state behind that is one of answered lines.
     fn told(&mut self, reply: Reply)
         requires { self.old.lines.left ≢ [] }
-        ensures told { (first : Opening) (h : Journal) → Keeps first self.old h → IsNextTask first (tell reply) h → is_report reply ≡ false → owes_report h ≡ false
+        ensures told { (first : Opening) (h : Journal) → Keeps first self.old h → IsNextTask first (tell reply) h → AsksForRoom h → is_report reply ≡ false → owes_report h ≡ false
             → (reply ≡ Reply.Bye → hand_of h ≡ []) → Keeps first self.new (at_port (answered reply) ∷ h) }
         ensures same { self.new ≡ record self.old { lines = self.new.lines; answered = self.new.answered; greeted = self.new.greeted } }
     {
@@ -207,8 +207,8 @@ impl<const N: usize> Board<N> {
 
     /// Tells the first reply of a line that was begun in this turn, where that is next and has room. Else it has a turn of its own.
     pub(crate) fn tell_first<P: EpochPort>(&mut self, port: &mut P)
-        requires stands { (rest : P.Rest) × (first : Opening) × (h : Journal) × P.stands port.old rest first (port_log h) × Keeps first self.old h × (owes_report h ≡ false) }
-        ensures goes_on { (rest : P.Rest) (first : Opening) (h : Journal) → P.stands port.old rest first (port_log h) → Keeps first self.old h → owes_report h ≡ false
+        requires stands { (rest : P.Rest) × (first : Opening) × (h : Journal) × P.stands port.old rest first (port_log h) × Keeps first self.old h × (owes_report h ≡ false) × AsksForRoom h }
+        ensures goes_on { (rest : P.Rest) (first : Opening) (h : Journal) → P.stands port.old rest first (port_log h) → Keeps first self.old h → owes_report h ≡ false → AsksForRoom h
             → (next : Journal) × P.stands port.new rest first (port_log next) × Keeps first self.new next × MayHaveTold h next }
         ensures same { self.new ≡ record self.old { lines = self.new.lines; answered = self.new.answered; greeted = self.new.greeted } }
     {

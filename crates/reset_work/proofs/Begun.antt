@@ -32,7 +32,7 @@ conducted state = (
   ends _ _ (λ w. untrue w.blocks) refl refl refl refl refl refl,
   (
     record { greeted = refl; obeyed = refl; few = λ report. absurd cc },
-    (ends _ _ (λ w. untrue w.blocks) refl refl refl refl refl refl, (record { next = refl; plain = refl; unowed = refl; empty = λ e. absurd cc; unlocked = refl }, opens state)),
+    (ends _ _ (λ w. untrue w.blocks) refl refl refl refl refl refl, (record { once = refl; next = refl; plain = refl; unowed = refl; empty = λ e. absurd cc; unlocked = refl }, opens state)),
   ),
 )
 

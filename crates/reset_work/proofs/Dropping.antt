@@ -64,7 +64,7 @@ drop_changes_again was is it word blocks state es h w both b port =
     let i = b.working in
     let k = changes number l word it.stage it.words i.waited (λ none. absurd (let f = sym both ∙ none in cc)) in
     turned_by is Did it (record it { words = Requests }) blocks state es h w e port
-    (stepped blocks state es h w e Did b.epochs (λ ends. k.going (sym i.stage_is ∙ ends)) (subst (MayWorkAt number l e) (sym i.stage_is) k.may) (one_out (at_port e) w b.between) (record { bytes = b.epochs.2.bytes; reports = b.epochs.2.reports }))
+    (stepped blocks state es h w e Did b.epochs (λ ends. k.going (sym i.stage_is ∙ ends)) (subst (MayWorkAt number l e) (sym i.stage_is) k.may) (one_out e w b.between) (record { bytes = b.epochs.2.bytes; reports = b.epochs.2.reports }))
     (record {
       stage_is = ap (stage_at l e) i.stage_is ∙ k.stays;
       words_are = refl;
@@ -90,7 +90,7 @@ drop_requests was is it word blocks state es h w one b few port =
     let i = b.working in
     let k = requests number l word it.stage it.words i.waited (λ none. absurd (let f = sym one ∙ none in cc)) few in
     turned_by is Did it (record it { words = None }) blocks state es h w e port
-    (stepped blocks state es h w e Did b.epochs (λ ends. k.going (sym i.stage_is ∙ ends)) (subst (MayWorkAt number l e) (sym i.stage_is) k.may) (one_out (at_port e) w b.between)
+    (stepped blocks state es h w e Did b.epochs (λ ends. k.going (sym i.stage_is ∙ ends)) (subst (MayWorkAt number l e) (sym i.stage_is) k.may) (one_out e w b.between)
     (record { bytes = b.epochs.2.bytes; reports = one_more (asks_report word) (reports_in l) b.epochs.2.reports few }))
     (record {
       stage_is = ap (stage_at l e) i.stage_is ∙ k.stays;

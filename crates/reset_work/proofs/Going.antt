@@ -13,7 +13,7 @@ use Rattle.board_rules.specs.Steps.Step.{at_port, turned}
 use Rattle.board_rules.specs.Turns.{this_turn, moving}
 use Rattle.board_epochs.specs.Epochs.{Closed, AreEpochs, IsBounded, closed_log, last_line, log_behind, log_of, opening_behind}
 use Rattle.board_epochs.specs.Epochs.Epochs.{resets}
-use Rattle.board_epochs.specs.Work.{Work, MayWorkAt, MayEndWork, NeedsAt, WorkWaits, stage_of, goes_out, goes_on, requests_dropped, changes_dropped}
+use Rattle.board_epochs.specs.Work.{Work, MayWorkAt, MayEndWork, NeedsAt, WorkWaits, IsOneTurn, stage_of, goes_out, looks_out, goes_on, requests_dropped, changes_dropped}
 use Rattle.board_epochs.specs.Work.Stage.{over}
 use Rattle.reset_work.specs.declared.reset.ResetWork.{ResetWork}
 use Rattle.reset_work.specs.declared.reset.Stage.{Stage}
@@ -26,9 +26,12 @@ use Rattle.reset_work.specs.Working.{IsWorking, WorksOn, AreDropped, stage_in, n
 pub both_dropped : (words : Words) (w : Work) → words ≡ None → AreDropped words w → (changes_dropped w ≡ true) × (requests_dropped w ≡ true)
 both_dropped words w free dropped = subst (λ (ws : Words). AreDropped ws w) free dropped
 
--- in a turn of one step one thing goes out at most
-pub one_out : (s : Step) (w : Work) → this_turn w ≡ [] → count_by goes_out (s ∷ this_turn w) ≤ 1
-one_out s w between = subst (λ (x : Work). count_by goes_out (s ∷ x) ≤ 1) (sym between) (count_by-le-length goes_out (s ∷ []))
+-- in a turn of one step one thing goes out at most, and one is looked for
+one_of : (f : Step → Bool) (s : Step) (w : Work) → this_turn w ≡ [] → count_by f (s ∷ this_turn w) ≤ 1
+one_of f s w between = subst (λ (x : Work). count_by f (s ∷ x) ≤ 1) (sym between) (count_by-le-length f (s ∷ []))
+
+pub one_out : (e : PortStep) (w : Work) → this_turn w ≡ [] → IsOneTurn (at_port e ∷ w)
+one_out e w between = record { once = one_of goes_out (at_port e) w between; looks = one_of looks_out (at_port e) w between }
 
 -- A step that is allowed, and the answer of its turn, go on with the work, which is not over.
 pub stepped : (blocks : ℕ) (state : State) (es : NewestFirst Closed) (h : Journal) (w : Work) (e : PortStep) (t : Turn)
@@ -78,7 +81,7 @@ pub waits : (before : BoardLog) (w : Work) (e : PortStep) (o : On) → this_turn
     → requests_dropped (at_port e ∷ w) ≡ requests_dropped w → changes_dropped (at_port e ∷ w) ≡ changes_dropped w
     → (changes_dropped w ≡ true) × (requests_dropped w ≡ true) → NeedsAt o (stage_of before (at_port e ∷ w)) (at_port e ∷ w) → WorkWaits before o (at_port e ∷ w)
 waits before w e o between still requests changes dropped cause = record {
-  once = one_out (at_port e) w between;
+  one = one_out e w between;
   cause = cause;
   still = subst (λ (x : Work). list_any goes_on (at_port e ∷ x) ≡ false) (sym between) (ap (λ (b : Bool). b || false) still);
   requests = requests ∙ dropped.1;

@@ -42,7 +42,7 @@ drop_changes was is it word blocks state es h w at free b port =
     let next = turned Did ∷ at_port e ∷ w in
     let dropped = both_dropped it.words w free i.words_are in
     turned_by is Did it (record it { stage = AwaitsMark }) blocks state es h w e port
-    (stepped blocks state es h w e Did b.epochs (λ ends. absurd (let f = sym stage ∙ ends in cc)) (subst (MayWorkAt number l e) (sym stage) tt) (one_out (at_port e) w b.between) (record { bytes = b.epochs.2.bytes; reports = b.epochs.2.reports }))
+    (stepped blocks state es h w e Did b.epochs (λ ends. absurd (let f = sym stage ∙ ends in cc)) (subst (MayWorkAt number l e) (sym stage) tt) (one_out e w b.between) (record { bytes = b.epochs.2.bytes; reports = b.epochs.2.reports }))
     (record {
       stage_is = ap (stage_at l e) stage;
       words_are = subst (λ (ws : Words). AreDropped ws next) (sym free) (refl, dropped.1);
@@ -77,7 +77,7 @@ found_new_mark was is it m bytes left blocks state es h w at free fits new left_
     let worked : it.mark ≡ worked_in l = i.mark_is ∙ ap (mark_known l) at in
     let bytes_are : left ≡ bytes - length (taken_in l) = left_is ∙ ap (λ (n : ℕ). bytes - n) i.taken_is in
     turned_by is Did it (record it { stage = Stops left; mark = m }) blocks state es h w e port
-    (stepped blocks state es h w e Did b.epochs (λ ends. absurd (let f = sym stage ∙ ends in cc)) (subst (MayWorkAt number l e) (sym stage) fits) (one_out (at_port e) w b.between) (record { bytes = b.epochs.2.bytes; reports = b.epochs.2.reports }))
+    (stepped blocks state es h w e Did b.epochs (λ ends. absurd (let f = sym stage ∙ ends in cc)) (subst (MayWorkAt number l e) (sym stage) fits) (one_out e w b.between) (record { bytes = b.epochs.2.bytes; reports = b.epochs.2.reports }))
     (record {
       stage_is = ap (stage_at l e) stage ∙ ap (λ (t : Bool). by_mark t (bytes - length (taken_in l))) (new_mark (worked_in l) m (subst (λ (n : ℕ). n < m) worked new)) ∙ ap stops (sym bytes_are);
       words_are = subst (λ (ws : Words). AreDropped ws next) (sym free) dropped;
@@ -107,7 +107,7 @@ stop_pulse was is it left blocks state es h w at free b port =
     let next = turned Did ∷ at_port e ∷ w in
     let dropped = both_dropped it.words w free i.words_are in
     turned_by is Did it (record it { stage = AwaitsHalt left }) blocks state es h w e port
-    (stepped blocks state es h w e Did b.epochs (λ ends. absurd (let f = sym stage ∙ ends in cc)) (subst (MayWorkAt number l e) (sym stage) tt) (one_out (at_port e) w b.between) (record { bytes = b.epochs.2.bytes; reports = b.epochs.2.reports }))
+    (stepped blocks state es h w e Did b.epochs (λ ends. absurd (let f = sym stage ∙ ends in cc)) (subst (MayWorkAt number l e) (sym stage) tt) (one_out e w b.between) (record { bytes = b.epochs.2.bytes; reports = b.epochs.2.reports }))
     (record {
       stage_is = ap (stage_at l e) stage;
       words_are = subst (λ (ws : Words). AreDropped ws next) (sym free) dropped;
@@ -137,7 +137,7 @@ found_halted was is it left done blocks state es h w at free may b port =
     let next = turned Did ∷ at_port e ∷ w in
     let dropped = both_dropped it.words w free i.words_are in
     turned_by is Did it (record it { stage = Drops left; halted = done }) blocks state es h w e port
-    (stepped blocks state es h w e Did b.epochs (λ ends. absurd (let f = sym stage ∙ ends in cc)) (subst (MayWorkAt number l e) (sym stage) may) (one_out (at_port e) w b.between) (record { bytes = b.epochs.2.bytes; reports = b.epochs.2.reports }))
+    (stepped blocks state es h w e Did b.epochs (λ ends. absurd (let f = sym stage ∙ ends in cc)) (subst (MayWorkAt number l e) (sym stage) may) (one_out e w b.between) (record { bytes = b.epochs.2.bytes; reports = b.epochs.2.reports }))
     (record {
       stage_is = ap (stage_at l e) stage;
       words_are = subst (λ (ws : Words). AreDropped ws next) (sym free) dropped;
@@ -183,7 +183,7 @@ drop_byte was is it left rest byte taken dropped_now blocks state es h w at more
     let one = length-append (taken_in l) (byte ∷ []) in
     let k : left ≡ bytes_left l = subst (AreLeft l) at i.left_are in
     turned_by is Did it (record it { stage = Drops rest; taken = taken; dropped = dropped_now }) blocks state es h w e port
-    (stepped blocks state es h w e Did b.epochs (λ ends. absurd (let f = sym stage ∙ ends in cc)) (subst (MayWorkAt number l e) (sym stage) few) (one_out (at_port e) w b.between)
+    (stepped blocks state es h w e Did b.epochs (λ ends. absurd (let f = sym stage ∙ ends in cc)) (subst (MayWorkAt number l e) (sym stage) few) (one_out e w b.between)
     (record { bytes = omega (arith, one, few); reports = b.epochs.2.reports }))
     (record {
       stage_is = ap (stage_at l e) stage;
@@ -220,7 +220,7 @@ publish_mark was is it blocks state es h w at free b port =
     let next = turned Did ∷ at_port e ∷ w in
     let dropped = both_dropped it.words w free i.words_are in
     turned_by is Did it (record it { stage = AwaitsDone }) blocks state es h w e port
-    (stepped blocks state es h w e Did b.epochs (λ ends. absurd (let f = sym stage ∙ ends in cc)) (subst (MayWorkAt number l e) (sym stage) (ap (λ (n : ℕ). pieces.Mark (marks.Reset n)) i.number_is)) (one_out (at_port e) w b.between)
+    (stepped blocks state es h w e Did b.epochs (λ ends. absurd (let f = sym stage ∙ ends in cc)) (subst (MayWorkAt number l e) (sym stage) (ap (λ (n : ℕ). pieces.Mark (marks.Reset n)) i.number_is)) (one_out e w b.between)
     (record { bytes = b.epochs.2.bytes; reports = b.epochs.2.reports }))
     (record {
       stage_is = ap (stage_at l e) stage;
@@ -255,7 +255,7 @@ found_done was is it done blocks state es h w at free may above b port =
     let dropped = both_dropped it.words w free i.words_are in
     let ticks = published_then number before w b.epochs.1.works stage in
     turned_by is Did it (record it { stage = Over; ticks = done }) blocks state es h w e port
-    (stepped blocks state es h w e Did b.epochs (λ ends. absurd (let f = sym stage ∙ ends in cc)) (subst (MayWorkAt number l e) (sym stage) may) (one_out (at_port e) w b.between) (record { bytes = b.epochs.2.bytes; reports = b.epochs.2.reports }))
+    (stepped blocks state es h w e Did b.epochs (λ ends. absurd (let f = sym stage ∙ ends in cc)) (subst (MayWorkAt number l e) (sym stage) may) (one_out e w b.between) (record { bytes = b.epochs.2.bytes; reports = b.epochs.2.reports }))
     (record {
       stage_is = ap (stage_at l e) stage ∙ ap by_load (all_done done (halted_in w) (ring.ticks_published (sent_in l)) ticks (subst (λ (n : ℕ). n < done) i.halted_is above) may.below);
       words_are = subst (λ (ws : Words). AreDropped ws next) (sym free) dropped;

@@ -1,6 +1,6 @@
 use Rattle.std.proofs.Common.{arith, ap, ◌∙◌}
 use Rattle.board_turns.specs.declared.board.Board.{Board}
-use Rattle.board_turns.proofs.Begins.{looked_whole, begun_unowed, has_spoken, did_begin_line, port_begun}
+use Rattle.board_turns.proofs.Begins.{looked_whole, begun_unowed, begun_untold, has_spoken, did_begin_line, port_begun}
 use Rattle.board_turns.proofs.board.Board.begin.Goals as goal
 
 pub look-requires : goal.look-requires
@@ -30,7 +30,7 @@ tell_first-requires g c =
     let line = c.judge.ensures.begun first mid.0 mid.1 mid.2 in
     let same = port_begun first line.0 mid.0 line.1 line.3 ∙ mid.3.port in (
       omega arith,
-      (r.0, first, line.1, rw same seen.1, line.2, begun_unowed first line.0 mid.0 line.1 mid.2 line.3),
+      (r.0, first, line.1, rw same seen.1, line.2, begun_unowed first line.0 mid.0 line.1 mid.2 line.3, begun_untold first line.0 mid.0 line.1 mid.2 line.3),
     )
 
 pub fill-requires : goal.fill-requires
@@ -41,7 +41,7 @@ fill-requires g c = (
       let mid = c.start_before_line.ensures.started first seen.0 seen.2 (looked_whole first r.2 seen.0 r.5 r.6 seen.3) in
       let line = c.judge.ensures.begun first mid.0 mid.1 mid.2 in
       let same = port_begun first line.0 mid.0 line.1 line.3 ∙ mid.3.port in
-      let told = c.tell_first.ensures.goes_on r.0 first line.1 (rw same seen.1) line.2 (begun_unowed first line.0 mid.0 line.1 mid.2 line.3) in
+      let told = c.tell_first.ensures.goes_on r.0 first line.1 (rw same seen.1) line.2 (begun_unowed first line.0 mid.0 line.1 mid.2 line.3) (begun_untold first line.0 mid.0 line.1 mid.2 line.3) in
       (first, told.0, told.2),
 )
 
@@ -51,7 +51,7 @@ returns-clause-goes_on g c = λ rest first h stands k ready whole.
     let mid = c.start_before_line.ensures.started first seen.0 seen.2 (looked_whole first h seen.0 ready whole seen.3) in
     let line = c.judge.ensures.begun first mid.0 mid.1 mid.2 in
     let same = port_begun first line.0 mid.0 line.1 line.3 ∙ mid.3.port in
-    let told = c.tell_first.ensures.goes_on rest first line.1 (rw same seen.1) line.2 (begun_unowed first line.0 mid.0 line.1 mid.2 line.3) in
+    let told = c.tell_first.ensures.goes_on rest first line.1 (rw same seen.1) line.2 (begun_unowed first line.0 mid.0 line.1 mid.2 line.3) (begun_untold first line.0 mid.0 line.1 mid.2 line.3) in
     let next = c.fill.ensures.filled first told.0 told.2 in
     let beat = ap (λ (b : Board _). b.beat) c.fill.ensures.same ∙ ap (λ (b : Board _). b.beat) c.tell_first.ensures.same ∙ ap (λ (b : Board _). b.beat) c.judge.ensures.same
     ∙ ap (λ (b : Board _). b.beat) c.start_before_line.ensures.same ∙ ap (λ (b : Board _). b.beat) c.look.ensures.same ∙ c.requires.beat in

@@ -7,7 +7,7 @@ poll-requires g c = (
   omega arith,
   (
     let r = c.requires.stands in let first = r.1 in
-        (r.0, first, r.2, r.3, r.4, r.5, may_poll first c.args.self.now r.2 r.4 r.6 c.requires.none c.requires.«open» c.if-self.false),
+        (r.0, first, r.2, r.3, r.4, r.5, may_poll first c.args.self.now r.2 r.4 r.5 r.6 c.requires.none c.requires.«open» c.if-self.false),
     (
       search rules,
       (
@@ -20,7 +20,7 @@ poll-requires g c = (
 
 pub returns-clause-goes_on : goal.returns-clause-goes_on
 returns-clause-goes_on g c = λ rest first h stands k ready goes.
-    c.poll.ensures.goes_on rest first h stands k ready (may_poll first c.args.self.now h k goes c.requires.none c.requires.«open» c.if-self.false)
+    c.poll.ensures.goes_on rest first h stands k ready (may_poll first c.args.self.now h k ready goes c.requires.none c.requires.«open» c.if-self.false)
 
 pub begin-requires : goal.begin-requires
 begin-requires g c = (

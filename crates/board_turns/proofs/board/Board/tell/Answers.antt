@@ -7,6 +7,7 @@ use Rattle.board_rules.specs.Ports.PortStep.{answered, no_reply_room}
 use Rattle.board_turns.specs.declared.board.Board.{Board}
 use Rattle.board_turns.proofs.Steps.{is_next, may_answer, hand_empty, hand_left}
 use Rattle.board_rules.proofs.Tries.{publishes_one, worked_behind}
+use Rattle.board_rules.proofs.Polling.{none_told}
 use Rattle.board_turns.specs.Boards.{IsFree}
 use Rattle.board_turns.proofs.Known.{said_plain}
 use Rattle.board_turns.proofs.Ends.{did_filled, may_run, takes_none, free_of, free_passed}
@@ -63,7 +64,7 @@ fill-requires g c = (
       let s = c.args.self.now in
       let reply = c.reply-reply.result in
       let next = is_next first s r.2 (tell reply) r.4 c.reply-reply.ensures.next in
-      (first, at_port (answered reply) ∷ r.2, c.told.ensures.told first r.2 r.4 next c.reply-reply.ensures.plain r.5.quiet.unowed (λ bye. (hand_empty first) s r.2 r.4 (c.if-holds_back.ensures.no refl bye))),
+      (first, at_port (answered reply) ∷ r.2, c.told.ensures.told first r.2 r.4 next (none_told (this_turn r.2) r.5.quiet.still r.5.quiet.untold) c.reply-reply.ensures.plain r.5.quiet.unowed (λ bye. (hand_empty first) s r.2 r.4 (c.if-holds_back.ensures.no refl bye))),
 )
 
 pub returns-clause-goes_on : goal.returns-clause-goes_on
@@ -72,7 +73,7 @@ returns-clause-goes_on g c = λ rest first h stands keeps ready.
     let r = c.reply-reply.result in
     let next = is_next first s h (tell r) keeps c.reply-reply.ensures.next in
     let mid = at_port (answered r) ∷ h in
-    let now = c.told.ensures.told first h keeps next c.reply-reply.ensures.plain ready.quiet.unowed (λ bye. (hand_empty first) s h keeps (c.if-holds_back.ensures.no refl bye)) in
+    let now = c.told.ensures.told first h keeps next (none_told (this_turn h) ready.quiet.still ready.quiet.untold) c.reply-reply.ensures.plain ready.quiet.unowed (λ bye. (hand_empty first) s h keeps (c.if-holds_back.ensures.no refl bye)) in
     let said_is = said_plain r c.reply-reply.ensures.plain in
     let stood = c.in-Ok.ensures.ok rest first h stands (may_answer first s h r keeps next c.reply-reply.ensures.valid) in
     let free = free_of h ready.quiet in

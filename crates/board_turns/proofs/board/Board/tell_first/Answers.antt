@@ -20,18 +20,18 @@ answer-requires g c =
     (r.0, first, r.2, r.3, may_answer first s r.2 reply r.4 (is_next first s r.2 (tell reply) r.4 c.reply-reply.ensures.next) c.reply-reply.ensures.valid)
 
 pub returns-in_default-clause-goes_on : goal.returns-in_default-clause-goes_on
-returns-in_default-clause-goes_on g c = λ rest first h stands keeps unowed.
+returns-in_default-clause-goes_on g c = λ rest first h stands keeps unowed once.
     let s = c.args.self.now in
     let next = is_next first s h (tell c.reply-reply.result) keeps c.reply-reply.ensures.next in
     let back = c.in_default.ensures.full rest first (port_log h) stands in
-    (at_port no_reply_room ∷ h, back, not_told first s h keeps (ap tells_next next), handed_back refl)
+    (at_port no_reply_room ∷ h, back, not_told first s h keeps (ap tells_next next) once, handed_back refl)
 
 pub returns-clause-goes_on : goal.returns-clause-goes_on
-returns-clause-goes_on g c = λ rest first h stands keeps unowed.
+returns-clause-goes_on g c = λ rest first h stands keeps unowed once.
     let s = c.args.self.now in
     let r = c.reply-reply.result in
     let next = is_next first s h (tell r) keeps c.reply-reply.ensures.next in
-    let now = c.told.ensures.told first h keeps next c.reply-reply.ensures.plain unowed (λ bye. (hand_empty first) s h keeps (c.if-holds_back.ensures.no refl bye)) in
+    let now = c.told.ensures.told first h keeps next once c.reply-reply.ensures.plain unowed (λ bye. (hand_empty first) s h keeps (c.if-holds_back.ensures.no refl bye)) in
     let stood = c.in-Ok.ensures.ok rest first h stands (may_answer first s h r keeps next c.reply-reply.ensures.valid) in
     (at_port (answered r) ∷ h, rw (sym (said_plain r c.reply-reply.ensures.plain)) stood, now, was_told r refl)
 
