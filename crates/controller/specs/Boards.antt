@@ -6,11 +6,13 @@ use Rattle.outside.specs.declared.Turn.{Turn}
 use Rattle.outside.specs.declared.Turn.TheVariants.{Did}
 use Rattle.run_rules.specs.declared.State.{State}
 use Rattle.run_rules.specs.States.{IsOpening}
+use Rattle.status_report.specs.declared.Reply.{Reply}
+use Rattle.status_report.specs.declared.Reply.TheVariants.{Banner}
 use Rattle.step_line.specs.Logs.{NewestFirst}
 use Rattle.board_rules.specs.Conduct.{IsFinished}
-use Rattle.board_rules.specs.Steps.{Step, Journal}
+use Rattle.board_rules.specs.Steps.{Step, Journal, answered_of}
 use Rattle.board_rules.specs.Steps.Step.{turned}
-use Rattle.board_rules.specs.Turns.{this_turn, moving, ends_turn}
+use Rattle.board_rules.specs.Turns.{this_turn, moving, ends_turn, lacks_reply_room}
 use Rattle.board_epochs.specs.Epochs.{Closed, Epochs, AreEpochs, closed_log, last_line, log_behind, opening_behind}
 use Rattle.board_epochs.specs.Epochs.Epochs.{goes, resets}
 use Rattle.board_epochs.specs.Resets.{MayReset}
@@ -111,3 +113,14 @@ pub record BoardTurned {N : ℕ} (t : Turn) (was is : Controller N) (e next : Ep
   pub are : (next ≡ added t steps e) ⊎ (next ≡ parted (added t steps e))
   pub inner : list_any ends_turn steps ≡ false
   pub moves : t ≡ Did → (list_any moving (this_turn (steps ++ latest e)) ≡ true) ⊎ ((state : State) → number_in state is next < number_in state was e)
+
+-- ---- the first turn
+
+-- the journal of the open epoch, or of the one behind which a reset is worked
+abbrev pub epoch_of : Epochs → Journal
+epoch_of (goes es h) = h
+epoch_of (resets es h w) = h
+
+-- the banner was told, before any other reply, unless that was handed back for want of room
+abbrev pub GreetsFirst : Journal → Type 0
+GreetsFirst h = ((behind : List Reply) × (answered_of h ≡ Banner ∷ behind)) ⊎ (list_any lacks_reply_room h ≡ true)

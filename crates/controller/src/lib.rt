@@ -8,7 +8,7 @@ mod laws;
 
 pub use board_rules::BoardPort;
 pub use controller::Controller;
-pub use laws::controllers_keep_to_epochs;
+pub use laws::{controllers_greet_first, controllers_keep_to_epochs};
 
 /// How many slots a plan has, where nothing else is asked for. One stays free, and the others hold 15 blocks, as many as the plan of
 /// Grbl.

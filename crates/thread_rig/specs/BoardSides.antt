@@ -6,7 +6,7 @@ use Rattle.motion_ring.specs.Ends.{ring_of_out}
 use Rattle.board_epochs.specs.Epochs.{Epochs, log_of}
 use Rattle.board_epochs.specs.Epochs.Epochs.{goes}
 use Rattle.outside.specs.declared.Turn.{Turn}
-use Rattle.controller.specs.Boards.{BoardFits, BoardTurned, BoardRests}
+use Rattle.controller.specs.Boards.{BoardFits, BoardTurned, BoardRests, GreetsFirst, epoch_of}
 use Rattle.controller.specs.Boards.{IsBetween as IsBetweenOfBoard}
 use Rattle.link_ports.specs.Standing.{BoardLogs, BoardSees}
 use Rattle.thread_rig.specs.declared.board.BoardSide.{BoardSide}
@@ -31,11 +31,13 @@ pub record BoardRunsAt {room slots : ℕ} (was is : BoardSide room slots) : Type
   pub fits : BoardFits is.board epochs
   pub between : IsBetweenOfBoard epochs
 
--- It was one turn, the first: what it did is all that was done, and the board's rules allow it.
+-- It was one turn, the first: what it did is all that was done, and the board's rules allow it. The banner is told before any other
+-- reply, unless it was handed back for want of room.
 pub record BoardHasBegun {room slots : ℕ} (was is : BoardSide room slots) : Type 0 where
   pub runs : BoardRunsAt was is
   pub turn : Turn
   pub turned : BoardTurned turn was.board is.board (goes [] []) runs.epochs
+  pub greets : GreetsFirst (epoch_of runs.epochs)
 
 -- ---- and the board is done
 

@@ -3,6 +3,7 @@ use Rattle.serial_ring.specs.Ends.{link_of_board}
 use Rattle.realtime_flags.specs.Ends.{taken_in}
 use Rattle.motion_ring.specs.Ends.{ring_of_out}
 use Rattle.board_epochs.specs.Epochs.Epochs.{goes}
+use Rattle.controller.proofs.Greets.{greets_at_once}
 use Rattle.thread_rig.proofs.board.begin_board.Goals as goal
 
 pub turn-requires : goal.turn-requires
@@ -24,4 +25,5 @@ returns-clause-turned g c =
       runs = record { epochs = t.0; link = t.1.0; flags = t.1.1; pieces = t.1.2; did = t.1.3; sees = t.1.4; fits = t.2; between = t.3 };
       turn = c.turn.result;
       turned = t.4;
+      greets = greets_at_once c.turn.result _ _ t.0 c.requires.fits t.2 t.4;
     }
