@@ -1,5 +1,5 @@
 -- The first turn of a controller tells the banner, or its port hands that back for want of room: before it is told nothing else may be done.
-use Rattle.std.proofs.Common.{◌-◌, ◌≡◌, ◌⊎◌, inl, inr, ℕ, ◌+◌, ◌*◌, ◌≤◌, ◌<◌, Bool, true, false, ◌||◌, ◌&&◌, nat_eq, List, [], ◌∷◌, ◌++◌, length, Some, None, refl, sym, ap, ◌∙◌, subst, append-nil, arith}
+use Rattle.std.proofs.Common.{◌-◌, ◌≡◌, ◌⊎◌, inl, inr, ℕ, ◌≤◌, ◌<◌, Bool, true, false, ◌||◌, ◌&&◌, nat_eq, List, [], ◌∷◌, ◌++◌, length, Some, refl, sym, ap, ◌∙◌, subst, append-nil, arith}
 use Rattle.std.specs.List.{list_any}
 use Rattle.feed_hold.specs.declared.Motion.{Motion}
 use Rattle.feed_hold.specs.declared.Motion.TheVariants as motions
@@ -22,7 +22,7 @@ use Rattle.board_rules.specs.Conduct.{Conducted, MayAtPort, MayDo, Gives, MayHap
 use Rattle.board_rules.specs.Openings.{Opening, first_opening}
 use Rattle.board_rules.specs.Ports.{PortStep}
 use Rattle.board_rules.specs.Ports.PortStep.{took, answered, reported, no_reply_room, took_exec, published, no_piece_room}
-use Rattle.board_rules.specs.Steps.{Step, Journal, answered_of, left_of, closed_tells, hand_of, plan_of, motion_of}
+use Rattle.board_rules.specs.Steps.{Journal, answered_of, left_of, closed_tells, hand_of, plan_of, motion_of}
 use Rattle.board_rules.specs.Steps.Step.{at_port, began, did, made_end, evened, paused, became, cut, halted, closing, turned}
 use Rattle.board_rules.specs.Turns.{this_turn, moving, is_greeted, unobeyed_of, owes_report, tells_next, awaits_motion, lacks_reply_room, lacks_piece_room, has_blocks, is_going, is_held_up}
 use Rattle.board_rules.proofs.Greeted.{greeted_where, owed_greeted, reported_greeted, greets_still, greets_first}
@@ -42,7 +42,7 @@ apart b holds fails = absurd (let e = sym holds ∙ fails in cc)
 
 -- where no reply is next the banner is told
 unasked : {A : Type 0} (first : Opening) (h : Journal) (ts : List Task) → Conducted first h → is_greeted h ≡ false → left_of first h ≡ ts → tells_next ts ≡ false → A
-unasked first h ts c none is no = apart (is_greeted h) (greeted_where first h c (ap tells_next is ∙ no)) none
+unasked first h ts c none is mute = apart (is_greeted h) (greeted_where first h c (ap tells_next is ∙ mute)) none
 
 right_none : (a b : Bool) → (a || b) ≡ false → b ≡ false
 right_none true b e = absurd cc
@@ -218,9 +218,9 @@ did_none {N} was is state h takes takes_first c none (inr falls) =
 
 not_did : {N : ℕ} (t : Turn) (was is : Controller N) (state : State) (h : Journal) → TakesFlags is.board.flags (turned t ∷ h) → TakesFlags was.board.flags [] → Conducted (first_opening (N - 1) state) (turned t ∷ h) → is_greeted h ≡ false
     → (t ≡ Did → (list_any moving (this_turn h) ≡ true) ⊎ ((s : State) → number_in s is (goes [] (turned t ∷ h)) < number_in s was (goes [] []))) → t ≡ Did → ⊥
-not_did Did was is state h takes takes_first c none moves did = did_none was is state h takes takes_first c none (moves refl)
-not_did (Wait o) was is state h takes takes_first c none moves did = absurd cc
-not_did Done was is state h takes takes_first c none moves did = absurd cc
+not_did Did was is state h takes takes_first c none moves same = did_none was is state h takes takes_first c none (moves refl)
+not_did (Wait o) was is state h takes takes_first c none moves same = absurd cc
+not_did Done was is state h takes takes_first c none moves same = absurd cc
 
 greets_or_not : {N : ℕ} (t : Turn) (was is : Controller N) (state : State) (h : Journal) → TakesFlags is.board.flags (turned t ∷ h) → TakesFlags was.board.flags [] → Conducted (first_opening (N - 1) state) (turned t ∷ h)
     → (t ≡ Did → (list_any moving (this_turn h) ≡ true) ⊎ ((s : State) → number_in s is (goes [] (turned t ∷ h)) < number_in s was (goes [] []))) → (b : Bool) → is_greeted h ≡ b → GreetsFirst (turned t ∷ h)
@@ -245,5 +245,5 @@ greets_at_once t was is next f g w = by_are w.are
     by_are (inl e) =
         subst (λ (n : Epochs). GreetsFirst (epoch_of n)) (sym e)
         (went_on t was is (w.steps ++ []) f (subst (λ (n : Epochs). BoardFits is n) e g)
-        (λ did. subst (λ (n : Epochs). (list_any moving (this_turn (w.steps ++ [])) ≡ true) ⊎ ((s : State) → number_in s is n < number_in s was (goes [] []))) e (w.moves did)))
+        (λ same. subst (λ (n : Epochs). (list_any moving (this_turn (w.steps ++ [])) ≡ true) ⊎ ((s : State) → number_in s is n < number_in s was (goes [] []))) e (w.moves same)))
     by_are (inr e) = subst (λ (n : Epochs). GreetsFirst (epoch_of n)) (sym e) (parted_on t is (w.steps ++ []) (subst (λ (n : Epochs). BoardFits is n) e g))
