@@ -15,7 +15,7 @@ pub fn controllers_keep_to_epochs()
     ensures { (N : ℕ) (c : Controller N) (e : Epochs) → BoardFits c e → (state : State) × IsOpening state × AreEpochs (N - 1) state e × (BoardRests c → HaveFinished (N - 1) state e) }
 {}
 
-/// A controller tells the banner in its first turn, before any other reply and any word of flags, unless its port hands that back for
+/// A controller tells the banner in its first turn, before any other reply, unless its port hands that back for
 /// want of room.
 pub fn controllers_greet_first()
     ensures { (N : ℕ) (t : Turn) (was is : Controller N) (next : Epochs) → BoardFits was (goes [] []) → BoardFits is next → BoardTurned t was is (goes [] []) next → GreetsFirst (epoch_of next) }
