@@ -1,5 +1,5 @@
 -- What a turn makes of a pulse that hands out subticks.
-use Rattle.std.proofs.Common.{◌≡◌, ◌∙◌, ℕ, ◌+◌, ◌^◌, Bool, true, false, cond, ◌==◌, List, [], ◌∷◌, ◌++◌, length, Option, None, refl, sym, ap, subst, arith}
+use Rattle.std.proofs.Common.{◌≡◌, ◌∙◌, ℕ, ◌+◌, ◌^◌, Bool, true, false, cond, ◌==◌, List, [], ◌∷◌, ◌++◌, length, Option, Some, None, refl, sym, ap, subst, arith}
 use Rattle.step_line.specs.declared.Piece.{Piece}
 use Rattle.step_line.specs.declared.Piece.TheVariants as pieces
 use Rattle.step_line.specs.declared.Record.{Record}
@@ -17,11 +17,11 @@ use Rattle.pulse_engine.proofs.Moves.{fits_asked}
 use Rattle.std.proofs.lemmas.Bool.Decides.{nat_tests}
 use Rattle.smooth_step.specs.Subticks.{subticks_of}
 use Rattle.smooth_step.proofs.Parting.{subtick_count}
-use Rattle.smooth_step.specs.Counts.{level_in, is_held, fresh_in, subticks_in, IsHeldAt, AreLeftAt}
+use Rattle.smooth_step.specs.Counts.{level_in, is_event, is_held, fresh_in, subticks_in, subticks_held, IsHeldAt, AreLeftAt, LosesNone}
 use Rattle.smooth_step.specs.Pulses.{SmoothPulsing, pulse_of, SmoothFits, HasLevel, level_behind, made_between}
 
 pub smooth_asked : (p : SmoothPulsing) (b : Bool) (h : PieceLog) (k : RecordLog) → SmoothFits p h k → SmoothFits p (asked b ∷ h) k
-smooth_asked p b h k f = record { pulse = fits_asked (pulse_of p) b h k f.pulse; level = f.level; left = f.left }
+smooth_asked p b h k f = record { pulse = fits_asked (pulse_of p) b h k f.pulse; level = f.level; left = f.left; whole = f.whole }
 
 pub level_got : (x : Piece) (ps : NewestFirst Piece) (was now : ℕ) → now ≡ level_behind was x → HasLevel (x ∷ ps) now
 level_got (pieces.Segment s) ps was now e = e
@@ -82,6 +82,51 @@ one_made level t u k b e new =
     ∙ ap (λ (l : ℕ). subticks_in k + 2 ^ l) new.1
     ∙ ap (λ (n : ℕ). subticks_in k + n) (sym (subtick_count t.mv level t.done))
     ∙ ap (λ (b : Bool). subticks_in k + length (cond b (subticks_of t.mv level (t.done + 1)) [])) (sym (is_next u.done (t.done + 1) e))
+
+-- ---- no event is lost
+
+-- so many subticks has the event in hand
+pub held_is : (tried : Bool) (k : RecordLog) → is_held k ≡ tried → subticks_held k ≡ cond tried (2 ^ level_in k) 0
+held_is tried k e = ap (λ (b : Bool). cond b (2 ^ level_in k) 0) e
+
+-- the record in hand is put
+pub none_lost : (r : Record) (level : ℕ) (k : RecordLog) → IsHeldAt r level k → LosesNone (Some r) k → LosesNone None (put r ∷ k)
+none_lost r level k held w =
+    let again = held_again r level k held in
+    let one = held_is (is_event r) k w.held in
+    record { held = refl; sum = omega (arith, w.sum, again, one) }
+
+-- it is handed back again
+pub none_lost_again : (r : Record) (level : ℕ) (k : RecordLog) → IsHeldAt r level k → LosesNone (Some r) k → LosesNone (Some r) (full r ∷ k)
+none_lost_again r level k held w =
+    let again = held_again r level k held in
+    let one = held_is (is_event r) k w.held in
+    record { held = refl; sum = omega (arith, w.sum, again, one) }
+
+fresh_is : (b : Bits) (k : RecordLog) → is_held k ≡ false → fresh_in (kinds.Event b) k ≡ 2 ^ level_in k
+fresh_is b k new = ap (λ (tried : Bool). cond tried 0 (2 ^ level_in k)) new
+
+-- an event that is made is put
+pub made_put : (b : Bits) (k : RecordLog) → LosesNone None k → LosesNone None (put (kinds.Event b) ∷ k)
+made_put b k w =
+    let fresh = fresh_is b k w.held in
+    let none = held_is false k w.held in
+    record { held = refl; sum = omega (arith, w.sum, fresh, none) }
+
+-- it is handed back
+pub made_held : (b : Bits) (k : RecordLog) → LosesNone None k → LosesNone (Some (kinds.Event b)) (full (kinds.Event b) ∷ k)
+made_held b k w =
+    let fresh = fresh_is b k w.held in
+    let none = held_is false k w.held in
+    record { held = refl; sum = omega (arith, w.sum, fresh, none) }
+
+-- a piece is begun, whose first record is no event
+pub none_lost_between : (r : Record) (k : RecordLog) → is_event r ≡ false → LosesNone None k → LosesNone (Some r) k
+none_lost_between r k kind w = record { held = w.held ∙ sym kind; sum = w.sum }
+
+-- the same of a pulse that is seen so, with this in hand
+pub none_lost_seen : (q p : SmoothPulsing) (hand : Option Record) (k : RecordLog) → q ≡ p → q.hand ≡ hand → LosesNone p.hand k → LosesNone hand k
+none_lost_seen q p hand k e is w = subst (λ (o : Option Record). LosesNone o k) (sym (ap (λ (s : SmoothPulsing). s.hand) e) ∙ is) w
 
 -- ---- there is no room
 

@@ -1,5 +1,5 @@
 -- How many subticks are handed out, by the records that were tried: put, or handed back.
-use Rattle.std.specs.Prelude.{◌≡◌, ℕ, ◌+◌, ◌^◌, ◌<◌, Bool, true, false, cond, [], ◌∷◌, Option, Some, None}
+use Rattle.std.specs.Prelude.{◌≡◌, ℕ, ◌+◌, ◌*◌, ◌^◌, ◌<◌, Bool, true, false, cond, List, [], ◌∷◌, Option, Some, None}
 use Rattle.step_line.specs.declared.Record.{Record}
 use Rattle.step_line.specs.declared.Record.TheVariants as kinds
 use Rattle.pulse_engine.specs.Logs.{RecordLog}
@@ -42,6 +42,26 @@ subticks_in [] = 0
 subticks_in (put r ∷ k) = subticks_in k + fresh_in r k
 subticks_in (full r ∷ k) = subticks_in k + fresh_in r k
 
+-- ---- by what was put
+
+-- The subticks of the events behind some heads: a head of n events has n times 2 to the power of its level.
+abbrev pub subticks_of_heads : List Record → ℕ
+subticks_of_heads [] = 0
+subticks_of_heads (kinds.Head h ∷ rs) = h.n * 2 ^ level_of h.cycles + subticks_of_heads rs
+subticks_of_heads (kinds.Event b ∷ rs) = subticks_of_heads rs
+subticks_of_heads (kinds.Mark m ∷ rs) = subticks_of_heads rs
+subticks_of_heads (kinds.End ∷ rs) = subticks_of_heads rs
+
+-- the subticks of the events that were put, at the levels of their heads
+abbrev pub subticks_put : RecordLog → ℕ
+subticks_put [] = 0
+subticks_put (put r ∷ k) = subticks_put k + cond (is_event r) (2 ^ level_in k) 0
+subticks_put (full r ∷ k) = subticks_put k
+
+-- those of the event that was handed back, if the record that was tried last is one
+abbrev pub subticks_held : RecordLog → ℕ
+subticks_held k = cond (is_held k) (2 ^ level_in k) 0
+
 -- ---- what a pulse has in hand between two tries
 
 -- A record that is put next: a head of this level, or an event that was tried before, at this level.
@@ -55,3 +75,14 @@ IsHeldAt kinds.End level k = Unit {0}
 abbrev pub AreLeftAt : Option Record → (left level : ℕ) → RecordLog → Type 0
 AreLeftAt None left level k = 0 < left → (is_held k ≡ false) × (level_in k ≡ level)
 AreLeftAt (Some r) left level k = IsHeldAt r level k
+
+-- whether an event is in hand
+abbrev pub has_event : Option Record → Bool
+has_event None = false
+has_event (Some r) = is_event r
+
+-- No event is lost: one that was handed back is in hand, and the subticks that were handed out are those of the events that were put,
+-- and of that one.
+pub record LosesNone (hand : Option Record) (k : RecordLog) : Type 0 where
+  pub held : is_held k ≡ has_event hand
+  pub sum : subticks_in k ≡ subticks_put k + subticks_held k

@@ -6,11 +6,11 @@ use Rattle.step_line.specs.declared.Piece.TheVariants as pieces
 use Rattle.step_line.specs.declared.Record.{Record}
 use Rattle.step_line.specs.Tracing.{Trace}
 use Rattle.step_line.specs.Logs.{NewestFirst}
-use Rattle.pulse_engine.specs.Logs.{PieceLog, RecordLog, got_since}
+use Rattle.pulse_engine.specs.Logs.{PieceLog, RecordLog, got_since, halts_of}
 use Rattle.pulse_engine.specs.Steps.{Pulsing, pulsing}
 use Rattle.pulse_engine.specs.Turns.{PulseFits}
 use Rattle.smooth_step.specs.Subticks.{level_of, subticks_of}
-use Rattle.smooth_step.specs.Counts.{AreLeftAt, subticks_in}
+use Rattle.smooth_step.specs.Counts.{AreLeftAt, LosesNone, subticks_in}
 
 -- what callers see of it: the record that is put next, which is made already; the move that is traced, with the number of its
 -- events that are made, and so have their subticks handed out; how many of its events are to be made; whether a tick was put and
@@ -34,11 +34,12 @@ HasLevel (pieces.Segment s ∷ before) level = level ≡ level_of s.cycles
 HasLevel (pieces.Mark m ∷ before) level = Unit {0}
 HasLevel (pieces.End ∷ before) level = Unit {0}
 
--- a pulse that has done this
+-- a pulse that has done this; no event is lost while it was not halted
 pub record SmoothFits (p : SmoothPulsing) (h : PieceLog) (k : RecordLog) : Type 0 where
   pub pulse : PulseFits (pulse_of p) h k
   pub level : HasLevel (got_since h) p.level
   pub left : AreLeftAt p.hand p.left p.level k
+  pub whole : halts_of h ≡ [] → LosesNone p.hand k
 
 -- the move that is traced at the beginning of a piece, and the level there
 abbrev pub begun : Trace → Piece → Trace

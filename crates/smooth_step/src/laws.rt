@@ -4,6 +4,9 @@ ghost use Rattle.std.specs.Prelude.{◌≡◌, ℕ, ◌+◌, ◌*◌, ◌^◌, �
 ghost use Rattle.units.specs.declared.Move.{Move};
 ghost use Rattle.units.specs.Counting.{count, events_of};
 ghost use Rattle.step_line.specs.Events.{event_of, events_after};
+ghost use Rattle.pulse_engine.specs.Logs.{PieceLog, RecordLog, halts_of, records_put};
+ghost use Rattle.smooth_step.specs.Counts.{subticks_in, subticks_of_heads};
+ghost use Rattle.smooth_step.specs.Pulses.{SmoothPulsing, SmoothFits, pulse_of};
 ghost use Rattle.smooth_step.specs.Subticks.{fine, part_of, width_of, subticks_of, smoothed, IsParted, AreParted};
 
 /// An event has 2 to the power of its level many subticks, and each steps what the fine count does in its part of the
@@ -22,4 +25,10 @@ pub fn subticks_part_events()
     ensures event { (m : Move) (level k : ℕ) → level ≤ 3 → IsParted (event_of m (k + 1)) (subticks_of m level (k + 1)) }
     ensures events { (m : Move) (k : ℕ) (levels : List ℕ) → All (λ level. level ≤ 3) levels →
         AreParted (events_after m k (length levels)) (smoothed m k levels) }
+{}
+
+/// Where a pulse was not halted and has nothing to put, between two pieces or once the end was put, it has handed out the subticks of
+/// the heads that it has put: for a head of n events n times 2 to the power of its level.
+pub fn subticks_are_those_of_heads()
+    ensures { (p : SmoothPulsing) (h : PieceLog) (k : RecordLog) → SmoothFits p h k → halts_of h ≡ [] → (pulse_of p).waiting ≡ [] → subticks_in k ≡ subticks_of_heads (records_put k) }
 {}

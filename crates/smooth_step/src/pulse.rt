@@ -1,13 +1,13 @@
 //! The pulse that hands out subticks.
 
-ghost use Rattle.std.specs.Prelude.{◌≡◌, ℕ, ◌+◌, ◌≤◌, ◌<◌, ◌∷◌};
+ghost use Rattle.std.specs.Prelude.{◌≡◌, ℕ, ◌+◌, ◌≤◌, ◌<◌, ◌∷◌, false};
 ghost use Rattle.step_line.specs.Counting.{events_of};
 ghost use Rattle.step_line.specs.Events.{IsEvent};
 ghost use Rattle.step_line.specs.Pieces.{records_of};
 ghost use Rattle.step_line.specs.declared.Record.TheVariants.{Event};
 ghost use Rattle.pulse_engine.specs.Logs.{RecordLog};
 ghost use Rattle.pulse_engine.specs.Steps.{IsFirst, KeepsPulse, MayBegin, coming, gone, reached_after};
-ghost use Rattle.smooth_step.specs.Counts.{IsHeldAt};
+ghost use Rattle.smooth_step.specs.Counts.{IsHeldAt, is_event};
 ghost use Rattle.smooth_step.specs.Pulses.{begun, level_behind};
 
 use crate::pins::hand_out;
@@ -83,6 +83,7 @@ fn begin(piece: &Piece, tracer: &mut Tracer, left: &mut u32) -> Record
     ensures waiting { result ∷ coming tracer.new left.new ≡ records_of piece.now }
     ensures reached { gone tracer.new left.new ≡ reached_after tracer.old piece.now }
     ensures first { IsFirst result left.new }
+    ensures kind { is_event result ≡ false }
     ensures begun { tracer.new ≡ begun tracer.old piece.now }
     ensures held { (level : ℕ) (k : RecordLog) → IsHeldAt result (level_behind level piece.now) k }
     ensures within { tracer.new.done + left.new ≤ events_of tracer.new.mv }

@@ -3,7 +3,7 @@ use Rattle.outside.specs.declared.Turn.TheVariants.{Did, Done}
 use Rattle.pulse_engine.specs.Logs.PieceEvent.{asked, ticked, halted}
 use Rattle.pulse_engine.specs.Turns.{PulseTurned}
 use Rattle.smooth_step.specs.Pulses.{SmoothPulsing, pulse_of, HasLevel, handed}
-use Rattle.smooth_step.proofs.Pulsed.{smooth_asked, left_seen, none_handed, none_made}
+use Rattle.smooth_step.proofs.Pulsed.{smooth_asked, left_seen, none_handed, none_made, none_lost_seen}
 use Rattle.pulse_engine.specs.Logs.{got_since}
 use Rattle.pulse_engine.proofs.Moves.{seen, by_answer, worked, has_tick, fits_asked, fits_ticked, all_counted}
 use Rattle.smooth_step.proofs.pulse.SmoothPulse.turn.Goals as goal
@@ -35,7 +35,7 @@ returns-then-self-2-clause-logs g c rest back h k stands out fits =
       k,
       c.tick_done.ensures rest (asked b ∷ h) asks (has_tick p (asked b ∷ h) k owes fits'),
       out,
-      record { pulse = fits_ticked p _ (asked b ∷ h) k owes (sym was.0) refl (sym was.2) (sym was.3) fits'; level = subst (HasLevel (got_since h)) (sym (ap (λ (s : SmoothPulsing). s.level) c.self.view_is)) fits.level; left = left_seen _ _ k c.self.view_is fits.left },
+      record { pulse = fits_ticked p _ (asked b ∷ h) k owes (sym was.0) refl (sym was.2) (sym was.3) fits'; level = subst (HasLevel (got_since h)) (sym (ap (λ (s : SmoothPulsing). s.level) c.self.view_is)) fits.level; left = left_seen _ _ k c.self.view_is fits.left; whole = λ unhalted. none_lost_seen _ _ i.hand k c.self.view_is refl (fits.whole unhalted) },
       inr (inl (b, refl, refl)),
       none_made c.args.self.now.level c.args.self.now.traced i.tracer k k (ap (λ (s : SmoothPulsing). s.traced.done) c.self.view_is) refl,
     )

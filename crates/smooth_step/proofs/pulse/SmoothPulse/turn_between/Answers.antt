@@ -2,7 +2,7 @@ use Rattle.std.proofs.Common.{◌∷◌, ◌∙◌, inl, refl, sym, ap, subst}
 use Rattle.pulse_engine.specs.Logs.PieceEvent.{got}
 use Rattle.smooth_step.specs.Counts.{IsHeldAt}
 use Rattle.smooth_step.specs.Pulses.{pulse_of}
-use Rattle.smooth_step.proofs.Pulsed.{level_got}
+use Rattle.smooth_step.proofs.Pulsed.{level_got, none_lost_between, none_lost_seen}
 use Rattle.pulse_engine.specs.Logs.{got_since}
 use Rattle.pulse_engine.proofs.Moves.{seen, hand_is_empty, gone_none, may_get, fits_got}
 use Rattle.smooth_step.proofs.pulse.SmoothPulse.turn_between.Goals as goal
@@ -25,6 +25,7 @@ returns-clause-logs g c rest h k stands fits =
             now.waiting (sym was.1 ∙ owes) (sym was.2 ∙ over) now.reached (c.in-Some.ensures.next rest h stands (may_get p h k waits owes fits.pulse)) fits.pulse;
         level = level_got x (got_since h) i.level _ c.follow.ensures.level;
         left = subst (λ level. IsHeldAt c.begin.result level k) (sym c.follow.ensures.level) (c.begin.ensures.held i.level k);
+        whole = λ unhalted. none_lost_between c.begin.result k now.kind (none_lost_seen _ _ _ k c.self.view_is empty.0 (fits.whole unhalted));
       },
       inl (x, refl, refl),
     )

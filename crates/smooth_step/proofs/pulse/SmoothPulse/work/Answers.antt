@@ -4,9 +4,9 @@ use Rattle.step_line.specs.declared.Record.TheVariants.{Event}
 use Rattle.step_line.specs.Tracing.{Trace}
 use Rattle.pulse_engine.specs.Logs.RecordEvent.{put, full}
 use Rattle.pulse_engine.specs.Steps.{IsFirst, coming, gone}
-use Rattle.smooth_step.specs.Counts.{IsHeldAt, AreLeftAt, is_held, level_in}
+use Rattle.smooth_step.specs.Counts.{IsHeldAt, AreLeftAt, LosesNone, is_held, level_in}
 use Rattle.smooth_step.specs.Pulses.{SmoothPulsing, pulse_of, HasLevel, handed}
-use Rattle.smooth_step.proofs.Pulsed.{left_seen, left_behind, held_back, none_made, none_handed, tried_again, one_made, same_pulse, fits_full}
+use Rattle.smooth_step.proofs.Pulsed.{left_seen, left_behind, held_back, none_made, none_handed, tried_again, one_made, same_pulse, fits_full, none_lost, none_lost_again, made_put, made_held, none_lost_seen}
 use Rattle.pulse_engine.specs.Logs.{got_since}
 use Rattle.pulse_engine.proofs.Moves.{seen, nothing_waits, none_after, not_over, fits_put}
 use Rattle.smooth_step.proofs.pulse.SmoothPulse.work.Goals as goal
@@ -28,6 +28,7 @@ returns-in-Some-clause-logs g c rest back h k stands out fits =
             refl c.is_tick-self-inside.ensures c.is_end-self-inside.ensures refl (none_after r i.tracer i.left first) fits.pulse;
         level = subst (HasLevel (got_since h)) (sym (ap (λ (s : SmoothPulsing). s.level) c.self.view_is)) fits.level;
         left = left_behind r i.left i.level k first held;
+        whole = λ unhalted. none_lost r i.level k held (none_lost_seen _ _ _ k c.self.view_is c.in-Some.is (fits.whole unhalted));
       },
       inr (r, refl, refl),
       none_made c.args.self.now.level c.args.self.now.traced i.tracer k (put r ∷ k) (ap (λ (s : SmoothPulsing). s.traced.done) c.self.view_is) (tried_again r i.level k held),
@@ -67,6 +68,7 @@ returns-in-Ok-put-clause-logs g c rest back h k stands out fits =
             (ap (λ o. option_to_list o ++ coming t n) c.in_default.is) refl (not_over i.over c.self.invariant.0.last c.if-self-eq0.false) now.reached (λ e. absurd cc) fits.pulse;
         level = subst (HasLevel (got_since h)) (sym (ap (λ (s : SmoothPulsing). s.level) c.self.view_is)) fits.level;
         left = subst (λ o. AreLeftAt o n i.level (put r ∷ k)) (sym c.in_default.is) (λ some. (refl, new.1));
+        whole = λ unhalted. subst (λ o. LosesNone o (put r ∷ k)) (sym c.in_default.is) (made_put c.next_event-event.result k (none_lost_seen _ _ _ k c.self.view_is c.in_default.is (fits.whole unhalted)));
       },
       inr (r, refl, refl),
       one_made c.args.self.now.level c.args.self.now.traced t k c.next_event-event.result (ap (λ (t : Trace). t.done) now.one_more ∙ ap (λ (s : SmoothPulsing). s.traced.done + 1) c.self.view_is) (new.0, new.1 ∙ ap (λ (s : SmoothPulsing). s.level) c.self.view_is),
@@ -86,6 +88,7 @@ returns-in_default-put-clause-logs g c rest back h k stands out fits =
         pulse = fits_full (pulse_of p) (pulse_of p) h k r refl fits.pulse;
         level = fits.level;
         left = subst (λ o. AreLeftAt o p.left p.level (full r ∷ k)) (sym is) (held_back r p.level k held);
+        whole = λ unhalted. subst (λ o. LosesNone o (full r ∷ k)) (sym is) (none_lost_again r p.level k held (subst (λ o. LosesNone o k) is (fits.whole unhalted)));
       },
       (r, refl, refl),
       none_made p.level p.traced p.traced k (full r ∷ k) refl (tried_again r p.level k held),
@@ -108,6 +111,8 @@ returns-in-Err-clause-logs g c rest back h k stands out fits =
         pulse = fits_full (pulse_of c.args.self.now) _ h k r (same_pulse i.hand (Some c.in-Err.record) i.tracer t i.left n i.owes i.over (ap (λ r. r ∷ coming t n) c.in-Err.ensures.back ∙ now.waiting ∙ sym empty) now.reached ∙ ap pulse_of c.self.view_is) fits.pulse;
         level = subst (HasLevel (got_since h)) (sym (ap (λ (s : SmoothPulsing). s.level) c.self.view_is)) fits.level;
         left = subst (λ r. IsHeldAt r i.level (full (Event c.next_event-event.result) ∷ k)) (sym c.in-Err.ensures.back) (refl, new.1);
+        whole = λ unhalted. subst (λ r. LosesNone (Some r) (full (Event c.next_event-event.result) ∷ k)) (sym c.in-Err.ensures.back)
+            (made_held c.next_event-event.result k (none_lost_seen _ _ _ k c.self.view_is c.in_default.is (fits.whole unhalted)));
       },
       (r, refl, refl),
       one_made c.args.self.now.level c.args.self.now.traced t k c.next_event-event.result (ap (λ (t : Trace). t.done) now.one_more ∙ ap (λ (s : SmoothPulsing). s.traced.done + 1) c.self.view_is) (new.0, new.1 ∙ ap (λ (s : SmoothPulsing). s.level) c.self.view_is),
