@@ -13,7 +13,7 @@ pulse_fits : (p : Pulsing) (h : PieceLog) (k : RecordLog) → PulseFits p h k �
 pulse_fits p h k f = record { turns = f.turns; records = f.records; waits = f.waits; ticks = f.ticks; left = f.left; reach = f.reach; end = f.end; last = f.last }
 
 smooth_fits : (p : SmoothPulsing) (h : PieceLog) (k : RecordLog) → SmoothFits p h k → SmoothFits p (none ∷ (asked false ∷ h)) k
-smooth_fits p h k f = record { pulse = pulse_fits (pulse_of p) h k f.pulse; level = f.level; left = f.left }
+smooth_fits p h k f = record { pulse = pulse_fits (pulse_of p) h k f.pulse; level = f.level; left = f.left; whole = f.whole }
 
 steps_fit : (p : MotionPulse) (h : PieceLog) (k : RecordLog) → StepsFit p h k → StepsFit p (none ∷ (asked false ∷ h)) k
 steps_fit (Plain p) h k f = tt

@@ -1,9 +1,10 @@
 -- What callers see of the pulse of a run, and what it has done.
-use Rattle.std.specs.Prelude.{◌≡◌, ℕ, ◌-◌, ◌^◌, min}
+use Rattle.std.specs.Prelude.{◌≡◌, ℕ, ◌-◌, ◌^◌, min, List}
+use Rattle.step_line.specs.declared.Record.{Record}
 use Rattle.pulse_engine.specs.Logs.{PieceLog, RecordLog}
 use Rattle.pulse_engine.specs.Steps.{Pulsing}
 use Rattle.pulse_engine.specs.Turns.{PulseFits}
-use Rattle.smooth_step.specs.Counts.{subticks_in}
+use Rattle.smooth_step.specs.Counts.{subticks_in, subticks_of_heads}
 use Rattle.smooth_step.specs.Pulses.{pulse_of, SmoothFits}
 use Rattle.motion_pulse.specs.declared.pulse.MotionPulse.{MotionPulse}
 use Rattle.motion_pulse.specs.declared.pulse.MotionPulse.TheVariants.{Plain, Smooth}
@@ -28,6 +29,11 @@ capped n = min n (2 ^ 64 - 1)
 abbrev pub pins_of : Stepping → RecordLog → ℕ
 pins_of Events k = 0
 pins_of Subticks k = capped (subticks_in k)
+
+-- how many one of this kind has handed out for records that were all put, with the events of each head behind it
+abbrev pub pins_by_heads : Stepping → List Record → ℕ
+pins_by_heads Events records = 0
+pins_by_heads Subticks records = capped (subticks_of_heads records)
 
 -- what one that hands out subticks has besides
 abbrev pub StepsFit : MotionPulse → PieceLog → RecordLog → Type 0

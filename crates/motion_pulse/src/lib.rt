@@ -3,7 +3,9 @@
 #![tactic(auto)]
 
 mod counted;
+mod laws;
 mod pulse;
 
 pub use counted::Counted;
+pub use laws::pins_are_those_of_heads;
 pub use pulse::{MotionPulse, Stepping};
