@@ -20,7 +20,7 @@ use Rattle.step_record.specs.declared.forms.Form.{Form}
 use Rattle.stream_host.specs.Ran.{HostEnd}
 use Rattle.epoch_courses.specs.Told.{without_byes}
 use Rattle.epoch_records.specs.Stretches.{pieces_of_all}
-use Rattle.epoch_law.specs.Joined.{AreConnected, ArePassed, ArePassedSome}
+use Rattle.epoch_law.specs.Joined.{AreConnected, ArePassed, ArePassedSome, HasHaltedFor}
 use Rattle.epoch_law.specs.Ran.{HostDid, HasSent, BoardDid, BoardRan, PulseDid, PulseRan}
 use Rattle.epoch_law.specs.Runs.{IsRun}
 use Rattle.epoch_law.proofs.Ending.{all_ended, one_end}
@@ -81,5 +81,5 @@ module _ (room blocks : ℕ) (form : Form) (job_was job_is : SourceState) (was i
   same_records =
       records_whole p.put records (all_ended (parts_of board.course) origin p.put (one_end board.course) (put_recorded blocks b p board pulse all_passed)) recorder.ended (as_front p.put records some_records)
 
-  pub run_ended : (run : IsRun room blocks form job_was job_is was is (run_end end steps_failed)) × (run.scanned ≡ host.ran.scanned) × (run.replies ≡ h.got)
+  pub run_ended : (run : IsRun room blocks form job_was job_is was is (run_end end steps_failed)) × (run.scanned ≡ host.ran.scanned) × (run.replies ≡ h.got) × (run.records ≡ p.put) × HasHaltedFor run.epochs p
   run_ended = run_made room blocks form job_was job_is was is end steps_failed h b p records host board pulse recorder connected all_passed some_replies same_replies same_records

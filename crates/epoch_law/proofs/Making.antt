@@ -19,13 +19,15 @@ use Rattle.status_report.specs.Answering.{answers_in, without_reports}
 use Rattle.status_report.specs.declared.Reply.{Reply}
 use Rattle.status_report.specs.declared.Reply.TheVariants.{Banner, Bye}
 use Rattle.status_report.proofs.Answered.{answers_on}
+use Rattle.step_line.specs.Logs.{NewestFirst}
 use Rattle.step_line.specs.declared.Record.{Record}
 use Rattle.step_record.specs.declared.forms.Form.{Form}
 use Rattle.step_record.specs.Forms.{text_in}
 use Rattle.stream_host.specs.Ran.{HostEnd, is_sent_out}
 use Rattle.epoch_effects.proofs.Once.{course_answers}
 use Rattle.epoch_links.specs.Pieces.{items_in}
-use Rattle.epoch_law.specs.Joined.{AreConnected, ArePassed}
+use Rattle.epoch_records.specs.Publishing.{AreSameHalts}
+use Rattle.epoch_law.specs.Joined.{AreConnected, ArePassed, HasHaltedFor}
 use Rattle.epoch_law.specs.Ran.{HostDid, HasSent, BoardDid, BoardRan, PulseDid, PulseRan}
 use Rattle.epoch_law.specs.Runs.{IsToldAndAnswered, IsRunAndRecorded, HasEffects, HasCauses, HasEnded, IsScannedAndSent, IsRun}
 use Rattle.epoch_law.proofs.Causing.{causes_with_more, drops_with_more}
@@ -136,7 +138,7 @@ module _ (room blocks : ℕ) (form : Form) (job_was job_is : SourceState) (was i
     source_same = host.ran.source_same;
   }
 
-  pub run_made : (run : IsRun room blocks form job_was job_is was is (run_end end steps_failed)) × (run.scanned ≡ host.ran.scanned) × (run.replies ≡ h.got)
+  pub run_made : (run : IsRun room blocks form job_was job_is was is (run_end end steps_failed)) × (run.scanned ≡ host.ran.scanned) × (run.replies ≡ h.got) × (run.records ≡ p.put) × HasHaltedFor run.epochs p
   run_made = (
     record {
       read = host.ran.read;
@@ -159,4 +161,6 @@ module _ (room blocks : ℕ) (form : Form) (job_was job_is : SourceState) (was i
     },
     refl,
     refl,
+    refl,
+    subst (λ (halts : NewestFirst (ℕ × ℕ)). AreSameHalts halts p.halts) board.halts_are passed.halts,
   )

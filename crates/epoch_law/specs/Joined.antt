@@ -1,11 +1,12 @@
 -- How what the actors have done goes together.
-use Rattle.std.specs.Prelude.{◌≡◌, ◌⊎◌, ℕ, ◌+◌, ◌≤◌, true, List, ◌∷◌, ◌++◌, length}
+use Rattle.std.specs.Prelude.{◌≡◌, ◌⊎◌, ℕ, ◌+◌, ◌≤◌, true, List, ◌∷◌, ◌++◌, length, reverse}
 use Rattle.std.specs.List.{AllByRecursion}
 use Rattle.run_rules.specs.Lines.{ended}
 use Rattle.epoch_links.specs.Drops.{lines_among}
 use Rattle.epoch_links.specs.Links.{AreLinked}
 use Rattle.epoch_links.specs.Pieces.{joined}
-use Rattle.epoch_records.specs.Publishing.{AreSameHalts, but_none}
+use Rattle.epoch_records.specs.Epochs.{Epoch}
+use Rattle.epoch_records.specs.Publishing.{AreSameHalts, but_none, halts_in}
 use Rattle.epoch_records.specs.SoFar.{HaltsUnseen}
 use Rattle.epoch_runs.specs.Epochs.{halts_seen}
 use Rattle.motion_ring.specs.Sides.{published_in, ticks_published}
@@ -29,6 +30,10 @@ pub record AreRaisedFor (raised : List ℕ) (w : WordsTaken) : Type 0 where
 pub record ArePassed (b : BoardDid) (p : PulseDid) : Type 0 where
   pub pieces : p.got ≡ b.published
   pub halts : AreSameHalts b.halts p.halts
+
+-- A pulse has halted where these epochs end, but the last: a run of one epoch has no halt.
+abbrev pub HasHaltedFor : List Epoch → PulseDid → Type 0
+HasHaltedFor epochs p = AreSameHalts (reverse (halts_in 0 0 epochs)) p.halts
 
 -- Host and board by their link and the flags: what goes over the link goes together; what was taken of flags was raised; and the lines that
 -- each reset leaves without an answer take no more bytes than the link has room for, each with its LF. If the Banner of each was got,

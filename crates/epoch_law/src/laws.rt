@@ -34,7 +34,7 @@ ghost use Rattle.epoch_courses.specs.Told.{without_byes};
 ghost use Rattle.epoch_effects.specs.Words.{words_taken};
 ghost use Rattle.epoch_links.specs.Drops.{AreAnsweredOver};
 ghost use Rattle.epoch_links.specs.Links.{AreLinkedOver};
-ghost use Rattle.epoch_law.specs.Joined.{AreConnected, ArePassed, ArePassedSome, ArePassedSoFar, ArePiecesPassed, AreRaisedFor};
+ghost use Rattle.epoch_law.specs.Joined.{AreConnected, ArePassed, ArePassedSome, ArePassedSoFar, ArePiecesPassed, AreRaisedFor, HasHaltedFor};
 ghost use Rattle.epoch_law.specs.Journals.{host_did, board_did, pulse_did};
 ghost use Rattle.epoch_law.specs.Ran.{HostDid, HasSent, BoardDid, BoardRan, PulseDid, PulseRan};
 ghost use Rattle.epoch_law.specs.Runs.{IsRun};
@@ -50,12 +50,13 @@ pub fn actors_make_texts_that_fit()
 {}
 
 /// So a host, a board, a pulse and a recorder that ran to their ends make a run of the job, if each has got what the other gave: what was
-/// scanned is what the host has scanned, and the replies are those that it got.
+/// scanned is what the host has scanned, the replies are those that it got, and the records are those that the pulse has put, which has
+/// halted where the epochs of the run end.
 pub fn actors_make_a_run()
     ensures { (room blocks : ℕ) (form : Form) (job_was job_is : SourceState) (was is : Sinks) (end : HostEnd) (steps_failed : Bool) (h : HostDid) (b : BoardDid) (p : PulseDid) (records : List AnyRecord) →
         (host : HasSent room job_was job_is was.console is.console h end) → BoardRan blocks b → PulseRan p → RecorderRan form was.steps is.steps records steps_failed →
         AreConnected room h b → ArePassed b p → h.got ≡ b.answered → records ≡ p.put →
-        (run : IsRun room blocks form job_was job_is was is (run_end end steps_failed)) × (run.scanned ≡ host.ran.scanned) × (run.replies ≡ h.got) }
+        (run : IsRun room blocks form job_was job_is was is (run_end end steps_failed)) × (run.scanned ≡ host.ran.scanned) × (run.replies ≡ h.got) × (run.records ≡ p.put) × HasHaltedFor run.epochs p }
 {}
 
 /// For that it is enough that each has got a front of what the other gave: nothing waits behind Bye but reports, nor behind the end.
@@ -63,7 +64,7 @@ pub fn actors_that_end_make_a_run()
     ensures { (room blocks : ℕ) (form : Form) (job_was job_is : SourceState) (was is : Sinks) (end : HostEnd) (steps_failed : Bool) (h : HostDid) (b : BoardDid) (p : PulseDid) (records : List AnyRecord) →
         (host : HasSent room job_was job_is was.console is.console h end) → BoardRan blocks b → PulseRan p → RecorderRan form was.steps is.steps records steps_failed →
         AreConnected room h b → ArePassedSome b p → BeginsWith b.answered h.got → BeginsWith p.put records →
-        (run : IsRun room blocks form job_was job_is was is (run_end end steps_failed)) × (run.scanned ≡ host.ran.scanned) × (run.replies ≡ h.got) }
+        (run : IsRun room blocks form job_was job_is was is (run_end end steps_failed)) × (run.scanned ≡ host.ran.scanned) × (run.replies ≡ h.got) × (run.records ≡ p.put) × HasHaltedFor run.epochs p }
 {}
 
 /// The two ends of a link that are linked are connected, if what was taken of words of flags was raised: what each reset drops is few.
