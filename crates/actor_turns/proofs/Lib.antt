@@ -1,5 +1,6 @@
 pub mod Arms
 pub mod Beginning
+pub mod Counted
 pub mod Schedules
 pub mod Ending
 pub mod Resting

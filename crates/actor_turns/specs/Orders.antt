@@ -1,8 +1,9 @@
 -- A run of a job in an order of turns.
-use Rattle.std.specs.Prelude.{◌≡◌, ℕ, ◌-◌}
+use Rattle.std.specs.Prelude.{◌≡◌, ℕ, ◌-◌, length}
 use Rattle.step_record.specs.declared.forms.Form.{Form}
 use Rattle.run_law.specs.declared.RunEnd.{RunEnd}
 use Rattle.motion_pulse.specs.declared.pulse.Stepping.{Stepping}
+use Rattle.motion_pulse.specs.Pulses.{pins_by_heads}
 use Rattle.actor_turns.specs.Worlds.{Seen, History, Devices, Holds, Stands, AreDone, HasRunAlone, no_history, pins_in, end_after}
 use Rattle.actor_turns.specs.Lockstep.{RunsInOrder}
 use Rattle.actor_turns.specs.Pacing.{RunsPaced}
@@ -28,7 +29,8 @@ IsLockstepRun room slots form stepping seed was now end = IsRunBy room slots for
 abbrev pub IsPacedRun : (room slots : ℕ) → Form → Stepping → Devices → Devices → RunEnd → Type 0
 IsPacedRun room slots form stepping was now end = IsRunBy room slots form stepping (RunsPaced was now) was now end
 
--- in the order that a seed gives, and so many subticks were handed out
+-- In the order that a seed gives, and so many subticks were handed out: where no reset ends an epoch, those of the heads of the records.
 pub record IsCountedRun (room slots : ℕ) (form : Form) (stepping : Stepping) (seed : ℕ) (was now : Devices) (end : RunEnd) (pins : ℕ) : Type 0 where
   pub runs : IsLockstepRun room slots form stepping seed was now end
   pub pins_are : (hist : History) → Holds runs.last hist → pins ≡ pins_in hist
+  pub counted : length runs.run.run.epochs ≡ 1 → pins ≡ pins_by_heads stepping runs.run.run.records

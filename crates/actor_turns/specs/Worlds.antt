@@ -29,7 +29,7 @@ use Rattle.pulse_engine.specs.Steps.{AwaitsPiece}
 use Rattle.pulse_engine.specs.Turns.{PulseTurned}
 use Rattle.motion_pulse.specs.declared.pulse.MotionPulse.{MotionPulse}
 use Rattle.motion_pulse.specs.declared.pulse.Stepping.{Stepping}
-use Rattle.motion_pulse.specs.Pulses.{MotionFits, pins_of, seen_of, stepping_of}
+use Rattle.motion_pulse.specs.Pulses.{MotionFits, pins_of, pins_by_heads, seen_of, stepping_of}
 use Rattle.step_record.specs.Taking.{Log, records}
 use Rattle.step_record.specs.declared.forms.Form.{Form}
 use Rattle.step_record.specs.Recording.{Recording, RecorderFits, RecorderTurned, Rests, Takes}
@@ -218,6 +218,12 @@ end_after w hist = run_end (end_of hist.host) w.recorder.writer.failed
 pub record HasRunAlone (room blocks : ℕ) (form : Form) (was now : Devices) (end : RunEnd) : Type 0 where
   pub run : HasRun room blocks form was now end
   pub reports : ReportsPerLine (lines_of run.scanned) run.replies
+
+-- That, by a pulse of this kind, which has handed out so many subticks in all. Where no reset ends an epoch, they are those of the heads
+-- of the records.
+pub record HasRunCounted (room blocks : ℕ) (form : Form) (was now : Devices) (end : RunEnd) (stepping : Stepping) (pins : ℕ) : Type 0 where
+  pub alone : HasRunAlone room blocks form was now end
+  pub counted : length alone.run.epochs ≡ 1 → pins ≡ pins_by_heads stepping alone.run.records
 
 -- ---- its reports, line by line
 

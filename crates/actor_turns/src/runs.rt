@@ -2,7 +2,7 @@
 
 ghost use Rattle.serial_ring.specs.Lists.{IsRoom};
 ghost use Rattle.std.specs.Prelude.{◌≡◌, ◌≤◌, ◌-◌, IfOk, OnErr};
-ghost use Rattle.actor_turns.specs.Worlds.{History, Holds, Stands, AreDone, Devices, devices, HasRun, HasRunAlone, end_after, pins_in};
+ghost use Rattle.actor_turns.specs.Worlds.{History, Holds, Stands, AreDone, Devices, devices, HasRun, HasRunAlone, HasRunCounted, end_after, pins_in};
 ghost use Rattle.step_record.specs.declared.forms.Form.{Form};
 ghost use Rattle.actor_turns.specs.Orders.{IsCountedRun, IsLockstepRun, IsPacedRun};
 
@@ -28,6 +28,7 @@ fn end_of<const RX: usize, const N: usize>(world: World<RX, N>) -> CountedEnd
     ensures pins { (hist : History) → Holds world.entry hist → result.pins ≡ pins_in hist }
     ensures whole { (form : Form) (was now : Devices) (hist : History) → Stands form was now world.entry hist → AreDone world.entry → HasRun RX (N - 1) form was now result.end }
     ensures alone { (form : Form) (was now : Devices) (hist : History) → Stands form was now world.entry hist → AreDone world.entry → HasRunAlone RX (N - 1) form was now result.end }
+    ensures counted { (form : Form) (was now : Devices) (hist : History) → Stands form was now world.entry hist → AreDone world.entry → HasRunCounted RX (N - 1) form was now result.end hist.stepping result.pins }
 {
     CountedEnd {
         end: world.end(),

@@ -11,7 +11,7 @@ ghost use Rattle.pulse_engine.specs.Steps.{AwaitsPiece};
 ghost use Rattle.motion_pulse.specs.Pulses.{seen_of};
 ghost use Rattle.motion_pulse.specs.declared.pulse.Stepping.TheVariants.{Events, Subticks};
 ghost use Rattle.motion_pulse.specs.declared.pulse.Stepping.{Stepping};
-ghost use Rattle.actor_turns.specs.Worlds.{Devices, devices, History, no_history, pins_in, Holds, Stands, LinkIsKept, FlagsAreKept, MotionIsKept, TurnsOn, ActsAlone, IsDone, AreDone, OffersNothing, MotionRests, end_after, HasRun, HasRunAlone};
+ghost use Rattle.actor_turns.specs.Worlds.{Devices, devices, History, no_history, pins_in, Holds, Stands, LinkIsKept, FlagsAreKept, MotionIsKept, TurnsOn, ActsAlone, IsDone, AreDone, OffersNothing, MotionRests, end_after, HasRun, HasRunAlone, HasRunCounted};
 ghost use Rattle.actor_turns.specs.Lockstep.{number_of};
 
 use crate::worlds_run;
@@ -222,11 +222,12 @@ impl<const RX: usize, const N: usize> World<RX, N> {
 
     /// How the run ends: why no more of the job was sent, what was answered, and which devices have failed. Where all four
     /// actors are done, a run of the job was done since the world was new, and this is its end; each line of it has at most as many
-    /// reports as it has `?`.
+    /// reports as it has `?`; and where no reset ends an epoch, the subticks that were handed out are those of the heads of its records.
     pub fn end(&self) -> RunEnd
         ensures tells { (hist : History) → Holds self.now hist → result ≡ end_after self.now hist }
         ensures whole { (form : Form) (was now : Devices) (hist : History) → Stands form was now self.now hist → AreDone self.now → HasRun RX (N - 1) form was now result }
         ensures alone { (form : Form) (was now : Devices) (hist : History) → Stands form was now self.now hist → AreDone self.now → HasRunAlone RX (N - 1) form was now result }
+        ensures counted { (form : Form) (was now : Devices) (hist : History) → Stands form was now self.now hist → AreDone self.now → HasRunCounted RX (N - 1) form was now result hist.stepping (pins_in hist) }
     {
         worlds_run();
         RunEnd {

@@ -5,11 +5,12 @@ use Rattle.stream_host.specs.Ran.{end_of}
 use Rattle.stream_host.specs.Steps.{scanned_of}
 use Rattle.step_record.specs.Taking.{records}
 use Rattle.step_line.specs.Asking.{ticks_among}
-use Rattle.pulse_engine.specs.Logs.{records_put}
+use Rattle.pulse_engine.specs.Logs.{halts_of, records_put}
 use Rattle.motion_pulse.specs.Pulses.{seen_of}
 use Rattle.epoch_law.specs.Journals.{host_did, board_did, pulse_did}
 use Rattle.list_ports.specs.PerLine.{ReportsPerLine}
 use Rattle.actor_turns.specs.Worlds.{sinks}
+use Rattle.actor_turns.proofs.Counted.{counted_by_heads, one_unhalted}
 use Rattle.actor_turns.proofs.Reports.{world_reports}
 use Rattle.actor_turns.proofs.Running.{replies_front, records_front, pieces_passed, passed_some, connected, board_ran}
 use Rattle.actor_turns.proofs.laws.worlds_run.Goals as goal
@@ -29,8 +30,8 @@ returns-clause-so_far c N form was now w hist st =
     (c.recorders_have_run.ensures.so_far form w.recorder hist.takes was.steps now.steps st.wrote)
     (connected w hist kept.0 h kept.2) (rings.passed (N - 1) kept.0 hist.board (seen_of w.pulse) hist.pulse hist.puts kept.2 h.pulse.pulse ring) (replies_front w hist h) (records_front w hist h)
 
-pub returns-clause-alone : goal.returns-clause-alone
-returns-clause-alone c N form was now w hist st done =
+pub returns-clause-counted : goal.returns-clause-counted
+returns-clause-counted c N form was now w hist st done =
     let h = st.holds in
     let host = c.hosts_have_run.ensures in
     let kept = c.controllers_keep_to_epochs.ensures N w.board hist.board h.board in
@@ -44,10 +45,17 @@ returns-clause-alone c N form was now w hist st done =
     (c.recorders_have_run.ensures.whole form w.recorder hist.takes was.steps now.steps st.wrote done.recorder)
     (connected w hist kept.0 h kept.2) (passed_some w hist kept.0 h kept.2 over) (replies_front w hist h) (records_front w hist h) in
     record {
-      run = run.0;
-      reports = subst (λ (bytes : List ℕ). ReportsPerLine (lines_of bytes) run.0.replies) (sym (run.1 ∙ sent.1))
-          (subst (λ (rs : List Reply). ReportsPerLine (lines_of (scanned_of hist.host)) rs) (sym run.2) (world_reports w hist h));
+      alone = record {
+        run = run.0;
+        reports = subst (λ (bytes : List ℕ). ReportsPerLine (lines_of bytes) run.0.replies) (sym (run.1 ∙ sent.1))
+            (subst (λ (rs : List Reply). ReportsPerLine (lines_of (scanned_of hist.host)) rs) (sym run.2) (world_reports w hist h));
+      };
+      counted = λ one.
+          counted_by_heads w hist h (c.pins_are_those_of_heads.ensures w.pulse hist.pulse hist.puts h.pulse (one_unhalted run.0.epochs (halts_of hist.pulse) one run.4) (h.pulse.pulse.last done.pulse).0) run.0.records run.3;
     }
+
+pub returns-clause-alone : goal.returns-clause-alone
+returns-clause-alone c N form was now w hist st done = (returns-clause-counted c N form was now w hist st done).alone
 
 pub returns-clause-whole : goal.returns-clause-whole
 returns-clause-whole c N form was now w hist st done = (returns-clause-alone c N form was now w hist st done).run

@@ -26,3 +26,15 @@ returns-clause-alone g c = rw (sym c.self.view_is) (λ form was now hist st done
       c.console_failed.ensures _ hist.host f,
       c.failed.ensures,
     ) (c.worlds_run.ensures.alone _ form was now _ hist st done))
+
+pub returns-clause-counted : goal.returns-clause-counted
+returns-clause-counted g c = rw (sym c.self.view_is) (λ form was now hist st done.
+    let f = st.holds.host in
+    rw (
+      c.stop.ensures _ hist.host f,
+      c.answered.ensures _ hist.host f,
+      c.errors.ensures _ hist.host f,
+      failed_is c.source_failed.result (reading_of hist.host) (c.source_failed.ensures _ hist.host f),
+      c.console_failed.ensures _ hist.host f,
+      c.failed.ensures,
+    ) (c.worlds_run.ensures.counted _ form was now _ hist st done))
