@@ -148,7 +148,7 @@ pub fn run_grbl<
 
     // The demo runs the generated job, all of whose lines are accepted, in the order of its number, by a pulse of the kind that the
     // words name, and leaves the source as it is. The line on it tells how many subticks that pulse handed out, where it hands out
-    // some.
+    // some: the sum over the heads of the records, each n times 2 to the power of its level.
     ensures demo { (n : ℕ) (stepping : Stepping) → Asks (tasks.Demo n stepping) (map (λ w. w.now) words.now) → JobWasRun result →
         IsDemo n stepping (Co.state console.old) (Co.state console.new) (St.state steps.old) (St.state steps.new) result × (So.state job.new ≡ So.state job.old) }
     ensures demo_order { (n : ℕ) (stepping : Stepping) → Asks (tasks.Demo n stepping) (map (λ w. w.now) words.now) → JobWasRun result →

@@ -5,5 +5,6 @@ pub mod Halting
 pub mod Endings
 pub mod Accepted
 pub mod Demos
+pub mod Pins
 pub mod Scanning
 pub mod Statuses

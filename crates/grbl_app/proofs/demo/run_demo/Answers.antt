@@ -10,6 +10,7 @@ use Rattle.actor_turns.specs.Orders.{IsCountedRun}
 use Rattle.run_status.specs.Demos.{generated, keeps_nothing}
 use Rattle.run_status.proofs.Accepted.{runs_whole}
 use Rattle.run_status.proofs.Demos.{well_ended}
+use Rattle.run_status.proofs.Pins.{one, few, uncapped}
 use Rattle.grbl_app.proofs.demo.run_demo.Goals as goal
 
 errs : {A B : Type 0} (r : Result A B) → is_err r ≡ not (is_ok r)
@@ -18,12 +19,12 @@ errs (Err e) = refl
 
 pub returns-clause-run : goal.returns-clause-run
 returns-clause-run g c =
-    let ran = c.in_ok-counted.ensures.run in
     let end = c.in_ok-counted.counted.end in
     let left = c.count_in_lockstep.new.job in
-    let run = subst (λ (text : List ℕ). IsRun receive_room most_blocks One (generated text) (generated left)
-    (record { console = keeps_nothing; steps = g.St.Sink.state c.args.steps.now })
-    (record { console = keeps_nothing; steps = g.St.Sink.state c.count_in_lockstep.new.steps }) end) c.new-job.ensures ran in
+    let subticks = c.in_ok-counted.counted.pins in
+    let goes = subst (λ (text : List ℕ). IsCountedRun receive_room (most_blocks + 1) One c.args.stepping c.args.moves (devices (generated text) keeps_nothing (g.St.Sink.state c.args.steps.now))
+    (devices (generated left) keeps_nothing (g.St.Sink.state c.count_in_lockstep.new.steps)) end subticks) c.new-job.ensures c.in_ok-counted.ensures.order in
+    let run = goes.runs.run.run in
     let whole = runs_whole c.args.moves left _ _ end c.requires.moves.0 c.requires.moves.1 run in
     record {
       end = end;
@@ -34,7 +35,8 @@ returns-clause-run g c =
       uncut = whole.uncut;
       unchanged = whole.unchanged;
       asks = whole.asks;
-      subticks = c.in_ok-counted.counted.pins;
+      subticks = subticks;
+      counted = goes.counted (one c.args.moves c.requires.moves.1 _ _ _ _ end run whole) ∙ uncapped c.args.stepping run.records (few c.args.moves c.requires.moves.1 _ _ _ _ end run whole);
       console_failed = c.is_err-console_failed.result;
       console = rw (c.is_err-console_failed.ensures.value, errs c.tell_run.result) (c.tell_run.ensures whole.answered whole.errors);
       status_is = c.status_of.ensures ∙ well_ended end c.is_err-console_failed.result whole.read whole.stop whole.errors;
