@@ -5,6 +5,17 @@ const ROOM: usize = 4096;
 /// Text is written once less room than this is left.
 const RESERVE: usize = 192;
 
+/// The two digits of each number below 100.
+const PAIRS: [[u8; 2]; 100] = {
+    let mut pairs = [[0; 2]; 100];
+    let mut number = 0;
+    while number < 100 {
+        pairs[number] = [b'0' + (number / 10) as u8, b'0' + (number % 10) as u8];
+        number += 1;
+    }
+    pairs
+};
+
 pub struct TextWriter<W> {
     out: W,
     held: [u8; ROOM],
@@ -39,16 +50,18 @@ impl<W: Write> TextWriter<W> {
         self.len += text.len();
     }
 
+    /// Puts a number, two digits at a time.
     pub fn put_number(&mut self, mut number: u64) {
         let mut digits = [0; 20];
         let mut place = digits.len();
-        loop {
+        while number >= 10 {
+            place -= 2;
+            digits[place..place + 2].copy_from_slice(&PAIRS[(number % 100) as usize]);
+            number /= 100;
+        }
+        if number > 0 || place == digits.len() {
             place -= 1;
-            digits[place] = b'0' + (number % 10) as u8;
-            number /= 10;
-            if number == 0 {
-                break;
-            }
+            digits[place] = b'0' + number as u8;
         }
         self.put(&digits[place..]);
     }
