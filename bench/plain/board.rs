@@ -31,7 +31,7 @@ pub struct Board {
     plan: Plan,
     /// The machine runs what is planned.
     runs: bool,
-    /// The piece that found no room.
+    /// The piece that is published next.
     hand: Option<Piece>,
     /// So many events were put into pieces.
     given: u64,
@@ -89,22 +89,19 @@ impl Board {
         }
     }
 
-    /// Publishes the piece in hand, or else the next segment, which stays in hand where there is no room.
+    /// Publishes the piece in hand, which is the next segment where there was none. It stays in hand where there is no room.
     fn publish(&mut self, link: &mut Link) -> bool {
-        let piece = match self.hand {
-            Some(piece) => piece,
-            None => {
-                let segment = self.plan.take();
-                self.given += u64::from(segment.n);
-                Piece::Segment(segment)
-            }
-        };
+        if self.hand.is_none() {
+            let segment = self.plan.take();
+            self.given += u64::from(segment.n);
+            self.hand = Some(Piece::Segment(segment));
+        }
         if !link.has_room_for_piece() {
-            self.hand = Some(piece);
             return false;
         }
-        self.hand = None;
-        link.pieces.push(piece);
+        if let Some(piece) = self.hand.take() {
+            link.pieces.push(piece);
+        }
         self.published = true;
         true
     }
