@@ -30,13 +30,13 @@ use Rattle.audit_rules.proofs.Lines.{one_line_here, lines_first}
 use Rattle.audit_rules.proofs.Replies.{all_second}
 
 -- a course over all that is scanned
-record Whole (job console : List ℕ) (records : List Record) (f : TextsFit job console records) : Type 0 where
+pub record Whole (job console : List ℕ) (records : List Record) (f : TextsFit job console records) : Type 0 where
   pub left : List Sent
   pub leads : LeadsTo (opening f.fits.first) (sent_in job) f.fits.course f.fits.last left
   pub over : IsOver f.fits.last left
   pub told : Tells console (told_in f.fits.course) []
 
-whole : (job console : List ℕ) (records : List Record) (f : TextsFit job console records) → Whole job console records f
+pub whole : (job console : List ℕ) (records : List Record) (f : TextsFit job console records) → Whole job console records f
 whole job console records f =
     let l = leads_on (opening f.fits.first) f.fits.last f.sent f.later f.fits.course f.fits.follows in
     let begins = f.fits.told.begins in
@@ -98,7 +98,7 @@ pub record Fitted (job console steps : List ℕ) (lines : List Line) : Type 0 wh
   pub may_end : MayEnd job console steps_stand.done
   pub console_stands : ConsoleStands (sent_in job) console steps
 
-records_end : (done : List Line) → records_of (done ++ line_kinds.One kinds.End ∷ []) ≡ records_of done ++ kinds.End ∷ []
+pub records_end : (done : List Line) → records_of (done ++ line_kinds.One kinds.End ∷ []) ≡ records_of done ++ kinds.End ∷ []
 records_end done = flat_map-append records_by done (line_kinds.One kinds.End ∷ [])
 
 not_behind : (job console steps : List ℕ) (done : List Line) (line : Line) (more : List ℕ) → line_text (line_kinds.One kinds.End) ≡ line_text line ++ more

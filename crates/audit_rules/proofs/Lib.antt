@@ -5,6 +5,7 @@ pub mod Lines
 pub mod Places
 pub mod Fitting
 pub mod Fitted
+pub mod Alarmed
 pub mod Finding
 pub mod Worked
 pub mod Written

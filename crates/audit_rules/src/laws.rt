@@ -1,6 +1,6 @@
 //! Laws of audits.
 
-ghost use Rattle.std.specs.Prelude.{◌≡◌, ◌↔◌, ℕ, List, [], ◌∷◌, ◌++◌, All};
+ghost use Rattle.std.specs.Prelude.{◌≡◌, ◌↔◌, ◌+◌, true, ℕ, List, [], ◌∷◌, ◌++◌, All};
 ghost use Rattle.run_texts.specs.Sent.{Sent};
 ghost use Rattle.step_line.specs.declared.Record.{Record as AnyRecord};
 ghost use Rattle.audit_rules.specs.declared.Audit.{Audit as AnyAudit};
@@ -12,7 +12,7 @@ ghost use Rattle.step_line.specs.Records.{IsRecord};
 ghost use Rattle.step_record.specs.Forms.{text_in};
 ghost use Rattle.step_record.specs.declared.forms.Form.{Form};
 ghost use Rattle.step_record.specs.declared.forms.Line.{Line};
-ghost use Rattle.audit_rules.specs.Telling.{ConsoleStands, StandsNoFurther, HasNoBanner, HasBadReply};
+ghost use Rattle.audit_rules.specs.Telling.{ConsoleStands, StandsNoFurther, HasNoBanner, HasBadReply, HasAlarm};
 
 /// A text of steps is the lines of one list at most.
 pub fn step_texts_have_one_list()
@@ -37,11 +37,14 @@ pub fn records_stand_from_the_left()
     ensures place { (sent : List Sent) (console steps : List ℕ) (x y : StandTo sent console steps) → (x.done ≡ y.done) × (x.rest ≡ y.rest) }
 {}
 
-/// Of texts that fit the console stands, no reply is bad and no record breaks a rule.
+/// Of texts that fit the console stands, no reply is bad and no record breaks a rule. If they end with the alarm of a soft
+/// limit, the last line has raised it.
 pub fn texts_that_fit_stand()
     ensures console { (job console steps : List ℕ) (events : ℕ) → FitsWith job console steps events → ConsoleStands (sent_in job) console steps }
     ensures replies { (job console steps : List ℕ) (events line : ℕ) → FitsWith job console steps events → HasBadReply (sent_in job) console steps line → ⊥ }
     ensures records { (job console steps : List ℕ) (events at : ℕ) → FitsWith job console steps events → BreaksAt job console steps at → ⊥ }
+    ensures alarm { (job console steps : List ℕ) (events k : ℕ) (f : FitsWith job console steps events) → f.fit.fits.last.before.alarmed ≡ true →
+        f.fit.fits.last.before.number ≡ k + 1 → HasAlarm (sent_in job) console steps k }
 {}
 
 /// A bad reply stands at one place of a console: without the banner it is that to line 1, and else what is left of the console,
