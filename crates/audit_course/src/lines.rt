@@ -198,7 +198,9 @@ impl CourseJudge {
     }
 
     /// The number of the next line.
-    pub fn number(&self) -> u32 {
+    pub fn number(&self) -> u32
+        ensures { result ≡ self.now.work.number }
+    {
         self.work.number()
     }
 }
