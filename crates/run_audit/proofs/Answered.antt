@@ -6,7 +6,7 @@ use Rattle.audit_rules.specs.Findings.{Finds, FitsWith, HasForeign, IsTooLong, e
 use Rattle.audit_rules.specs.declared.Audit.{Audit}
 use Rattle.audit_rules.specs.declared.Audit.TheVariants.{Fits, Misfit, Usage, JobFault, ConsoleFault, StepsFault, OutFault, BadReplies, Foreign, TooLong}
 use Rattle.audit_rules.proofs.Finding.{fits_exactly}
-use Rattle.run_audit.specs.Auditing.{IsAudited, FoundOf, is_found}
+use Rattle.run_audit.specs.Auditing.{IsAudited, FoundOf, TellsRightly, is_found}
 
 not_risen : {A : Type 0} (before now : ℕ) → now ≡ before → before < 2 ^ 64 - 1 → Rose before now → A
 not_risen before now same few rose = absurd (grind (arith, same, few, rose))
@@ -39,3 +39,16 @@ tells job_text console_text steps_text job job_behind console console_behind ste
     let some = found_some a (λ e. is.usage.0 e refl) (λ e. not_risen job.faults job_behind.faults j fj (is.job_fault e)) (λ e. not_risen console.faults console_behind.faults c fc (is.console_fault e))
     (λ e. not_risen steps.faults steps_behind.faults s fs (is.steps_fault e)) (λ e. not_risen out.faults out_behind.faults o fo (is.out_fault e)) in
     fits_exactly job_text console_text steps_text a (found_of job_text console_text steps_text job.left console.left steps.left a l m n is.found some) short audited
+
+-- the status 0 is that of texts that fit
+pub told_to_fit : (job console steps : List ℕ) (a : Audit) → TellsRightly job console steps a → exit_of a ≡ 0 → (events : ℕ) × FitsWith job console steps events
+told_to_fit job console steps (Fits n) right e = (n, (right.fits n refl).2)
+told_to_fit job console steps (Misfit n) right e = absurd cc
+told_to_fit job console steps Usage right e = absurd cc
+told_to_fit job console steps JobFault right e = absurd cc
+told_to_fit job console steps ConsoleFault right e = absurd cc
+told_to_fit job console steps StepsFault right e = absurd cc
+told_to_fit job console steps OutFault right e = absurd cc
+told_to_fit job console steps (BadReplies n) right e = absurd cc
+told_to_fit job console steps (Foreign n) right e = absurd cc
+told_to_fit job console steps TooLong right e = absurd cc

@@ -1,4 +1,9 @@
 pub mod Answered
 pub mod Known
 pub mod JobRead
+pub mod ConsoleRead
+pub mod StepsRead
 pub mod Printed
+pub mod Fitting
+pub mod Telling
+pub mod Under

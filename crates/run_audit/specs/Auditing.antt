@@ -4,7 +4,9 @@ use Rattle.std.specs.declared.option.Option.{Option}
 use Rattle.std.specs.Io.KnownBytes.{Appends}
 use Rattle.outside.specs.Causes.{Rose, SourceState, SinkState}
 use Rattle.run_texts.specs.Sent.{kept_of}
-use Rattle.audit_rules.specs.Findings.{Finds, is_foreign, foreign_in, audit_text}
+use Rattle.audit_rules.specs.Findings.{Finds, IsTooLong, is_foreign, foreign_in, audit_text}
+use Rattle.audit_rules.specs.Scanned.{scanned}
+use Rattle.audit_rules.specs.Telling.{HasNoBanner}
 use Rattle.audit_rules.specs.declared.Audit.{Audit}
 use Rattle.audit_rules.specs.declared.Audit.TheVariants.{Fits, Misfit, Usage, JobFault, ConsoleFault, StepsFault, OutFault, BadReplies, Foreign, TooLong}
 
@@ -45,6 +47,25 @@ pub record IsFirstForeign (lines : List (List ℕ)) (line : ℕ) : Type 0 where
   pub number : line ≡ length before + 1
   pub first : foreign_in before ≡ false
   pub is : is_foreign (kept_of here) ≡ true
+
+-- What is proved of an answer to texts that are read whole. If it says that they fit, that is found of them. It says that
+-- one is too long if one is, and only then. A line of which it says that it is not audited is the first such line of those
+-- that a job sends if no alarm ends it. And of a console that does not begin with the banner it says that the reply to line
+-- 1 is bad, and no other, if it says that of a reply, and of no record that it breaks a rule.
+pub record TellsRightly (job console steps : List ℕ) (a : Audit) : Type 0 where
+  pub fits : (events : ℕ) → a ≡ Fits events → Finds job console steps (Fits events)
+  pub too_long : a ≡ TooLong → IsTooLong console steps
+  pub only_too_long : is_found a ≡ true → IsTooLong console steps → a ≡ TooLong
+  pub foreign : (line : ℕ) → a ≡ Foreign line → IsFirstForeign (scanned job).lines line
+  pub replies : (line : ℕ) → a ≡ BadReplies line → HasNoBanner console → line ≡ 1
+  pub records : (at : ℕ) → a ≡ Misfit at → HasNoBanner console → ⊥
+
+-- It speaks of what the sources had left, if they tell it.
+abbrev pub RightOf : Option (List ℕ) → Option (List ℕ) → Option (List ℕ) → Audit → Type 0
+RightOf (Some job) (Some console) (Some steps) a = TellsRightly job console steps a
+RightOf (Some job) (Some console) None a = Unit {0}
+RightOf (Some job) None steps a = Unit {0}
+RightOf None console steps a = Unit {0}
 
 -- An answer to three texts: what was found of them, or the fault of one of which the count of faults rose.
 pub record IsOfTexts (job job_behind console console_behind steps steps_behind : SourceState) (a : Audit) : Type 0 where

@@ -2,3 +2,4 @@ pub mod Auditing
 pub mod Reading
 pub mod Going
 pub mod SoFar
+pub mod UnderWay

@@ -1,18 +1,34 @@
--- How far a job was read, and what was told of it.
-use Rattle.std.specs.Prelude.{◌≡◌, ◌≤◌, ℕ, ◌<◌, ◌^◌, ◌+◌, Bool, true, false, cond, not, ◌&&◌, List, [], ◌∷◌, ◌++◌, length, take, drop, replicate, IfSome, nat_eq, Some, None}
+-- How far each of three texts was read, and what was told of it.
+use Rattle.std.specs.Prelude.{◌≡◌, ◌≤◌, ◌⊎◌, ℕ, ◌<◌, ◌^◌, ◌+◌, ◌-◌, Bool, true, false, cond, not, ◌&&◌, List, [], ◌∷◌, ◌++◌, length, take, drop, replicate, IfSome, nat_eq, Some, None}
 use Rattle.std.specs.declared.option.Option.{Option}
-use Rattle.std.specs.List.{flat_map, sum_by}
+use Rattle.std.specs.List.{flat_map, sum_by, AllByRecursion}
 use Rattle.outside.specs.Causes.{SourceState}
+use Rattle.status_report.specs.Answering.{without_reports, is_bye}
+use Rattle.status_report.specs.Replies.{reply_text}
+use Rattle.status_report.specs.declared.Reply.{Reply}
+use Rattle.status_report.specs.declared.Reply.TheVariants.{Banner}
+use Rattle.step_line.specs.declared.Record.{Record}
+use Rattle.step_line.specs.declared.Record.TheVariants as kinds
+use Rattle.step_record.specs.declared.forms.Line.{Line as AnyLine}
+use Rattle.step_record.specs.declared.forms.Line.TheVariants as line_kinds
+use Rattle.run_rules.specs.Told.{replies_text}
 use Rattle.run_texts.specs.Sent.{Sent, resets_of, sent_by}
 use Rattle.run_texts.specs.Sent.Sent.{a_text, a_stop}
+use Rattle.audit_rules.specs.Consoles.{IsOnConsole}
 use Rattle.audit_rules.specs.Findings.{is_foreign, foreign_in}
 use Rattle.audit_rules.specs.Scanned.{Scanned, scanned, cuts_by, holds_by}
+use Rattle.audit_rules.specs.StepTexts.{AreLinesOf, IsStepText, form_of, body_of, heading, last_of, lines_text, records_of}
+use Rattle.audit_readers.specs.Console.{ConsoleRead}
 use Rattle.audit_readers.specs.Jobs.{JobRead, scanned_behind, lines_behind}
-use Rattle.audit_readers.specs.Windows.{ahead}
+use Rattle.audit_readers.specs.Windows.{Window, ahead, too_long}
 use Rattle.run_audit.specs.Auditing.{IsFirstForeign}
+use Rattle.run_audit.specs.declared.listening.Listening.{Listening}
+use Rattle.run_audit.specs.declared.recorded.Recorded.{Recorded}
 use Rattle.run_audit.specs.declared.sending.Sending.{Sending}
 use Rattle.run_audit.specs.declared.sending.Item.{Item}
 use Rattle.run_audit.specs.declared.sending.Item.TheVariants.{Line, Stop, Nothing}
+
+-- ---- the job
 
 -- what was read of it and is not told: resets, and the line behind them
 abbrev pub untold_of : Sending → List Sent
@@ -90,3 +106,115 @@ StaysSent old now before after = (text : List ℕ) (told : List Sent) → JobSoF
 abbrev pub IsAllRead : Sending → Bool → ℕ → Type 0
 IsAllRead s true number = (k : ℕ) × (s.last ≡ Some k) × (number ≡ k + 1)
 IsAllRead s false number = (s.last ≡ None) × (s.over ≡ true) × (s.stops ≡ 0) × (s.waits ≡ false)
+
+-- ---- the console
+
+-- the reply that was taken and is not told
+abbrev pub known_of : Option Reply → List Reply
+known_of None = []
+known_of (Some reply) = reply ∷ []
+
+-- no byte was taken, and no reply is known
+pub record Opens (l : Listening) (source : SourceState) (text : List ℕ) : Type 0 where
+  pub first : l.reader.place ≡ 0
+  pub follows : ahead l.reader.window source ≡ Some text
+  pub unknown : l.known ≡ None
+
+-- These bytes were read of a text, and the source goes on behind them.
+pub record HasRead (w : Window) (source : SourceState) (place : ℕ) (text front : List ℕ) : Type 0 where
+  pub rest : List ℕ
+  pub whole : text ≡ front ++ rest
+  pub follows : ahead w source ≡ Some rest
+  pub count : place ≡ length front
+
+-- a text was read up to a place
+abbrev pub IsReadTo : Window → SourceState → ℕ → List ℕ → Type 0
+IsReadTo w source place text = (front : List ℕ) × HasRead w source place text front
+
+-- it was read to its end, or up to a byte that is one too many
+abbrev pub IsRead : Window → ℕ → Type 0
+IsRead w place = (too_long ≤ place) ⊎ ((w.waiting ≡ []) × (w.ended ≡ true))
+
+-- it was read on
+abbrev pub IsReadOn : Window → Window → SourceState → SourceState → ℕ → ℕ → Type 0
+IsReadOn w v before after place now = (text : List ℕ) → IsReadTo w before place text → IsReadTo v after now text
+
+-- The banner and these replies were taken, and its judge was told this of them.
+pub record ConsoleSoFar (l : Listening) (source : SourceState) (text : List ℕ) (told : List Reply) : Type 0 where
+  pub behind : List Reply
+  pub read : HasRead l.reader.window source l.reader.place text (replies_text (Banner ∷ behind))
+  pub each : AllByRecursion IsOnConsole behind
+  pub are : without_reports behind ≡ told ++ known_of l.known
+
+-- nothing more was told of it
+abbrev pub StaysTold : Listening → Listening → SourceState → SourceState → Type 0
+StaysTold old now before after = (text : List ℕ) (told : List Reply) → ConsoleSoFar old before text told → ConsoleSoFar now after text told
+
+-- and this is known now
+abbrev pub BecomesKnown : Listening → Listening → Option Reply → Type 0
+BecomesKnown old now found = (source : SourceState) (text : List ℕ) (told : List Reply) → ConsoleSoFar old source text told → ConsoleSoFar (record now { known = found }) source text told
+
+-- a reply that has a text was taken off the console
+pub record TakesReply (old now : ConsoleRead) (reply : Reply) : Type 0 where
+  pub some : is_bye reply ≡ false
+  pub waiting : old.window.waiting ≡ reply_text reply ++ now.window.waiting
+  pub place : now.place ≡ old.place + length (reply_text reply)
+
+-- the reply was told next, or it was not and the text can be read on
+abbrev pub Hears : Bool → Listening → SourceState → List ℕ → List Reply → Type 0
+Hears true l source text told = ConsoleSoFar l source text told
+Hears false l source text told = IsReadTo l.reader.window source l.reader.place text
+
+-- a console tells this, and nothing else
+pub record IsWhole (text : List ℕ) (told : List Reply) : Type 0 where
+  pub behind : List Reply
+  pub text_is : text ≡ replies_text (Banner ∷ behind)
+  pub each : AllByRecursion IsOnConsole behind
+  pub are : without_reports behind ≡ told
+
+-- if so, nothing follows what was told
+abbrev pub EndsConsole : Bool → Listening → SourceState → Type 0
+EndsConsole none l source = none ≡ true → (text : List ℕ) (told : List Reply) → ConsoleSoFar l source text told → IsWhole text told
+
+-- ---- the steps
+
+-- what was read of a line and is not told
+abbrev pub records_left : Option Record → ℕ → List Record
+records_left None count = []
+records_left (Some r) count = r ∷ replicate (count - 1) r
+
+-- These lines were read of steps, and its judge was told these records.
+pub record StepsSoFar (r : Recorded) (source : SourceState) (text : List ℕ) (told : List Record) : Type 0 where
+  pub lines : List AnyLine
+  pub rest : List ℕ
+  pub body : body_of text ≡ lines_text lines ++ rest
+  pub follows : ahead r.reader.window source ≡ Some rest
+  pub are : AreLinesOf (form_of text) lines
+  pub form : r.reader.form ≡ form_of text
+  pub last : r.reader.last ≡ last_of lines
+  pub place : r.reader.place ≡ length (heading (form_of text)) + length (lines_text lines)
+  pub told_are : told ++ records_left r.next r.count ≡ records_of lines
+
+-- nothing more was told of them
+abbrev pub StaysRecorded : Recorded → Recorded → SourceState → SourceState → Type 0
+StaysRecorded old now before after = (text : List ℕ) (told : List Record) → StepsSoFar old before text told → StepsSoFar now after text told
+
+-- steps are these records, and nothing else
+pub record AreRecords (text : List ℕ) (told : List Record) : Type 0 where
+  pub lines : List AnyLine
+  pub are_lines : IsStepText text lines
+  pub are : records_of lines ≡ told
+
+-- they can be read on; and if so, they are what was told
+pub record Ending (over : Bool) (now : Recorded) (source : SourceState) (text : List ℕ) (told : List Record) : Type 0 where
+  pub read : IsReadTo now.reader.window source now.reader.place text
+  pub all : over ≡ true → AreRecords text told
+
+abbrev pub EndsSteps : Bool → Recorded → Recorded → SourceState → SourceState → Type 0
+EndsSteps over old now before after = (text : List ℕ) (told : List Record) → StepsSoFar old before text told → Ending over now after text told
+
+-- a line was read: its record comes next, as often as it stands for
+abbrev pub KeepsLine : Recorded → AnyLine → Type 0
+KeepsLine r (line_kinds.One record_of) = (r.next ≡ Some record_of) × (r.count ≡ 1)
+KeepsLine r (line_kinds.Run n b) = (r.next ≡ Some (kinds.Event b)) × (r.count ≡ n)
+KeepsLine r line_kinds.Version = Unit {0}

@@ -1,12 +1,17 @@
 //! The audit of three texts, in step.
 
-ghost use Rattle.std.specs.Prelude.{◌≡◌, MatchResult, false};
+ghost use Rattle.std.specs.Prelude.{◌≡◌, ◌≤◌, ◌∷◌, ◌++◌, [], ℕ, List, Some, None, MatchResult, IfOk, IsTrue, false, true, length, map};
 ghost use Rattle.outside.specs.Causes.{Rose, SourceState};
 ghost use Rattle.status_report.specs.declared.Reply.{Reply as AnyReply};
 ghost use Rattle.run_rules.specs.Work.Task.{tell};
 ghost use Rattle.line_interpreter.specs.Lefts.{IsNextOf};
+ghost use Rattle.step_line.specs.declared.Mark.TheVariants.{Cut as CutMark};
+ghost use Rattle.step_line.specs.declared.Record.TheVariants as kinds;
 ghost use Rattle.run_audit.specs.Reading.{KnowsJob, KnowsConsole, KnowsSteps, IsSame};
-ghost use Rattle.run_audit.specs.Going.{AllKnown, AllSame, IsCaused, EndFails};
+ghost use Rattle.run_audit.specs.Going.{AllKnown, AllSame, IsCaused};
+ghost use Rattle.run_texts.specs.Sent.Sent.{a_text, a_stop};
+ghost use Rattle.run_audit.specs.SoFar.{StepsSoFar, IsItem};
+ghost use Rattle.run_audit.specs.UnderWay.{IsOpened, IsUnderWay, IsDropping, IsNext, GoesOn, IsSaid, mark_of};
 
 use crate::listening::Listening;
 use crate::recorded::Recorded;
@@ -42,14 +47,14 @@ pub(crate) enum Finding {
 /// Goes through three texts.
 #[derive(Drop)]
 pub(crate) struct Auditor {
-    course: CourseJudge,
-    sending: Sending,
-    listening: Listening,
-    recorded: Recorded,
+    pub(crate) course: CourseJudge,
+    pub(crate) sending: Sending,
+    pub(crate) listening: Listening,
+    pub(crate) recorded: Recorded,
     /// Where the first record stands that breaks a rule. No record counts behind it.
-    broken: Option<u64>,
+    pub(crate) broken: Option<u64>,
     /// The last line that was answered.
-    answered: u32,
+    pub(crate) answered: u32,
 }
 
 /// Whether a record ends a part.
@@ -68,11 +73,22 @@ fn is_greeting(reply: &Reply) -> bool {
     )
 }
 
+/// The error of the motion that a line has, by the reply that is known before it is told.
+fn error_of(known: Option<Reply>) -> MotionError {
+    match known {
+        Some(Reply::Error(8)) => MotionError::Busy,
+        Some(Reply::Error(9)) => MotionError::Locked,
+        _ => MotionError::None,
+    }
+}
+
 impl Auditor {
     pub(crate) fn new(recorded: Recorded) -> Auditor
         ensures job { (s : SourceState) → KnowsJob result.sending.reader s }
         ensures console { (s : SourceState) → KnowsConsole result.listening.reader s }
         ensures steps { result.recorded ≡ recorded }
+        ensures opens { (job console steps : SourceState) (job_text console_text steps_text : List ℕ) → job.left ≡ Some job_text → console.left ≡ Some console_text → StepsSoFar recorded steps steps_text [] →
+            IsOpened result job console steps job_text console_text steps_text }
     {
         Auditor {
             course: CourseJudge::new(),
@@ -86,9 +102,10 @@ impl Auditor {
 
     /// The record that comes next breaks a rule.
     fn break_off(&mut self)
-        ensures sending { self.new.sending.reader ≡ self.old.sending.reader }
-        ensures listening { self.new.listening.reader ≡ self.old.listening.reader }
-        ensures recorded { self.new.recorded.reader ≡ self.old.recorded.reader }
+        ensures sending { self.new.sending ≡ self.old.sending }
+        ensures listening { self.new.listening ≡ self.old.listening }
+        ensures recorded { self.new.recorded ≡ self.old.recorded }
+        ensures broken { self.new.broken ≡ None → ⊥ }
     {
         if self.broken.is_none() {
             self.broken = Some(self.recorded.at());
@@ -96,7 +113,9 @@ impl Auditor {
     }
 
     /// What belongs to no line is bad behind the last line that was answered.
-    fn bad_behind(&self) -> Finding {
+    pub(crate) fn bad_behind(&self) -> Finding
+        ensures { (line : ℕ) × (result ≡ Finding.BadReplies line) }
+    {
         Finding::BadReplies(self.answered.saturating_add(1))
     }
 
@@ -107,6 +126,8 @@ impl Auditor {
         ensures read { MatchResult result (λ found. KnowsSteps self.new.recorded.reader (S.state steps.new) × IsSame (S.state steps.old) (S.state steps.new)) (λ e. (e ≡ Unread.Steps) × Rose (S.state steps.old).faults (S.state steps.new).faults) }
         ensures listening { self.new.listening.reader ≡ self.old.listening.reader }
         ensures sending { self.new.sending.reader ≡ self.old.sending.reader }
+        ensures next { IfOk result (λ found. IsNext self.new found) }
+        ensures so_far { IfOk result (λ found. (job console : SourceState) → GoesOn self.old self.new job console (S.state steps.old) job console (S.state steps.new) None) }
     {
         if self.broken.is_some() {
             return Ok(None);
@@ -123,9 +144,12 @@ impl Auditor {
 
     /// Takes the record that comes next, if it is one of those that are owed.
     fn takes(&mut self, record: &Record) -> bool
+        requires next { self.old.recorded.next ≡ Some «record».now }
         ensures sending { self.new.sending.reader ≡ self.old.sending.reader }
         ensures listening { self.new.listening.reader ≡ self.old.listening.reader }
         ensures recorded { self.new.recorded.reader ≡ self.old.recorded.reader }
+        ensures same { result ≡ false → self.new ≡ self.old }
+        ensures so_far { (job console steps : SourceState) → GoesOn self.old self.new job console steps job console steps None }
     {
         if !self.course.owes() || is_ending(record) {
             return false;
@@ -138,6 +162,16 @@ impl Auditor {
         true
     }
 
+    /// Where this reply of a line, or of none, is told, there stands another one, or none.
+    fn bad_reply(&self, reply: &Reply, line: u32) -> Finding
+        ensures { (at : ℕ) × (result ≡ Finding.BadReplies at) }
+    {
+        if is_greeting(reply) {
+            return self.bad_behind();
+        }
+        Finding::BadReplies(line)
+    }
+
     /// The reply of the line at hand that comes next.
     #[tactic(auto, using(crate::proofs::Known::rose_on, crate::proofs::Known::all_same_on, crate::proofs::Known::caused_on))]
     fn hear<C: Source>(&mut self, console: &mut C) -> Result<Option<Finding>, Unread>
@@ -147,6 +181,7 @@ impl Auditor {
         ensures read { MatchResult result (λ found. KnowsConsole self.new.listening.reader (C.state console.new) × IsSame (C.state console.old) (C.state console.new)) (λ e. (e ≡ Unread.Console) × Rose (C.state console.old).faults (C.state console.new).faults) }
         ensures recorded { self.new.recorded.reader ≡ self.old.recorded.reader }
         ensures sending { self.new.sending.reader ≡ self.old.sending.reader }
+        ensures goes_on { IfOk result (λ found. (job steps : SourceState) → GoesOn self.old self.new job (C.state console.old) steps job (C.state console.new) steps found) }
     {
         let reply = self.course.reply();
         let line = self.course.number().saturating_sub(1);
@@ -159,8 +194,7 @@ impl Auditor {
                 }
                 Ok(None)
             }
-            Ok(false) if is_greeting(&reply) => Ok(Some(self.bad_behind())),
-            Ok(false) => Ok(Some(Finding::BadReplies(line))),
+            Ok(false) => Ok(Some(self.bad_reply(&reply, line))),
         }
     }
 
@@ -173,15 +207,47 @@ impl Auditor {
         steps: &mut S,
     ) -> Result<Option<Finding>, Unread>
         requires known { AllKnown self.old (J.state job.old) (C.state console.old) (S.state steps.old) }
-        ensures { MatchResult result (λ found. AllKnown self.new (J.state job.new) (C.state console.new) (S.state steps.new) × AllSame (J.state job.old) (C.state console.old) (S.state steps.old) (J.state job.new) (C.state console.new) (S.state steps.new))
+        ensures known { MatchResult result (λ found. AllKnown self.new (J.state job.new) (C.state console.new) (S.state steps.new) × AllSame (J.state job.old) (C.state console.old) (S.state steps.old) (J.state job.new) (C.state console.new) (S.state steps.new))
             (λ e. IsCaused e (J.state job.old) (C.state console.old) (S.state steps.old) (J.state job.new) (C.state console.new) (S.state steps.new)) }
+        ensures goes_on { IfOk result (λ found. GoesOn self.old self.new (J.state job.old) (C.state console.old) (S.state steps.old) (J.state job.new) (C.state console.new) (S.state steps.new) found) }
     {
         let record = self.look(steps)?;
-        if let Some(record) = record {
-            if self.takes(&record) {
-                return Ok(None);
-            }
+        if self.takes_next(&record) {
+            return Ok(None);
         }
+        self.work(record, job, console, steps)
+    }
+
+    /// Takes the record that comes next, if records count and it is one of those that are owed.
+    fn takes_next(&mut self, record: &Option<Record>) -> bool
+        requires next { IsNext self.old «record».now }
+        ensures sending { self.new.sending.reader ≡ self.old.sending.reader }
+        ensures listening { self.new.listening.reader ≡ self.old.listening.reader }
+        ensures recorded { self.new.recorded.reader ≡ self.old.recorded.reader }
+        ensures same { result ≡ false → self.new ≡ self.old }
+        ensures so_far { (job console steps : SourceState) → GoesOn self.old self.new job console steps job console steps None }
+    {
+        match record {
+            Some(record) => self.takes(record),
+            None => false,
+        }
+    }
+
+    /// Goes on with the line at hand, where no record is taken.
+    #[tactic(auto, using(crate::proofs::Known::rose_on, crate::proofs::Known::all_same_on, crate::proofs::Known::caused_on))]
+    fn work<J: Source, C: Source, S: Source>(
+        &mut self,
+        record: Option<Record>,
+        job: &mut J,
+        console: &mut C,
+        steps: &mut S,
+    ) -> Result<Option<Finding>, Unread>
+        requires known { AllKnown self.old (J.state job.old) (C.state console.old) (S.state steps.old) }
+        requires next { IsNext self.old «record» }
+        ensures known { MatchResult result (λ found. AllKnown self.new (J.state job.new) (C.state console.new) (S.state steps.new) × AllSame (J.state job.old) (C.state console.old) (S.state steps.old) (J.state job.new) (C.state console.new) (S.state steps.new))
+            (λ e. IsCaused e (J.state job.old) (C.state console.old) (S.state steps.old) (J.state job.new) (C.state console.new) (S.state steps.new)) }
+        ensures goes_on { IfOk result (λ found. GoesOn self.old self.new (J.state job.old) (C.state console.old) (S.state steps.old) (J.state job.new) (C.state console.new) (S.state steps.new) found) }
+    {
         match self.course.next() {
             Next::Tell => self.hear(console),
             Next::Work => {
@@ -202,17 +268,15 @@ impl Auditor {
         steps: &mut S,
     ) -> Result<Option<Finding>, Unread>
         requires known { AllKnown self.old (J.state job.old) (C.state console.old) (S.state steps.old) }
-        ensures { MatchResult result (λ found. AllKnown self.new (J.state job.new) (C.state console.new) (S.state steps.new) × AllSame (J.state job.old) (C.state console.old) (S.state steps.old) (J.state job.new) (C.state console.new) (S.state steps.new))
+        requires next { IsNext self.old «record» }
+        ensures known { MatchResult result (λ found. AllKnown self.new (J.state job.new) (C.state console.new) (S.state steps.new) × AllSame (J.state job.old) (C.state console.old) (S.state steps.old) (J.state job.new) (C.state console.new) (S.state steps.new))
             (λ e. IsCaused e (J.state job.old) (C.state console.old) (S.state steps.old) (J.state job.new) (C.state console.new) (S.state steps.new)) }
+        ensures goes_on { IfOk result (λ found. GoesOn self.old self.new (J.state job.old) (C.state console.old) (S.state steps.old) (J.state job.new) (C.state console.new) (S.state steps.new) found) }
     {
         let number = self.course.number();
         match record {
             Some(Record::Mark(Mark::Cut(k))) if k < number => {
-                if self.course.cut(k) {
-                    self.recorded.take();
-                } else {
-                    self.break_off();
-                }
+                self.cut(k);
                 Ok(None)
             }
             Some(Record::Mark(Mark::Reset(k))) if k.saturating_add(1) < number => {
@@ -221,6 +285,21 @@ impl Auditor {
             }
             _ => self.enter(record, job, console, steps),
         }
+    }
+
+    /// The mark of a cut comes next.
+    fn cut(&mut self, k: u32)
+        requires next { self.old.recorded.next ≡ Some (kinds.Mark (CutMark k)) }
+        ensures so_far { (job console steps : SourceState) → GoesOn self.old self.new job console steps job console steps None }
+        ensures sending { self.new.sending.reader ≡ self.old.sending.reader }
+        ensures listening { self.new.listening.reader ≡ self.old.listening.reader }
+        ensures recorded { self.new.recorded.reader ≡ self.old.recorded.reader }
+    {
+        if self.course.cut(k) {
+            self.recorded.take();
+            return;
+        }
+        self.break_off();
     }
 
     /// The next line is begun, a reset comes, or nothing is left of the job.
@@ -233,8 +312,10 @@ impl Auditor {
         steps: &mut S,
     ) -> Result<Option<Finding>, Unread>
         requires known { AllKnown self.old (J.state job.old) (C.state console.old) (S.state steps.old) }
-        ensures { MatchResult result (λ found. AllKnown self.new (J.state job.new) (C.state console.new) (S.state steps.new) × AllSame (J.state job.old) (C.state console.old) (S.state steps.old) (J.state job.new) (C.state console.new) (S.state steps.new))
+        requires next { IsNext self.old «record» }
+        ensures known { MatchResult result (λ found. AllKnown self.new (J.state job.new) (C.state console.new) (S.state steps.new) × AllSame (J.state job.old) (C.state console.old) (S.state steps.old) (J.state job.new) (C.state console.new) (S.state steps.new))
             (λ e. IsCaused e (J.state job.old) (C.state console.old) (S.state steps.old) (J.state job.new) (C.state console.new) (S.state steps.new)) }
+        ensures goes_on { IfOk result (λ found. GoesOn self.old self.new (J.state job.old) (C.state console.old) (S.state steps.old) (J.state job.new) (C.state console.new) (S.state steps.new) found) }
     {
         if self.course.is_halted() {
             return self.end_by_alarm(record, job, console, steps);
@@ -246,18 +327,30 @@ impl Auditor {
         if let Some(Reply::Alarm(_)) | Some(Reply::Banner) = known {
             return self.reset(record, job);
         }
+        self.enter_line(error_of(known), record, job, console, steps)
+    }
+
+    /// The next line is begun, or nothing is left of the job.
+    #[tactic(auto, using(crate::proofs::Known::rose_on, crate::proofs::Known::all_same_on, crate::proofs::Known::caused_on))]
+    fn enter_line<J: Source, C: Source, S: Source>(
+        &mut self,
+        error: MotionError,
+        record: Option<Record>,
+        job: &mut J,
+        console: &mut C,
+        steps: &mut S,
+    ) -> Result<Option<Finding>, Unread>
+        requires known { AllKnown self.old (J.state job.old) (C.state console.old) (S.state steps.old) }
+        requires next { IsNext self.old «record» }
+        ensures known { MatchResult result (λ found. AllKnown self.new (J.state job.new) (C.state console.new) (S.state steps.new) × AllSame (J.state job.old) (C.state console.old) (S.state steps.old) (J.state job.new) (C.state console.new) (S.state steps.new))
+            (λ e. IsCaused e (J.state job.old) (C.state console.old) (S.state steps.old) (J.state job.new) (C.state console.new) (S.state steps.new)) }
+        ensures goes_on { IfOk result (λ found. GoesOn self.old self.new (J.state job.old) (C.state console.old) (S.state steps.old) (J.state job.new) (C.state console.new) (S.state steps.new) found) }
+    {
         match self.sending.look(job) {
             Err(_) => Err(Unread::Job),
             Ok(Item::Stop) => Ok(Some(self.bad_behind())),
             Ok(Item::Nothing) => self.finish(record, console, steps),
-            Ok(Item::Line) => {
-                let error = match known {
-                    Some(Reply::Error(8)) => MotionError::Busy,
-                    Some(Reply::Error(9)) => MotionError::Locked,
-                    _ => MotionError::None,
-                };
-                Ok(self.begin(error))
-            }
+            Ok(Item::Line) => Ok(self.begin(error)),
         }
     }
 
@@ -271,17 +364,19 @@ impl Auditor {
         steps: &mut S,
     ) -> Result<Option<Finding>, Unread>
         requires known { AllKnown self.old (J.state job.old) (C.state console.old) (S.state steps.old) }
-        ensures { MatchResult result (λ found. AllKnown self.new (J.state job.new) (C.state console.new) (S.state steps.new) × AllSame (J.state job.old) (C.state console.old) (S.state steps.old) (J.state job.new) (C.state console.new) (S.state steps.new))
+        requires next { IsNext self.old «record» }
+        ensures known { MatchResult result (λ found. AllKnown self.new (J.state job.new) (C.state console.new) (S.state steps.new) × AllSame (J.state job.old) (C.state console.old) (S.state steps.old) (J.state job.new) (C.state console.new) (S.state steps.new))
             (λ e. IsCaused e (J.state job.old) (C.state console.old) (S.state steps.old) (J.state job.new) (C.state console.new) (S.state steps.new)) }
+        ensures goes_on { IfOk result (λ found. GoesOn self.old self.new (J.state job.old) (C.state console.old) (S.state steps.old) (J.state job.new) (C.state console.new) (S.state steps.new) found) }
     {
-        if self.sending.halt() {
-            self.read_on(job)?;
-        }
+        self.read_ahead(job)?;
         self.finish(record, console, steps)
     }
 
     /// The line that waits is begun.
     fn begin(&mut self, error: MotionError) -> Option<Finding>
+        requires line { IsItem Item.Line self.old.sending }
+        ensures goes_on { (job console steps : SourceState) → GoesOn self.old self.new job console steps job console steps result }
         ensures sending { self.new.sending.reader ≡ self.old.sending.reader }
         ensures listening { self.new.listening.reader ≡ self.old.listening.reader }
         ensures recorded { self.new.recorded.reader ≡ self.old.recorded.reader }
@@ -302,37 +397,72 @@ impl Auditor {
         job: &mut J,
     ) -> Result<Option<Finding>, Unread>
         requires known { KnowsJob self.old.sending.reader (J.state job.old) }
+        requires next { IsNext self.old «record» }
         ensures read { MatchResult result (λ found. KnowsJob self.new.sending.reader (J.state job.new) × IsSame (J.state job.old) (J.state job.new)) (λ e. (e ≡ Unread.Job) × Rose (J.state job.old).faults (J.state job.new).faults) }
         ensures listening { self.new.listening.reader ≡ self.old.listening.reader }
         ensures recorded { self.new.recorded.reader ≡ self.old.recorded.reader }
+        ensures goes_on { IfOk result (λ found. (console steps : SourceState) → GoesOn self.old self.new (J.state job.old) console steps (J.state job.new) console steps found) }
     {
         let number = self.course.number();
         match record {
             Some(Record::Mark(Mark::Reset(k))) if k.saturating_add(1) == number => {
                 self.drop_lines(Some(k), job)
             }
-            Some(record) if self.may_be_begun(&record) => match self.sending.look(job) {
-                Err(_) => Err(Unread::Job),
-                Ok(Item::Line) => {
-                    let line = self.sending.kept();
-                    if self.course.begin_unanswered(&line) {
-                        self.sending.take_line();
-                    } else {
-                        self.break_off();
-                    }
-                    Ok(None)
-                }
-                Ok(_) => {
-                    self.break_off();
-                    Ok(None)
-                }
-            },
+            Some(record) if self.may_be_begun(&record) => self.begin_next(job),
             Some(_) => {
                 self.break_off();
                 Ok(None)
             }
             None => self.drop_lines(None, job),
         }
+    }
+
+    /// The next line is begun, and a reset keeps it from its answer.
+    #[tactic(auto, using(crate::proofs::Known::rose_on, crate::proofs::Known::all_same_on, crate::proofs::Known::caused_on))]
+    fn begin_next<J: Source>(&mut self, job: &mut J) -> Result<Option<Finding>, Unread>
+        requires known { KnowsJob self.old.sending.reader (J.state job.old) }
+        ensures read { MatchResult result (λ found. KnowsJob self.new.sending.reader (J.state job.new) × IsSame (J.state job.old) (J.state job.new)) (λ e. (e ≡ Unread.Job) × Rose (J.state job.old).faults (J.state job.new).faults) }
+        ensures listening { self.new.listening.reader ≡ self.old.listening.reader }
+        ensures recorded { self.new.recorded.reader ≡ self.old.recorded.reader }
+        ensures goes_on { IfOk result (λ found. (console steps : SourceState) → GoesOn self.old self.new (J.state job.old) console steps (J.state job.new) console steps found) }
+    {
+        match self.sending.look(job) {
+            Err(_) => Err(Unread::Job),
+            Ok(item) => {
+                self.begin_unanswered(item);
+                Ok(None)
+            }
+        }
+    }
+
+    /// The line that waits is begun, and not answered, if one does.
+    fn begin_unanswered(&mut self, item: Item)
+        requires item { IsItem item self.old.sending }
+        ensures so_far { (job console steps : SourceState) → GoesOn self.old self.new job console steps job console steps None }
+        ensures sending { self.new.sending.reader ≡ self.old.sending.reader }
+        ensures listening { self.new.listening.reader ≡ self.old.listening.reader }
+        ensures recorded { self.new.recorded.reader ≡ self.old.recorded.reader }
+    {
+        match item {
+            Item::Line => self.break_line(),
+            Item::Stop | Item::Nothing => self.break_off(),
+        }
+    }
+
+    /// The line that waits is begun, and not answered.
+    fn break_line(&mut self)
+        requires line { IsItem Item.Line self.old.sending }
+        ensures so_far { (job console steps : SourceState) → GoesOn self.old self.new job console steps job console steps None }
+        ensures sending { self.new.sending.reader ≡ self.old.sending.reader }
+        ensures listening { self.new.listening.reader ≡ self.old.listening.reader }
+        ensures recorded { self.new.recorded.reader ≡ self.old.recorded.reader }
+    {
+        let line = self.sending.kept();
+        if self.course.begin_unanswered(&line) {
+            self.sending.take_line();
+            return;
+        }
+        self.break_off();
     }
 
     /// Whether this record asks for a line that is begun and not answered.
@@ -351,13 +481,15 @@ impl Auditor {
         job: &mut J,
     ) -> Result<Option<Finding>, Unread>
         requires known { KnowsJob self.old.sending.reader (J.state job.old) }
+        requires next { IsNext self.old (mark_of mark) }
         ensures read { MatchResult result (λ found. KnowsJob self.new.sending.reader (J.state job.new) × IsSame (J.state job.old) (J.state job.new)) (λ e. (e ≡ Unread.Job) × Rose (J.state job.old).faults (J.state job.new).faults) }
         ensures listening { self.new.listening.reader ≡ self.old.listening.reader }
         ensures recorded { self.new.recorded.reader ≡ self.old.recorded.reader }
+        ensures goes_on { IfOk result (λ found. (console steps : SourceState) → GoesOn self.old self.new (J.state job.old) console steps (J.state job.new) console steps found) }
     {
         let alarm = matches!(self.listening.known(), Some(Reply::Alarm(_)));
         let mut dropped: u32 = 0;
-        'lines: for _ in 0..16_777_217 {
+        'lines: for _ in 0..16_777_217_u32 {
             match self.sending.look(job) {
                 Err(_) => return Err(Unread::Job),
                 Ok(Item::Line) => {
@@ -378,7 +510,9 @@ impl Auditor {
     }
 
     /// No reset comes of the job: the line that waits has none of the replies that it may have.
-    fn none_comes(&self, waiting: u32) -> Finding {
+    fn none_comes(&self, waiting: u32) -> Finding
+        ensures { (line : ℕ) × (result ≡ Finding.BadReplies line) }
+    {
         if waiting == 0 {
             return self.bad_behind();
         }
@@ -387,109 +521,45 @@ impl Auditor {
 
     /// A reset comes, with its mark if records count.
     fn make_reset(&mut self, mark: Option<u32>, dropped: u32, alarm: bool)
+        requires next { IsNext self.old (mark_of mark) }
+        ensures so_far { (lines : List (List ℕ)) → dropped ≡ length lines → (job console steps : SourceState) (job_text console_text steps_text : List ℕ) →
+            IsDropping self.old job console steps job_text console_text steps_text (map a_text lines ++ a_stop ∷ []) → IsUnderWay self.new job console steps job_text console_text steps_text }
         ensures sending { self.new.sending.reader ≡ self.old.sending.reader }
         ensures listening { self.new.listening.reader ≡ self.old.listening.reader }
         ensures recorded { self.new.recorded.reader ≡ self.old.recorded.reader }
     {
-        if let Some(k) = mark {
-            if self.course.reset(k, dropped, alarm) {
-                self.recorded.take();
-                return;
-            }
-            self.break_off();
+        match mark {
+            Some(k) => self.take_reset(k, dropped, alarm),
+            None => self.pass_reset(dropped, alarm),
         }
+    }
+
+    /// A reset comes, with this mark.
+    fn take_reset(&mut self, k: u32, dropped: u32, alarm: bool)
+        requires next { IsNext self.old (mark_of (Some k)) }
+        ensures so_far { (lines : List (List ℕ)) → dropped ≡ length lines → (job console steps : SourceState) (job_text console_text steps_text : List ℕ) →
+            IsDropping self.old job console steps job_text console_text steps_text (map a_text lines ++ a_stop ∷ []) → IsUnderWay self.new job console steps job_text console_text steps_text }
+        ensures sending { self.new.sending.reader ≡ self.old.sending.reader }
+        ensures listening { self.new.listening.reader ≡ self.old.listening.reader }
+        ensures recorded { self.new.recorded.reader ≡ self.old.recorded.reader }
+    {
+        if self.course.reset(k, dropped, alarm) {
+            self.recorded.take();
+            return;
+        }
+        self.break_off();
+        self.pass_reset(dropped, alarm);
+    }
+
+    /// A reset comes where records count no more.
+    fn pass_reset(&mut self, dropped: u32, alarm: bool)
+        requires broken { self.old.broken ≡ None → ⊥ }
+        ensures sending { self.new.sending ≡ self.old.sending }
+        ensures listening { self.new.listening ≡ self.old.listening }
+        ensures recorded { self.new.recorded ≡ self.old.recorded }
+        ensures broken { self.new.broken ≡ None → ⊥ }
+    {
         let _ = self.course.reset_unrecorded(dropped, alarm);
-    }
-
-    /// Nothing is left of the job, or a line has raised an alarm.
-    #[tactic(auto, using(crate::proofs::Known::rose_on, crate::proofs::Known::all_same_on, crate::proofs::Known::caused_on))]
-    fn finish<C: Source, S: Source>(
-        &mut self,
-        record: Option<Record>,
-        console: &mut C,
-        steps: &mut S,
-    ) -> Result<Option<Finding>, Unread>
-        requires console { KnowsConsole self.old.listening.reader (C.state console.old) }
-        requires steps { KnowsSteps self.old.recorded.reader (S.state steps.old) }
-        ensures read { MatchResult result (λ found. KnowsConsole self.new.listening.reader (C.state console.new) × KnowsSteps self.new.recorded.reader (S.state steps.new) × IsSame (C.state console.old) (C.state console.new) × IsSame (S.state steps.old) (S.state steps.new))
-            (λ e. EndFails e (C.state console.old) (S.state steps.old) (C.state console.new) (S.state steps.new)) }
-        ensures sending { self.new.sending.reader ≡ self.old.sending.reader }
-    {
-        match self.listening.ends(console) {
-            Err(_) => return Err(Unread::Console),
-            Ok(false) => return Ok(Some(self.bad_behind())),
-            Ok(true) => {}
-        }
-        if let Some(at) = self.broken {
-            return Ok(Some(Finding::Misfit(at)));
-        }
-        let events = self.course.events();
-        if record != Some(Record::End) || !self.course.end() || !self.may_fit() {
-            return Ok(Some(Finding::Misfit(self.recorded.at())));
-        }
-        self.recorded.take();
-        match self.recorded.ends(steps) {
-            Err(_) => Err(Unread::Steps),
-            Ok(true) => Ok(Some(Finding::Fits(events))),
-            Ok(false) => Ok(Some(Finding::Misfit(self.recorded.at()))),
-        }
-    }
-
-    /// Whether all is told that is sent of the job, up to an alarm, and there are no more cuts than bytes that may cut.
-    fn may_fit(&self) -> bool {
-        self.sending
-            .is_all_told(self.course.is_halted(), self.course.number())
-            && u64::from(self.course.cuts()) <= self.sending.cuts()
-    }
-
-    /// Reads the job on to its end, for a line that is not audited.
-    #[tactic(auto, using(crate::proofs::Known::rose_on, crate::proofs::Known::all_same_on, crate::proofs::Known::caused_on))]
-    fn read_on<J: Source>(&mut self, job: &mut J) -> Result<(), Unread>
-        requires known { KnowsJob self.old.sending.reader (J.state job.old) }
-        ensures read { MatchResult result (λ found. KnowsJob self.new.sending.reader (J.state job.new) × IsSame (J.state job.old) (J.state job.new)) (λ e. (e ≡ Unread.Job) × Rose (J.state job.old).faults (J.state job.new).faults) }
-        ensures listening { self.new.listening.reader ≡ self.old.listening.reader }
-        ensures recorded { self.new.recorded.reader ≡ self.old.recorded.reader }
-    {
-        'rest: for _ in 0..33_554_432 {
-            match self.sending.look(job) {
-                Err(_) => return Err(Unread::Job),
-                Ok(Item::Nothing) => return Ok(()),
-                Ok(Item::Line) => self.sending.take_line(),
-                Ok(Item::Stop) => self.sending.take_stop(),
-            }
-        }
-        Ok(())
-    }
-
-    /// What was found, once all three texts are read.
-    #[tactic(auto, using(crate::proofs::Known::rose_on, crate::proofs::Known::all_same_on, crate::proofs::Known::caused_on))]
-    fn read_all<J: Source, C: Source, S: Source>(
-        &mut self,
-        found: Finding,
-        job: &mut J,
-        console: &mut C,
-        steps: &mut S,
-    ) -> Result<Finding, Unread>
-        requires known { AllKnown self.old (J.state job.old) (C.state console.old) (S.state steps.old) }
-        ensures { MatchResult result (λ found. AllKnown self.new (J.state job.new) (C.state console.new) (S.state steps.new) × AllSame (J.state job.old) (C.state console.old) (S.state steps.old) (J.state job.new) (C.state console.new) (S.state steps.new))
-            (λ e. IsCaused e (J.state job.old) (C.state console.old) (S.state steps.old) (J.state job.new) (C.state console.new) (S.state steps.new)) }
-    {
-        if !self.course.is_halted() {
-            self.read_on(job)?;
-        }
-        if self.listening.ends(console).is_err() {
-            return Err(Unread::Console);
-        }
-        if self.recorded.take_rest(steps).is_err() {
-            return Err(Unread::Steps);
-        }
-        if self.listening.is_too_long() || self.recorded.is_too_long() {
-            return Ok(Finding::TooLong);
-        }
-        match self.sending.foreign() {
-            Some(line) => Ok(Finding::Foreign(line)),
-            None => Ok(found),
-        }
     }
 
     /// Goes through all three texts.
@@ -501,8 +571,10 @@ impl Auditor {
         steps: &mut S,
     ) -> Result<Finding, Unread>
         requires known { AllKnown self.old (J.state job.old) (C.state console.old) (S.state steps.old) }
-        ensures { MatchResult result (λ found. AllKnown self.new (J.state job.new) (C.state console.new) (S.state steps.new) × AllSame (J.state job.old) (C.state console.old) (S.state steps.old) (J.state job.new) (C.state console.new) (S.state steps.new))
+        ensures known { MatchResult result (λ found. AllKnown self.new (J.state job.new) (C.state console.new) (S.state steps.new) × AllSame (J.state job.old) (C.state console.old) (S.state steps.old) (J.state job.new) (C.state console.new) (S.state steps.new))
             (λ e. IsCaused e (J.state job.old) (C.state console.old) (S.state steps.old) (J.state job.new) (C.state console.new) (S.state steps.new)) }
+        ensures right { IfOk result (λ found. (job_text console_text steps_text : List ℕ) → IsOpened self.old (J.state job.old) (C.state console.old) (S.state steps.old) job_text console_text steps_text →
+            IsSaid job_text console_text steps_text found) }
     {
         match self.listening.begins(console) {
             Err(_) => return Err(Unread::Console),

@@ -4,7 +4,7 @@ ghost use Rattle.std.specs.Prelude.{◌≡◌, ◌↔◌, ◌<◌, ◌-◌, ◌^
 ghost use Rattle.outside.specs.Causes.{SourceState, SinkState};
 ghost use Rattle.audit_rules.specs.Findings.{FitsWith, HasForeign, IsTooLong, exit_of};
 ghost use Rattle.audit_rules.specs.declared.Audit.{Audit as AnyAudit};
-ghost use Rattle.run_audit.specs.Auditing.{IsAudited};
+ghost use Rattle.run_audit.specs.Auditing.{IsAudited, RightOf};
 
 /// Of three texts that are read whole, with no fault of any object, none of them too long and each sent line audited, the
 /// answer is that they fit exactly if they do.
@@ -16,4 +16,9 @@ pub fn audits_tell_what_fits()
         job.faults < 2 ^ 64 - 1 → console.faults < 2 ^ 64 - 1 → steps.faults < 2 ^ 64 - 1 → out.faults < 2 ^ 64 - 1 →
         (IsTooLong console_text steps_text → ⊥) → (HasForeign job_text console_text steps_text → ⊥) →
         (exit_of a ≡ 0) ↔ ((events : ℕ) × FitsWith job_text console_text steps_text events) }
+{}
+
+/// Where the audit of three texts that are read whole answers that they fit, as it does with the status 0 alone, they do.
+pub fn texts_fit_where_that_is_told()
+    ensures { (job console steps : List ℕ) (a : AnyAudit) → RightOf (Some job) (Some console) (Some steps) a → exit_of a ≡ 0 → (events : ℕ) × FitsWith job console steps events }
 {}

@@ -2,6 +2,7 @@
 #![tactic(auto)]
 
 mod auditor;
+mod ending;
 mod laws;
 mod listening;
 mod recorded;
@@ -11,5 +12,5 @@ mod tests;
 mod writing;
 
 pub use audit_rules::Audit;
-pub use laws::audits_tell_what_fits;
+pub use laws::{audits_tell_what_fits, texts_fit_where_that_is_told};
 pub use writing::run_audit;

@@ -1,10 +1,13 @@
 //! What a console tells.
 
-ghost use Rattle.std.specs.Prelude.{◌≡◌, MatchResult};
+ghost use Rattle.std.specs.Prelude.{◌≡◌, ◌↔◌, ◌≤◌, ◌∷◌, ◌++◌, [], ℕ, List, Some, None, false, MatchResult, IfOk, IsTrue};
 ghost use Rattle.outside.specs.Causes.{Rose, SourceState};
 ghost use Rattle.status_report.specs.Replies.{IsReply};
-ghost use Rattle.audit_readers.specs.Windows.{KnowsEnd};
+ghost use Rattle.status_report.specs.Answering.{is_report};
+ghost use Rattle.status_report.specs.declared.Reply.{Reply as AnyReply};
+ghost use Rattle.audit_readers.specs.Windows.{KnowsEnd, ahead, too_long};
 ghost use Rattle.run_audit.specs.Reading.{KnowsConsole, IsSame};
+ghost use Rattle.run_audit.specs.SoFar.{ConsoleSoFar, Opens, Hears, TakesReply, StaysTold, BecomesKnown, IsRead, IsReadOn, EndsConsole};
 
 use audit_readers::ConsoleReader;
 use outside::{Failed, Source};
@@ -12,6 +15,18 @@ use status_report::Reply;
 
 /// The first byte that is one too many.
 pub(crate) const TOO_LONG: u64 = 9_223_372_036_854_775_808;
+
+/// Whether a reply is that which was known before it is told.
+fn is_same(known: &Reply, reply: &Reply) -> bool
+    ensures { IsTrue result → known.now ≡ reply.now }
+{
+    match (known, reply) {
+        (Reply::Banner, Reply::Banner) => true,
+        (Reply::Error(code), Reply::Error(other)) => code == other,
+        (Reply::Alarm(number), Reply::Alarm(other)) => number == other,
+        _ => false,
+    }
+}
 
 /// A console, reply by reply, of which one may be known before it is told.
 #[derive(Drop)]
@@ -22,7 +37,8 @@ pub(crate) struct Listening {
 
 impl Listening {
     pub(crate) fn new() -> Listening
-        ensures { (s : SourceState) → KnowsConsole result.reader s }
+        ensures known { (s : SourceState) → KnowsConsole result.reader s }
+        ensures opens { (s : SourceState) (text : List ℕ) → s.left ≡ Some text → Opens result s text }
     {
         Listening {
             reader: ConsoleReader::new(),
@@ -33,7 +49,8 @@ impl Listening {
     /// Whether it begins with the banner, and no report before it.
     pub(crate) fn begins<S: Source>(&mut self, source: &mut S) -> Result<bool, Failed>
         requires known { KnowsConsole self.old.reader (S.state source.old) }
-        ensures { MatchResult result (λ answer. KnowsConsole self.new.reader (S.state source.new) × IsSame (S.state source.old) (S.state source.new)) (λ e. Rose (S.state source.old).faults (S.state source.new).faults) }
+        ensures known { MatchResult result (λ answer. KnowsConsole self.new.reader (S.state source.new) × IsSame (S.state source.old) (S.state source.new)) (λ e. Rose (S.state source.old).faults (S.state source.new).faults) }
+        ensures begins { IfOk result (λ yes. (text : List ℕ) → Opens self.old (S.state source.old) text → Hears yes self.new (S.state source.new) text []) }
     {
         self.reader.skip_reports(source)?;
         if self.reader.place() > 0 {
@@ -45,7 +62,9 @@ impl Listening {
     /// Looks whether an error of the motion comes next, or what is told at a reset.
     pub(crate) fn look<S: Source>(&mut self, source: &mut S) -> Result<Option<Reply>, Failed>
         requires known { KnowsConsole self.old.reader (S.state source.old) }
-        ensures { MatchResult result (λ answer. KnowsConsole self.new.reader (S.state source.new) × IsSame (S.state source.old) (S.state source.new)) (λ e. Rose (S.state source.old).faults (S.state source.new).faults) }
+        ensures known { MatchResult result (λ answer. KnowsConsole self.new.reader (S.state source.new) × IsSame (S.state source.old) (S.state source.new)) (λ e. Rose (S.state source.old).faults (S.state source.new).faults) }
+        ensures next { IfOk result (λ reply. reply ≡ self.new.known) }
+        ensures so_far { IfOk result (λ reply. StaysTold self.old self.new (S.state source.old) (S.state source.new)) }
     {
         if self.known.is_some() {
             return Ok(self.known);
@@ -56,13 +75,16 @@ impl Listening {
     }
 
     /// The reply that is known before it is told, if one is.
-    pub(crate) fn known(&self) -> Option<Reply> {
+    pub(crate) fn known(&self) -> Option<Reply>
+        ensures { result ≡ self.now.known }
+    {
         self.known
     }
 
     /// Takes the reply that comes next, if it is one of these.
     fn next_known(&mut self) -> Option<Reply>
-        ensures { self.new.reader.window.ended ≡ self.old.reader.window.ended }
+        ensures ended { self.new.reader.window.ended ≡ self.old.reader.window.ended }
+        ensures known { self.old.known ≡ None → BecomesKnown self.old self.new result }
     {
         if self.takes(&Reply::Error(8)) {
             return Some(Reply::Error(8));
@@ -79,12 +101,15 @@ impl Listening {
         None
     }
 
-    /// Whether this reply stands next. If so it is taken.
+    /// Whether this reply stands next. If so it is taken. `Bye` has no text, and never stands.
     fn takes(&mut self, reply: &Reply) -> bool
         requires { IsReply reply.now }
-        ensures { self.new.reader.window.ended ≡ self.old.reader.window.ended }
+        ensures ended { self.new.reader.window.ended ≡ self.old.reader.window.ended }
+        ensures known { self.new.known ≡ self.old.known }
+        ensures taken { IsTrue result → TakesReply self.old.reader self.new.reader reply.now }
+        ensures same { result ≡ false → self.new ≡ self.old }
     {
-        if self.reader.place() >= TOO_LONG {
+        if self.reader.place() >= TOO_LONG || matches!(reply, Reply::Bye) {
             return false;
         }
         self.reader.take(reply)
@@ -94,11 +119,13 @@ impl Listening {
     pub(crate) fn hears<S: Source>(&mut self, reply: &Reply, source: &mut S) -> Result<bool, Failed>
         requires known { KnowsConsole self.old.reader (S.state source.old) }
         requires reply { IsReply reply.now }
-        ensures { MatchResult result (λ answer. KnowsConsole self.new.reader (S.state source.new) × IsSame (S.state source.old) (S.state source.new)) (λ e. Rose (S.state source.old).faults (S.state source.new).faults) }
+        requires plain { is_report reply.now ≡ false }
+        ensures known { MatchResult result (λ answer. KnowsConsole self.new.reader (S.state source.new) × IsSame (S.state source.old) (S.state source.new)) (λ e. Rose (S.state source.old).faults (S.state source.new).faults) }
+        ensures so_far { IfOk result (λ yes. (text : List ℕ) (told : List AnyReply) → ConsoleSoFar self.old (S.state source.old) text told → Hears yes self.new (S.state source.new) text (told ++ reply.now ∷ [])) }
     {
         if let Some(known) = self.known {
             self.known = None;
-            return Ok(known == *reply);
+            return Ok(is_same(&known, reply));
         }
         self.reader.skip_reports(source)?;
         Ok(self.takes(reply))
@@ -107,7 +134,10 @@ impl Listening {
     /// Takes all that follows behind reports: whether there was nothing.
     pub(crate) fn ends<S: Source>(&mut self, source: &mut S) -> Result<bool, Failed>
         requires known { KnowsConsole self.old.reader (S.state source.old) }
-        ensures { MatchResult result (λ answer. KnowsConsole self.new.reader (S.state source.new) × IsSame (S.state source.old) (S.state source.new)) (λ e. Rose (S.state source.old).faults (S.state source.new).faults) }
+        ensures known { MatchResult result (λ answer. KnowsConsole self.new.reader (S.state source.new) × IsSame (S.state source.old) (S.state source.new)) (λ e. Rose (S.state source.old).faults (S.state source.new).faults) }
+        ensures read { IfOk result (λ none. IsReadOn self.old.reader.window self.new.reader.window (S.state source.old) (S.state source.new) self.old.reader.place self.new.reader.place) }
+        ensures ends { IfOk result (λ none. EndsConsole none self.old (S.state source.old)) }
+        ensures over { IfOk result (λ none. IsRead self.new.reader.window self.new.reader.place) }
     {
         let none = self.known.is_none();
         self.reader.skip_reports(source)?;
@@ -120,7 +150,9 @@ impl Listening {
     }
 
     /// Whether the text is too long.
-    pub(crate) fn is_too_long(&self) -> bool {
+    pub(crate) fn is_too_long(&self) -> bool
+        ensures { IsTrue result ↔ (too_long ≤ self.now.reader.place) }
+    {
         self.reader.place() >= TOO_LONG
     }
 }

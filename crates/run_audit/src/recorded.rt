@@ -1,8 +1,11 @@
 //! The records of steps, one by one.
 
-ghost use Rattle.std.specs.Prelude.{◌≡◌, MatchResult};
-ghost use Rattle.outside.specs.Causes.{Rose};
+ghost use Rattle.std.specs.Prelude.{◌≡◌, ◌↔◌, ◌≤◌, ◌∷◌, ◌++◌, [], ℕ, List, Some, None, true, MatchResult, IfOk, IfSome, IsTrue};
+ghost use Rattle.outside.specs.Causes.{Rose, SourceState};
+ghost use Rattle.step_line.specs.declared.Record.{Record as AnyRecord};
 ghost use Rattle.run_audit.specs.Reading.{KnowsSteps, IsSame};
+ghost use Rattle.run_audit.specs.SoFar.{StepsSoFar, StaysRecorded, KeepsLine, IsRead, IsReadOn, EndsSteps};
+ghost use Rattle.audit_readers.specs.Windows.{too_long};
 
 use crate::listening::TOO_LONG;
 use audit_readers::StepReader;
@@ -23,7 +26,8 @@ pub(crate) struct Recorded {
 impl Recorded {
     /// Reads the form.
     pub(crate) fn open<S: Source>(source: &mut S) -> Result<Recorded, Failed>
-        ensures { MatchResult result (λ r. KnowsSteps r.reader (S.state source.new) × IsSame (S.state source.old) (S.state source.new)) (λ e. Rose (S.state source.old).faults (S.state source.new).faults) }
+        ensures known { MatchResult result (λ r. KnowsSteps r.reader (S.state source.new) × IsSame (S.state source.old) (S.state source.new)) (λ e. Rose (S.state source.old).faults (S.state source.new).faults) }
+        ensures opens { IfOk result (λ r. (text : List ℕ) → (S.state source.old).left ≡ Some text → StepsSoFar r (S.state source.new) text []) }
     {
         let reader = StepReader::open(source)?;
         let at = reader.place();
@@ -38,7 +42,9 @@ impl Recorded {
     /// The record that comes next, if a line stands there that may.
     pub(crate) fn look<S: Source>(&mut self, source: &mut S) -> Result<Option<Record>, Failed>
         requires known { KnowsSteps self.old.reader (S.state source.old) }
-        ensures { MatchResult result (λ answer. KnowsSteps self.new.reader (S.state source.new) × IsSame (S.state source.old) (S.state source.new)) (λ e. Rose (S.state source.old).faults (S.state source.new).faults) }
+        ensures known { MatchResult result (λ answer. KnowsSteps self.new.reader (S.state source.new) × IsSame (S.state source.old) (S.state source.new)) (λ e. Rose (S.state source.old).faults (S.state source.new).faults) }
+        ensures next { IfOk result (λ found. found ≡ self.new.next) }
+        ensures so_far { IfOk result (λ found. StaysRecorded self.old self.new (S.state source.old) (S.state source.new)) }
     {
         if self.next.is_some() {
             return Ok(self.next);
@@ -54,7 +60,9 @@ impl Recorded {
 
     /// A line was read.
     fn keep(&mut self, line: Option<Line>)
-        ensures { self.new.reader ≡ self.old.reader }
+        ensures reader { self.new.reader ≡ self.old.reader }
+        ensures kept { IfSome line (λ l. KeepsLine self.new l) }
+        ensures none { line ≡ None → self.new ≡ self.old }
     {
         match line {
             Some(Line::One(record)) => {
@@ -71,7 +79,8 @@ impl Recorded {
 
     /// The record is taken.
     pub(crate) fn take(&mut self)
-        ensures { self.new.reader ≡ self.old.reader }
+        ensures reader { self.new.reader ≡ self.old.reader }
+        ensures told { (r : AnyRecord) → self.old.next ≡ Some r → (source : SourceState) (text : List ℕ) (told : List AnyRecord) → StepsSoFar self.old source text told → StepsSoFar self.new source text (told ++ r ∷ []) }
     {
         self.count = self.count.saturating_sub(1);
         if self.count == 0 {
@@ -87,25 +96,32 @@ impl Recorded {
     /// Whether the text is at its end.
     pub(crate) fn ends<S: Source>(&mut self, source: &mut S) -> Result<bool, Failed>
         requires known { KnowsSteps self.old.reader (S.state source.old) }
-        ensures { MatchResult result (λ answer. KnowsSteps self.new.reader (S.state source.new) × IsSame (S.state source.old) (S.state source.new)) (λ e. Rose (S.state source.old).faults (S.state source.new).faults) }
+        ensures known { MatchResult result (λ answer. KnowsSteps self.new.reader (S.state source.new) × IsSame (S.state source.old) (S.state source.new)) (λ e. Rose (S.state source.old).faults (S.state source.new).faults) }
+        ensures ends { IfOk result (λ over. EndsSteps over self.old self.new (S.state source.old) (S.state source.new)) }
     {
         self.at = self.reader.place();
-        self.reader.is_at_end(source)
+        let is_at_end = self.reader.is_at_end(source)?;
+        Ok(is_at_end && self.next.is_none())
     }
 
     /// Takes all that follows.
     pub(crate) fn take_rest<S: Source>(&mut self, source: &mut S) -> Result<(), Failed>
         requires known { KnowsSteps self.old.reader (S.state source.old) }
-        ensures { MatchResult result (λ answer. KnowsSteps self.new.reader (S.state source.new) × IsSame (S.state source.old) (S.state source.new)) (λ e. Rose (S.state source.old).faults (S.state source.new).faults) }
+        ensures known { MatchResult result (λ answer. KnowsSteps self.new.reader (S.state source.new) × IsSame (S.state source.old) (S.state source.new)) (λ e. Rose (S.state source.old).faults (S.state source.new).faults) }
+        ensures read { IfOk result (λ done. IsReadOn self.old.reader.window self.new.reader.window (S.state source.old) (S.state source.new) self.old.reader.place self.new.reader.place) }
+        ensures over { IfOk result (λ done. IsRead self.new.reader.window self.new.reader.place) }
     {
         if self.reader.place() >= TOO_LONG {
             return Ok(());
         }
-        self.reader.take_rest(source)
+        self.reader.take_rest(source)?;
+        Ok(())
     }
 
     /// Whether the text is too long.
-    pub(crate) fn is_too_long(&self) -> bool {
+    pub(crate) fn is_too_long(&self) -> bool
+        ensures { IsTrue result ↔ (too_long ≤ self.now.reader.place) }
+    {
         self.reader.place() >= TOO_LONG
     }
 }

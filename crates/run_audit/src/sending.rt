@@ -184,7 +184,8 @@ impl Sending {
 
     /// The first line that is not audited, of those that were read.
     pub(crate) fn foreign(&self) -> Option<u32>
-        ensures { IfSome result (λ line. (source : SourceState) (text : List ℕ) (told : List Sent) → JobSoFar self.now source text told → IsFirstForeign (scanned text).lines line) }
+        ensures first { IfSome result (λ line. (source : SourceState) (text : List ℕ) (told : List Sent) → JobSoFar self.now source text told → IsFirstForeign (scanned text).lines line) }
+        ensures none { result ≡ None → self.now.foreign ≡ 0 }
     {
         if self.foreign == 0 {
             return None;

@@ -6,6 +6,13 @@ use std::test::Fail;
 
 const BANNER: &str = "\r\nGrbl 1.1h ['$' for help]\r\n";
 
+/// The steps of a jog that a hold cuts.
+const CUT_BEHIND_AN_ALARM: &str = "\
+    s 2 1 0 226951\nX-\ns 2 1 80000 160000\nX-\ns 2 1 160000 130880\nX-\ns 2 1 240000 113275\n\
+    X-\ns 2 1 320000 101266\nX-\ns 2 1 400000 92486\nX-\ns 2 1 480000 85562\nX-\n\
+    s 2 2 560000 85562\nX-\nX-\ns 2 1 400000 101266\nX-\ns 2 1 320000 113275\nX-\n\
+    s 2 1 240000 130880\nX-\ns 2 1 160000 160000\nX-\ns 2 1 80000 226951\nX-\nX 2\nE\n";
+
 /// What is found of three texts.
 fn found(rt: &HostRuntime, job: &[u8], console: &[u8], steps: &[u8]) -> Result<Audit, Fail> {
     let mut job = MemSource::new(job, 7, &[]);
@@ -134,6 +141,21 @@ fn resets_are_followed(rt: HostRuntime) -> Result<(), Fail> {
         )?,
         Audit::Misfit { at: 18 }
     );
+    Ok(())
+}
+
+#[test]
+fn holds_behind_an_alarm_may_cut(rt: HostRuntime) -> Result<(), Fail> {
+    let console =
+        b"\r\nGrbl 1.1h ['$' for help]\r\nok\r\nok\r\nALARM:2\r\n[MSG:Reset to continue]\r\n";
+    let steps = CUT_BEHIND_AN_ALARM.as_bytes();
+    let job = b"$20=1\n$J=G91X-0.2F500\nG53G0X1\n!\n";
+    assert_eq!(rt;
+        found(&rt, job, console, steps)?,
+        Audit::Fits { events: 14 }
+    );
+    let job = b"$20=1\n$J=G91X-0.2F500\nG53G0X1\n?\n";
+    assert_eq!(rt; found(&rt, job, console, steps)?, Audit::Misfit { at: 296 });
     Ok(())
 }
 

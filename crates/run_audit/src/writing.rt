@@ -1,11 +1,12 @@
 //! The call, and the line that says what was found.
 
-ghost use Rattle.std.specs.Prelude.{◌≡◌, ◌≢◌, MatchResult, not, is_ok, length, true};
+ghost use Rattle.std.specs.Prelude.{◌≡◌, ◌≢◌, ℕ, List, Some, MatchResult, IfOk, not, is_ok, length, true};
 ghost use Rattle.outside.specs.Causes.{Rose};
 ghost use Rattle.outside.specs.Writing.{Took};
 ghost use Rattle.audit_rules.specs.Findings.{audit_text};
 ghost use Rattle.run_audit.specs.Going.{AllSame, IsCaused};
-ghost use Rattle.run_audit.specs.Auditing.{IsAnswered, IsOfTexts, is_found};
+ghost use Rattle.run_audit.specs.Auditing.{IsAnswered, IsOfTexts, RightOf, TellsRightly, is_found};
+ghost use Rattle.run_audit.specs.UnderWay.{IsSaid};
 
 use crate::auditor::{Auditor, Finding, Unread};
 use crate::recorded::Recorded;
@@ -36,8 +37,10 @@ fn tell<O: Sink>(audit: &Audit, out: &mut O) -> Result<(), Failed>
 }
 
 /// The answer where something was found.
+#[tactic(auto, using(crate::proofs::Telling::fits_told, crate::proofs::Telling::misfit_told, crate::proofs::Telling::replies_told, crate::proofs::Telling::foreign_told, crate::proofs::Telling::too_long_told))]
 fn answer_of(found: Finding) -> Audit
-    ensures { is_found result ≡ true }
+    ensures found { is_found result ≡ true }
+    ensures right { (job console steps : List ℕ) → IsSaid job console steps found → TellsRightly job console steps result }
 {
     match found {
         Finding::Fits(events) => Audit::Fits { events },
@@ -54,7 +57,9 @@ fn audit<J: Source, C: Source, S: Source>(
     console: &mut C,
     steps: &mut S,
 ) -> Result<Finding, Unread>
-    ensures { MatchResult result (λ found. AllSame (J.state job.old) (C.state console.old) (S.state steps.old) (J.state job.new) (C.state console.new) (S.state steps.new))
+    ensures right { IfOk result (λ found. (job_text console_text steps_text : List ℕ) → (J.state job.old).left ≡ Some job_text → (C.state console.old).left ≡ Some console_text → (S.state steps.old).left ≡ Some steps_text →
+        IsSaid job_text console_text steps_text found) }
+    ensures known { MatchResult result (λ found. AllSame (J.state job.old) (C.state console.old) (S.state steps.old) (J.state job.new) (C.state console.new) (S.state steps.new))
         (λ e. IsCaused e (J.state job.old) (C.state console.old) (S.state steps.old) (J.state job.new) (C.state console.new) (S.state steps.new)) }
 {
     match Recorded::open(steps) {
@@ -65,7 +70,8 @@ fn audit<J: Source, C: Source, S: Source>(
 
 /// The answer to three texts.
 fn answer<J: Source, C: Source, S: Source>(job: &mut J, console: &mut C, steps: &mut S) -> Audit
-    ensures { IsOfTexts (J.state job.old) (J.state job.new) (C.state console.old) (C.state console.new) (S.state steps.old) (S.state steps.new) result }
+    ensures right { RightOf (J.state job.old).left (C.state console.old).left (S.state steps.old).left result }
+    ensures faults { IsOfTexts (J.state job.old) (J.state job.new) (C.state console.old) (C.state console.new) (S.state steps.old) (S.state steps.new) result }
 {
     match audit(job, console, steps) {
         Ok(found) => answer_of(found),
@@ -84,7 +90,8 @@ pub fn run_audit<J: Source, C: Source, S: Source, O: Sink>(
     steps: &mut S,
     out: &mut O,
 ) -> Audit
-    ensures { IsAnswered (length words.now) (J.state job.old) (J.state job.new) (C.state console.old) (C.state console.new) (S.state steps.old) (S.state steps.new) (O.state out.old) (O.state out.new) result }
+    ensures right { RightOf (J.state job.old).left (C.state console.old).left (S.state steps.old).left result }
+    ensures answered { IsAnswered (length words.now) (J.state job.old) (J.state job.new) (C.state console.old) (C.state console.new) (S.state steps.old) (S.state steps.new) (O.state out.old) (O.state out.new) result }
 {
     if words.len() != 3 {
         let _ = tell(&Audit::Usage, out);

@@ -1,11 +1,16 @@
-use Rattle.std.proofs.Common.{◌≡◌}
+use Rattle.std.proofs.Common.{◌≡◌, ◌≤◌, ℕ, List, length, map}
+use Rattle.outside.specs.Causes.{SourceState}
+use Rattle.run_texts.specs.Sent.Sent.{a_text}
 use Rattle.run_audit.specs.Reading.{KnowsJob, IsSame}
+use Rattle.run_audit.specs.UnderWay.{IsUnderWay, IsDropping, OthersStay}
 use Rattle.run_audit.proofs.auditor.Auditor.drop_lines.Given as goal
 
 abbrev pub invariant-lines : goal.invariant-lines
 invariant-lines g l = record {
   known : KnowsJob l.self.sending.reader (g.J.Source.state l.job);
   same : IsSame (g.J.Source.state l.fn.job) (g.J.Source.state l.job);
-  listening : l.self.listening.reader ≡ l.fn.self.listening.reader;
-  recorded : l.self.recorded.reader ≡ l.fn.self.recorded.reader;
+  others : OthersStay l.fn.self l.self;
+  few : l.dropped ≤ l.counter;
+  dropping : (console steps : SourceState) (job_text console_text steps_text : List ℕ) → IsUnderWay l.fn.self (g.J.Source.state l.fn.job) console steps job_text console_text steps_text
+      → (lines : List (List ℕ)) × (l.dropped ≡ length lines) × IsDropping l.self (g.J.Source.state l.job) console steps job_text console_text steps_text (map a_text lines);
 }

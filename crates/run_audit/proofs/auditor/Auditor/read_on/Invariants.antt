@@ -1,11 +1,17 @@
-use Rattle.std.proofs.Common.{◌≡◌}
+use Rattle.std.proofs.Common.{◌≡◌, List, ℕ}
+use Rattle.outside.specs.Causes.{SourceState}
+use Rattle.run_texts.specs.Sent.{Sent}
 use Rattle.run_audit.specs.Reading.{KnowsJob, IsSame}
+use Rattle.run_audit.specs.UnderWay.{IsUnderWay, IsDropping, CanBeRead, OthersStay}
 use Rattle.run_audit.proofs.auditor.Auditor.read_on.Given as goal
 
 abbrev pub invariant-rest : goal.invariant-rest
 invariant-rest g l = record {
   known : KnowsJob l.self.sending.reader (g.J.Source.state l.job);
   same : IsSame (g.J.Source.state l.fn.job) (g.J.Source.state l.job);
-  listening : l.self.listening.reader ≡ l.fn.self.listening.reader;
-  recorded : l.self.recorded.reader ≡ l.fn.self.recorded.reader;
+  others : OthersStay l.fn.self l.self;
+  dropping : (console steps : SourceState) (job_text console_text steps_text : List ℕ) → IsUnderWay l.fn.self (g.J.Source.state l.fn.job) console steps job_text console_text steps_text
+      → (more : List Sent) × IsDropping l.self (g.J.Source.state l.job) console steps job_text console_text steps_text more;
+  can_be_read : (console steps : SourceState) (job_text console_text steps_text : List ℕ) → CanBeRead l.fn.self (g.J.Source.state l.fn.job) console steps job_text console_text steps_text
+      → CanBeRead l.self (g.J.Source.state l.job) console steps job_text console_text steps_text;
 }

@@ -1,0 +1,161 @@
+-- Texts that are read whole, and that the judge found to fit.
+use Rattle.std.proofs.Common.{◌≡◌, ◌≤◌, ◌<◌, ◌+◌, ◌-◌, ◌||◌, ℕ, zero, suc, nat_lt, Bool, true, false, cond, List, [], ◌∷◌, ◌++◌, append-nil, append_assoc, length, take, None, Some, IfSome, sym, refl, ap, ◌∙◌, subst, arith}
+use Rattle.std.specs.declared.option.Option.{Option}
+use Rattle.std.proofs.lemmas.Bool.Decides.{nat_tests}
+use Rattle.std.proofs.lemmas.List.{take-append-le}
+use Rattle.std.proofs.lemmas.List.Elements.{filter-append}
+use Rattle.flight.specs.Places.{origin}
+use Rattle.outside.specs.Causes.{SourceState}
+use Rattle.legal_heads.specs.Whole.{events_among, is_event}
+use Rattle.status_report.specs.declared.Reply.{Reply}
+use Rattle.status_report.specs.declared.Reply.TheVariants.{Banner}
+use Rattle.step_line.specs.declared.Record.{Record}
+use Rattle.step_line.specs.declared.Record.TheVariants as kinds
+use Rattle.step_record.specs.declared.forms.Line.{Line}
+use Rattle.run_rules.specs.declared.State.{State}
+use Rattle.run_rules.specs.Outcomes.{either}
+use Rattle.run_rules.specs.States.{IsOpening}
+use Rattle.run_texts.specs.Fits.{FitsTexts}
+use Rattle.run_texts.specs.Parts.{Part, parts_of}
+use Rattle.run_texts.specs.Points.{Point, opening}
+use Rattle.run_texts.specs.Recorded.{AreRecorded}
+use Rattle.run_texts.specs.Sent.{Sent, kept_of}
+use Rattle.run_texts.specs.Told.{told_in, IsTold}
+use Rattle.run_texts.proofs.Leading.{onto_none}
+use Rattle.audit_rules.specs.Findings.{TextsFit, FitsWith, HasForeign, is_foreign, foreign_in}
+use Rattle.audit_rules.specs.Scanned.{scanned, sent_in, cuts_scanned, cuts_with_alarm, most_cuts}
+use Rattle.audit_rules.specs.StepTexts.{IsStepText, records_of}
+use Rattle.audit_course.specs.SoFar.{GoesTo, IsOver}
+use Rattle.audit_course.specs.declared.judge.CourseJudge.{CourseJudge}
+use Rattle.audit_rules.proofs.Alarmed.{alarm_of}
+use Rattle.run_audit.specs.SoFar.{JobSoFar, IsLeft, IsWhole, IsAllRead, audited}
+use Rattle.run_audit.proofs.JobRead.{all_sent, front_sent, few_cuts, few_cuts_to, IsFront}
+use Rattle.run_audit.specs.declared.sending.Sending.{Sending}
+
+-- what is told of the job is all of it, or what comes up to the line that raises an alarm
+record EndsJob (text : List ℕ) (sent : List Sent) (cuts : ℕ) (last : Point) : Type 0 where
+  pub later : List Sent
+  pub split : sent_in text ≡ sent ++ later
+  pub over : either last.before.alarmed (Unit {0}) (later ≡ [])
+  pub few : cuts ≤ most_cuts text last
+
+ends_job : (s : Sending) (source : SourceState) (text : List ℕ) (sent more : List Sent) (last : Point) (halts : Bool) (number : ℕ) → (s.last ≡ None → more ≡ []) → JobSoFar s source text (sent ++ more)
+    → last.before.alarmed ≡ halts → last.before.number ≡ number → IsAllRead s halts number → EndsJob text sent s.cuts last
+ends_job s source text sent more last true number none j alarmed is all =
+    let f = front_sent s source text (sent ++ more) j in
+    let number_is = all.2 in
+    let k : last.before.number - 1 ≡ all.0 = omega (arith, is, number_is) in
+    let few : s.cuts ≤ cuts_with_alarm (last.before.number - 1) text = subst (λ (n : ℕ). s.cuts ≤ cuts_with_alarm n text) (sym k) (few_cuts_to s source text (sent ++ more) all.0 all.1 j) in
+    record {
+      later = more ++ f.later;
+      split = f.split ∙ append_assoc sent more f.later;
+      over = subst (λ (b : Bool). either b (Unit {0}) (more ++ f.later ≡ [])) (sym alarmed) tt;
+      few = subst (λ (b : Bool). s.cuts ≤ cond b (cuts_with_alarm (last.before.number - 1) text) (cuts_scanned (scanned text))) (sym alarmed) few;
+    }
+ends_job s source text sent more last false number none j alarmed is all =
+    let whole : sent ++ [] ≡ sent_in text = ap (λ (ss : List Sent). sent ++ ss) (sym (none all.0)) ∙ all_sent s source text (sent ++ more) all.1 all.2 all.3 j in
+    record {
+      later = [];
+      split = sym whole;
+      over = subst (λ (b : Bool). either b (Unit {0}) (◌≡◌ {A = List Sent} [] [])) (sym alarmed) refl;
+      few = subst (λ (b : Bool). s.cuts ≤ cond b (cuts_with_alarm (last.before.number - 1) text) (cuts_scanned (scanned text))) (sym alarmed) (few_cuts s source text (sent ++ more) all.0 j);
+    }
+
+no_event : (records : List Record) → events_among (records ++ kinds.End ∷ []) ≡ events_among records
+no_event records = filter-append is_event records (kinds.End ∷ []) ∙ append-nil (events_among records)
+
+-- texts that fit, by a course that ends where the judge stands
+pub record FitFound (job console steps : List ℕ) (events line : ℕ) (halts : Bool) : Type 0 where
+  pub fit : FitsWith job console steps events
+  pub alarmed : fit.fit.fits.last.before.alarmed ≡ halts
+  pub number : fit.fit.fits.last.before.number ≡ line
+
+pub fit_found : (k : CourseJudge) (s : Sending) (source : SourceState) (job console steps : List ℕ) (first : State) (sent more : List Sent) (replies : List Reply) (records : List Record) (lines : List Line) (events : ℕ)
+    → IsOpening first → IsOver k first sent replies records → (s.last ≡ None → more ≡ []) → JobSoFar s source job (sent ++ more) → IsAllRead s k.line.halts k.work.number → k.cuts ≤ s.cuts
+    → IsWhole console replies → IsStepText steps lines → records_of lines ≡ records ++ kinds.End ∷ [] → events ≡ length (events_among records) → FitFound job console steps events k.work.number k.line.halts
+fit_found k s source job console steps first sent more replies records lines events opens over none j all few_told w steps_are are count =
+    let e = ends_job s source job sent more over.last k.line.halts k.work.number none j over.alarmed over.number all in
+    let n = most_cuts job over.last - k.cuts in
+    let g = over.fits n in
+    let few = g.few in
+    let most = e.few in
+    let recorded : AreRecorded origin (parts_of g.course) (records_of lines) =
+    subst (λ (rs : List Record). AreRecorded origin (parts_of g.course) rs) (sym are) (subst (λ (ps : List Part). AreRecorded origin ps (records ++ kinds.End ∷ [])) (onto_none (parts_of g.course)) g.recorded) in
+    let fits : FitsTexts sent (most_cuts job over.last) (Banner ∷ w.behind) (records_of lines) = record {
+      first = first;
+      opens = opens;
+      course = g.course;
+      last = over.last;
+      follows = g.follows;
+      told = record { behind = w.behind; begins = refl; told = w.are ∙ g.told };
+      recorded = recorded;
+      few = omega (arith, few, most, few_told);
+    } in
+    let fit : TextsFit job console (records_of lines) = record {
+      behind = w.behind;
+      text = w.text_is;
+      each = w.each;
+      sent = sent;
+      later = e.later;
+      split = e.split;
+      cancels = most_cuts job over.last;
+      fits = fits;
+      counted = refl;
+      over = e.over;
+    } in
+    let found : FitsWith job console steps events = record {
+      lines = lines;
+      steps_are = steps_are;
+      fit = fit;
+      count = count ∙ ap length (sym (no_event records)) ∙ ap (λ (rs : List Record). length (events_among rs)) (sym are);
+    } in
+    record { fit = found; alarmed = over.alarmed; number = over.number }
+
+-- ---- each line that is sent is audited
+
+differ : {A : Type 0} (b : Bool) → b ≡ true → b ≡ false → A
+differ true e f = absurd cc
+differ false e f = absurd cc
+
+or_first : (a b : Bool) → (a || b) ≡ false → a ≡ false
+or_first true b e = absurd cc
+or_first false b e = refl
+
+or_second : (a b : Bool) → (a || b) ≡ false → b ≡ false
+or_second true b e = absurd cc
+or_second false b e = e
+
+-- a line is not among the first of some that are audited, if it is not
+not_in_front : {A : Type 0} (xs : List (List ℕ)) (y : List ℕ) (zs : List (List ℕ)) (k : ℕ) → length xs < k → foreign_in (take k (xs ++ y ∷ zs)) ≡ false → is_foreign (kept_of y) ≡ true → A
+not_in_front xs y zs zero few none is = absurd (omega (arith, few))
+not_in_front [] y zs (suc k) few none is = differ (is_foreign (kept_of y)) is (or_first (is_foreign (kept_of y)) (foreign_in (take k zs)) none)
+not_in_front (x ∷ xs) y zs (suc k) few none is = not_in_front xs y zs k (omega (arith, few)) (or_second (is_foreign (kept_of x)) (foreign_in (take k (xs ++ y ∷ zs))) none) is
+
+not_among : {A : Type 0} (xs : List (List ℕ)) (y : List ℕ) (zs : List (List ℕ)) → foreign_in (xs ++ y ∷ zs) ≡ false → is_foreign (kept_of y) ≡ true → A
+not_among [] y zs none is = differ (is_foreign (kept_of y)) is (or_first (is_foreign (kept_of y)) (foreign_in zs) none)
+not_among (x ∷ xs) y zs none is = not_among xs y zs (or_second (is_foreign (kept_of x)) (foreign_in (xs ++ y ∷ zs)) none) is
+
+-- of texts that fit no line is sent that is not audited, if none was read
+pub none_foreign : {A : Type 0} (s : Sending) (source : SourceState) (job console steps : List ℕ) (told : List Sent) (events number : ℕ) (halts : Bool) → s.foreign ≡ 0 → JobSoFar s source job told → IsAllRead s halts number
+    → FitFound job console steps events number halts → HasForeign job console steps → A
+none_foreign s source job console steps told events number false clean j all f h =
+    let none : j.left.lines ≡ [] = subst (λ (b : Bool). IsLeft b s.reader source j.left j.later) all.1 j.goes_on in
+    let lines : h.1.before ++ h.1.here ∷ h.1.behind ≡ j.lines = sym h.1.split ∙ j.split ∙ ap (λ (ls : List (List ℕ)). j.lines ++ ls) none ∙ append-nil j.lines in
+    let audited_are : foreign_in j.lines ≡ false = subst (λ (o : Option ℕ). foreign_in (audited o j.lines) ≡ false) all.0 (j.foreign.none clean) in
+    not_among h.1.before h.1.here h.1.behind (ap foreign_in lines ∙ audited_are) h.1.is
+none_foreign s source job console steps told events number true clean j all f h = by_place (nat_lt (length h.1.before) all.0) refl where
+  within : all.0 ≤ length j.lines
+  within = subst (λ (o : Option ℕ). IfSome o (λ n. n ≤ length j.lines)) all.1 j.within
+
+  first : take all.0 (h.1.before ++ h.1.here ∷ h.1.behind) ≡ take all.0 j.lines
+  first = ap (take all.0) (sym h.1.split ∙ j.split) ∙ take-append-le all.0 j.lines j.left.lines within
+
+  audited_are : foreign_in (take all.0 j.lines) ≡ false
+  audited_are = subst (λ (o : Option ℕ). foreign_in (audited o j.lines) ≡ false) all.1 (j.foreign.none clean)
+
+  by_place : {A : Type 0} (b : Bool) → nat_lt (length h.1.before) all.0 ≡ b → A
+  by_place true e = not_in_front h.1.before h.1.here h.1.behind all.0 (grind (arith, nat_tests, e)) (ap foreign_in first ∙ audited_are) h.1.is
+  by_place false e =
+      let later : all.0 ≤ length h.1.before = grind (arith, nat_tests, e) in
+      let number_is = h.1.number in
+      absurd (h.1.sent all.0 (omega (arith, later, number_is)) (alarm_of job console steps events f.fit f.alarmed all.0 (f.number ∙ all.2)))

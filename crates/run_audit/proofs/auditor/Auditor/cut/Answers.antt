@@ -1,0 +1,16 @@
+use Rattle.std.proofs.Common.{refl}
+use Rattle.step_line.specs.declared.Mark.TheVariants.{Cut as CutMark}
+use Rattle.step_line.specs.declared.Record.TheVariants as kinds
+use Rattle.run_audit.specs.declared.auditor.Auditor.{Auditor}
+use Rattle.run_audit.proofs.Under.{record_told, broken_by}
+use Rattle.run_audit.proofs.auditor.Auditor.cut.Goals as goal
+
+pub returns-then-cut-clause-so_far : goal.returns-then-cut-clause-so_far
+returns-then-cut-clause-so_far c = λ job console steps.
+    let a = c.args.self.now in
+    let b : Auditor = record a { course = c.cut.new.self; recorded = c.take.new.self } in
+    record_told a b (kinds.Mark (CutMark c.args.k)) job console steps (λ t told h. h) (λ t told h. h) (λ t told h. c.take.ensures.told (kinds.Mark (CutMark c.args.k)) c.requires.next steps t told h) refl (c.cut.ensures c.if-cut.true)
+
+pub returns-clause-so_far : goal.returns-clause-so_far
+returns-clause-so_far c = λ job console steps.
+    broken_by c.args.self.now c.break_off.new.self job console steps c.break_off.ensures.sending c.break_off.ensures.listening c.break_off.ensures.recorded c.break_off.ensures.broken

@@ -1,0 +1,26 @@
+use Rattle.std.specs.Prelude.{None}
+use Rattle.run_audit.specs.declared.auditor.Auditor.{Auditor}
+use Rattle.run_audit.proofs.Under.{reads_on, goes_then, goes_on_by}
+use Rattle.run_audit.proofs.auditor.Auditor.enter.Goals as goal
+
+pub returns-clause-goes_on : goal.returns-clause-goes_on
+returns-clause-goes_on g c =
+    let a = c.args.self.now in
+    let b : Auditor = record a { listening = c.look.new.self } in
+    let job = g.J.Source.state c.args.job.now in
+    let before = g.C.Source.state c.args.console.now in
+    let after = g.C.Source.state c.look.new.source in
+    let steps = g.S.Source.state c.args.steps.now in
+    let first = reads_on a b job before steps job after steps (λ t told h. h) c.in-Ok.ensures.so_far (λ t told h. h) (λ none. (none, λ f ss rs xs h. h)) in
+    goes_on_by c.enter_line.result (λ found. goes_then a b c.enter_line.new.self job before steps job after steps (g.J.Source.state c.enter_line.new.job) (g.C.Source.state c.enter_line.new.console) (g.S.Source.state c.enter_line.new.steps) found first) c.enter_line.ensures.goes_on
+
+pub returns-in-Some-Alarm-clause-goes_on : goal.returns-in-Some-Alarm-clause-goes_on
+returns-in-Some-Alarm-clause-goes_on g c =
+    let a = c.args.self.now in
+    let b : Auditor = record a { listening = c.look.new.self } in
+    let job = g.J.Source.state c.args.job.now in
+    let before = g.C.Source.state c.args.console.now in
+    let after = g.C.Source.state c.look.new.source in
+    let steps = g.S.Source.state c.args.steps.now in
+    let first = reads_on a b job before steps job after steps (λ t told h. h) c.in-Ok.ensures.so_far (λ t told h. h) (λ none. (none, λ f ss rs xs h. h)) in
+    goes_on_by c.reset.result (λ found f. goes_then a b c.reset.new.self job before steps job after steps (g.J.Source.state c.reset.new.job) after steps found first (f after steps)) c.reset.ensures.goes_on

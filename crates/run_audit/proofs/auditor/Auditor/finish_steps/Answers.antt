@@ -1,0 +1,52 @@
+use Rattle.std.proofs.Common.{◌≡◌, ◌∙◌, true, None, Some, refl, ap, subst, sym, rules}
+use Rattle.std.specs.declared.option.Option.{Option}
+use Rattle.step_line.specs.declared.Record.{Record}
+use Rattle.step_line.specs.declared.Record.TheVariants as kinds
+use Rattle.run_audit.specs.SoFar.{IsReadTo, StepsSoFar}
+use Rattle.run_audit.specs.UnderWay.{IsNext}
+use Rattle.run_audit.specs.declared.auditor.Auditor.{Auditor}
+use Rattle.run_audit.specs.declared.recorded.Recorded.{Recorded}
+use Rattle.run_audit.proofs.StepsRead.{read_to}
+use Rattle.run_audit.proofs.Under.{steps_break, steps_fit, not_broken}
+use Rattle.run_audit.proofs.auditor.Auditor.finish_steps.Goals as goal
+
+pub returns-in-Some-clause-found : goal.returns-in-Some-clause-found
+returns-in-Some-clause-found g c =
+    let a = c.args.self.now in
+    let here = g.S.Source.state c.args.steps.now in
+    steps_break a a here here c.in-Some.at refl refl (λ t told h. read_to a.recorded here t told h)
+
+pub returns-then-not-may_end-clause-found : goal.returns-then-not-may_end-clause-found
+returns-then-not-may_end-clause-found g c =
+    let a = c.args.self.now in
+    let here = g.S.Source.state c.args.steps.now in
+    steps_break a c.may_end.new.self here here c.at.result c.may_end.ensures.sending c.may_end.ensures.listening
+    (λ t told h. subst (λ (r : Recorded). IsReadTo r.reader.window here r.reader.place t) (sym c.may_end.ensures.recorded) (read_to a.recorded here t told h))
+
+pub returns-in-Ok-false-clause-found : goal.returns-in-Ok-false-clause-found
+returns-in-Ok-false-clause-found g c =
+    let a = c.args.self.now in
+    let here = g.S.Source.state c.args.steps.now in
+    let yes : c.may_end.result ≡ true = search rules in
+    let next : a.recorded.next ≡ Some kinds.End = subst (λ (o : Option Record). IsNext a o) (c.may_end.ensures.next yes) c.requires.next in
+    let same = c.may_end.ensures.recorded in
+    let b : Auditor = record c.may_end.new.self { recorded = c.ends.new.self } in
+    steps_break a b here (g.S.Source.state c.ends.new.source) c.at-in-Ok-false.result c.may_end.ensures.sending c.may_end.ensures.listening
+    (λ t told h. (c.in-Ok-false.ensures.ends t _
+    (c.take.ensures.told kinds.End (ap (λ (r : Recorded). r.next) same ∙ next) here t told (subst (λ (r : Recorded). StepsSoFar r here t told) (sym same) h))).read)
+
+pub returns-in-Ok-true-clause-found : goal.returns-in-Ok-true-clause-found
+returns-in-Ok-true-clause-found g c =
+    let a = c.args.self.now in
+    let here = g.S.Source.state c.args.steps.now in
+    let yes : c.may_end.result ≡ true = search rules in
+    let next : a.recorded.next ≡ Some kinds.End = subst (λ (o : Option Record). IsNext a o) (c.may_end.ensures.next yes) c.requires.next in
+    let same = c.may_end.ensures.recorded in
+    let none : a.broken ≡ None = not_broken a.broken c.in_default.not-Some in
+    let b : Auditor = record c.may_end.new.self { recorded = c.ends.new.self } in
+    let may = c.may_end.ensures.ends yes in
+    steps_fit a b here (g.S.Source.state c.ends.new.source) c.events-events.result c.may_end.ensures.sending c.may_end.ensures.listening none
+    (record { ends = may.ends; told = may.told; few = may.few; audited = may.audited }) c.events-events.ensures
+    (λ t told h.
+    let e = c.in-Ok-true.ensures.ends t _ (c.take.ensures.told kinds.End (ap (λ (r : Recorded). r.next) same ∙ next) here t told (subst (λ (r : Recorded). StepsSoFar r here t told) (sym same) h)) in
+    (e.read, e.all c.in-Ok-true.field-0-test))

@@ -1,0 +1,31 @@
+use Rattle.std.proofs.Common.{◌≡◌, ◌∷◌, ◌++◌, [], Bool, refl, subst}
+use Rattle.run_audit.specs.SoFar.{Hears}
+use Rattle.run_audit.specs.declared.auditor.Auditor.{Auditor}
+use Rattle.run_audit.proofs.Under.{reply_told, bad_found, can_be_read}
+use Rattle.run_audit.proofs.StepsRead.{read_to}
+use Rattle.run_audit.proofs.auditor.Auditor.hear.Goals as goal
+
+pub returns-then-matches-clause-goes_on : goal.returns-then-matches-clause-goes_on
+returns-then-matches-clause-goes_on g c = λ job steps.
+    let a = c.args.self.now in
+    let b : Auditor = record a { course = c.told.new.self; listening = c.hears.new.self; answered = c.saturating_sub-line.result } in
+    reply_told a b c.reply-reply.result job (g.C.Source.state c.args.console.now) steps (g.C.Source.state c.hears.new.source) (λ t told h. h) (λ t told h. h)
+    (λ t told h. subst (λ (y : Bool). Hears y c.hears.new.self (g.C.Source.state c.hears.new.source) t (told ++ c.reply-reply.result ∷ [])) c.in-Ok-true.field-0-test (c.in-Ok-true.ensures.so_far t told h)) refl
+    (c.told.ensures c.reply-reply.result c.reply-reply.ensures.next)
+
+pub returns-else-matches-clause-goes_on : goal.returns-else-matches-clause-goes_on
+returns-else-matches-clause-goes_on g c = λ job steps.
+    let a = c.args.self.now in
+    let b : Auditor = record a { course = c.told.new.self; listening = c.hears.new.self } in
+    reply_told a b c.reply-reply.result job (g.C.Source.state c.args.console.now) steps (g.C.Source.state c.hears.new.source) (λ t told h. h) (λ t told h. h)
+    (λ t told h. subst (λ (y : Bool). Hears y c.hears.new.self (g.C.Source.state c.hears.new.source) t (told ++ c.reply-reply.result ∷ [])) c.in-Ok-true.field-0-test (c.in-Ok-true.ensures.so_far t told h)) refl
+    (c.told.ensures c.reply-reply.result c.reply-reply.ensures.next)
+
+pub returns-in-Ok-false-clause-goes_on : goal.returns-in-Ok-false-clause-goes_on
+returns-in-Ok-false-clause-goes_on g c = λ job steps.
+    let a = c.args.self.now in
+    let b : Auditor = record a { listening = c.hears.new.self } in
+    let before = g.C.Source.state c.args.console.now in
+    let after = g.C.Source.state c.hears.new.source in
+    bad_found a b job before steps job after steps c.bad_reply.result c.bad_reply.ensures (can_be_read a b job before steps job after steps (λ t told h. h)
+    (λ t told h. subst (λ (y : Bool). Hears y c.hears.new.self after t (told ++ c.reply-reply.result ∷ [])) c.in-Ok-false.field-0-test (c.in-Ok-false.ensures.so_far t told h)) (λ t told h. read_to a.recorded steps t told h))

@@ -1,0 +1,23 @@
+use Rattle.std.specs.Prelude.{None}
+use Rattle.std.proofs.Common.{IfOk, subst, sym}
+use Rattle.run_audit.proofs.Under.{goes_then, goes_on_by}
+use Rattle.run_audit.proofs.auditor.Auditor.step.Goals as goal
+
+pub returns-then-takes_next-clause-goes_on : goal.returns-then-takes_next-clause-goes_on
+returns-then-takes_next-clause-goes_on g c =
+    let a = c.args.self.now in
+    let job = g.J.Source.state c.args.job.now in
+    let console = g.C.Source.state c.args.console.now in
+    let before = g.S.Source.state c.args.steps.now in
+    let after = g.S.Source.state c.look.new.steps in
+    goes_then a c.look.new.self c.takes_next.new.self job console before job console after job console after None (c.in_ok-record.ensures.so_far job console) (c.takes_next.ensures.so_far job console after)
+
+pub returns-clause-goes_on : goal.returns-clause-goes_on
+returns-clause-goes_on g c =
+    let a = c.args.self.now in
+    let job = g.J.Source.state c.args.job.now in
+    let console = g.C.Source.state c.args.console.now in
+    let before = g.S.Source.state c.args.steps.now in
+    let after = g.S.Source.state c.look.new.steps in
+    let first = goes_then a c.look.new.self c.takes_next.new.self job console before job console after job console after None (c.in_ok-record.ensures.so_far job console) (c.takes_next.ensures.so_far job console after) in
+    goes_on_by c.work.result (λ found. goes_then a c.takes_next.new.self c.work.new.self job console before job console after (g.J.Source.state c.work.new.job) (g.C.Source.state c.work.new.console) (g.S.Source.state c.work.new.steps) found first) c.work.ensures.goes_on

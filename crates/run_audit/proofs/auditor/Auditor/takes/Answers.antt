@@ -1,0 +1,17 @@
+use Rattle.std.proofs.Common.{refl}
+use Rattle.run_audit.specs.declared.auditor.Auditor.{Auditor}
+use Rattle.run_audit.proofs.Under.{record_told, broken_by}
+use Rattle.run_audit.proofs.auditor.Auditor.takes.Goals as goal
+
+pub returns-then-not-owes-clause-so_far : goal.returns-then-not-owes-clause-so_far
+returns-then-not-owes-clause-so_far c = λ job console steps jt ct st u. u
+
+pub returns-then-take-clause-so_far : goal.returns-then-take-clause-so_far
+returns-then-take-clause-so_far c = λ job console steps.
+    let a = c.args.self.now in
+    let b : Auditor = record a { course = c.take.new.self; recorded = c.take-then-take.new.self } in
+    record_told a b c.args.record.now job console steps (λ t told h. h) (λ t told h. h) (λ t told h. c.take-then-take.ensures.told c.args.record.now c.requires.next steps t told h) refl (c.take.ensures c.if-take.true)
+
+pub returns-else-take-clause-so_far : goal.returns-else-take-clause-so_far
+returns-else-take-clause-so_far c = λ job console steps.
+    broken_by c.args.self.now c.break_off.new.self job console steps c.break_off.ensures.sending c.break_off.ensures.listening c.break_off.ensures.recorded c.break_off.ensures.broken

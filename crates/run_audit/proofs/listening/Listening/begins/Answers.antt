@@ -1,0 +1,12 @@
+use Rattle.std.proofs.Common.{◌≡◌, refl, ap, rules}
+use Rattle.run_audit.specs.declared.listening.Listening.{Listening}
+use Rattle.run_audit.proofs.ConsoleRead.{begins_by}
+use Rattle.run_audit.proofs.listening.Listening.begins.Goals as goal
+
+pub returns-clause-begins : goal.returns-clause-begins
+returns-clause-begins g c = λ text opens.
+    let old = c.args.self.now in
+    let mid : Listening = record old { reader = c.skip_reports.new.self } in
+    let none : mid.reader.place ≡ 0 = search rules in
+    begins_by c.takes.result old mid c.takes.new.self (g.S.Source.state c.args.source.now) (g.S.Source.state c.skip_reports.new.source) text opens c.in_ok-skip_reports.ensures none refl c.takes.ensures.known c.takes.ensures.taken
+    (λ e. ap (λ (l : Listening). l.reader) (c.takes.ensures.same e))

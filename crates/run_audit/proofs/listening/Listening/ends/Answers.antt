@@ -1,0 +1,43 @@
+use Rattle.std.proofs.Common.{◌≡◌, ◌<◌, None, refl, arith, rules}
+use Rattle.std.proofs.lemmas.Bool.Decides.{nat_tests}
+use Rattle.run_rules.specs.Told.{replies_text}
+use Rattle.audit_readers.specs.Windows.{too_long}
+use Rattle.run_audit.specs.declared.listening.Listening.{Listening}
+use Rattle.run_audit.proofs.ConsoleRead.{read_to_more, ended}
+use Rattle.run_audit.proofs.listening.Listening.ends.Goals as goal
+
+pub returns-then-place-ge-TOO_LONG-clause-read : goal.returns-then-place-ge-TOO_LONG-clause-read
+returns-then-place-ge-TOO_LONG-clause-read g c = λ text h.
+    let old = c.args.self.now.reader in
+    let z = c.in_ok-skip_reports.ensures.some in
+    read_to_more old.window c.skip_reports.new.self.window (g.S.Source.state c.args.source.now) (g.S.Source.state c.skip_reports.new.source) old.place c.skip_reports.new.self.place text (replies_text z.reports) h z.text z.place
+
+pub returns-then-none-clause-read : goal.returns-then-none-clause-read
+returns-then-none-clause-read g c = λ text h.
+    let old = c.args.self.now.reader in
+    let mid = c.skip_reports.new.self in
+    let z = c.in_ok-skip_reports.ensures.some in
+    let t = c.in_ok-take_rest.ensures.some in
+    read_to_more mid.window c.take_rest.new.self.window (g.S.Source.state c.skip_reports.new.source) (g.S.Source.state c.take_rest.new.source) mid.place c.take_rest.new.self.place text t.bytes
+    (read_to_more old.window mid.window (g.S.Source.state c.args.source.now) (g.S.Source.state c.skip_reports.new.source) old.place mid.place text (replies_text z.reports) h z.text z.place) t.text t.count
+
+pub returns-else-none-clause-read : goal.returns-else-none-clause-read
+returns-else-none-clause-read g c = λ text h.
+    let old = c.args.self.now.reader in
+    let mid = c.skip_reports.new.self in
+    let z = c.in_ok-skip_reports.ensures.some in
+    let t = c.in_ok-take_rest.ensures.some in
+    read_to_more mid.window c.take_rest.new.self.window (g.S.Source.state c.skip_reports.new.source) (g.S.Source.state c.take_rest.new.source) mid.place c.take_rest.new.self.place text t.bytes
+    (read_to_more old.window mid.window (g.S.Source.state c.args.source.now) (g.S.Source.state c.skip_reports.new.source) old.place mid.place text (replies_text z.reports) h z.text z.place) t.text t.count
+
+pub returns-then-none-clause-ends : goal.returns-then-none-clause-ends
+returns-then-none-clause-ends g c = λ e text told so_far.
+    let old = c.args.self.now in
+    let mid : Listening = record old { reader = c.skip_reports.new.self } in
+    let now : Listening = record old { reader = c.take_rest.new.self } in
+    let known : old.known ≡ None = search rules in
+    let short : mid.reader.place < too_long = search rules in
+    let here = c.place.ensures in
+    let there = c.place-place.ensures in
+    let same : now.reader.place ≡ mid.reader.place = grind (arith, nat_tests, e, here, there) in
+    ended old mid now (g.S.Source.state c.args.source.now) (g.S.Source.state c.skip_reports.new.source) (g.S.Source.state c.take_rest.new.source) text told known known c.in_ok-skip_reports.ensures short c.in_ok-take_rest.ensures same so_far

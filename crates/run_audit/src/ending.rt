@@ -1,0 +1,246 @@
+//! How an audit ends.
+
+ghost use Rattle.std.specs.Prelude.{◌≡◌, ◌≤◌, ℕ, List, Some, None, MatchResult, IfOk, IsTrue};
+ghost use Rattle.step_line.specs.declared.Record.TheVariants as kinds;
+ghost use Rattle.outside.specs.Causes.{Rose, SourceState};
+ghost use Rattle.run_audit.specs.Reading.{KnowsJob, KnowsConsole, KnowsSteps, IsSame};
+ghost use Rattle.run_audit.specs.Going.{AllKnown, AllSame, IsCaused, EndFails};
+ghost use Rattle.run_texts.specs.Sent.{Sent};
+ghost use Rattle.run_audit.specs.SoFar.{IsAllRead, IsRead};
+ghost use Rattle.run_audit.specs.UnderWay.{IsUnderWay, IsDropping, IsAhead, OthersStay, JudgeStays, Finishes, FinishesSteps, MayFit, IsNext, CanBeRead, IsRight, IsSaid};
+
+use crate::auditor::{Auditor, Finding, Unread};
+use crate::sending::Item;
+use outside::Source;
+use step_line::Record;
+
+impl Auditor {
+    /// Reads the job on behind a line that has raised an alarm.
+    #[tactic(auto, using(crate::proofs::Known::rose_on, crate::proofs::Known::all_same_on, crate::proofs::Known::caused_on))]
+    pub(crate) fn read_ahead<J: Source>(&mut self, job: &mut J) -> Result<(), Unread>
+        requires known { KnowsJob self.old.sending.reader (J.state job.old) }
+        ensures read { MatchResult result (λ found. KnowsJob self.new.sending.reader (J.state job.new) × IsSame (J.state job.old) (J.state job.new)) (λ e. (e ≡ Unread.Job) × Rose (J.state job.old).faults (J.state job.new).faults) }
+        ensures others { JudgeStays self.old self.new }
+        ensures ahead { IfOk result (λ done. (console steps : SourceState) (job_text console_text steps_text : List ℕ) →
+            IsUnderWay self.old (J.state job.old) console steps job_text console_text steps_text → IsAhead self.new (J.state job.new) console steps job_text console_text steps_text) }
+    {
+        if !self.sending.halt() {
+            return Ok(());
+        }
+        self.read_on(job)
+    }
+
+    /// Nothing is left of the job, or a line has raised an alarm.
+    #[tactic(auto, using(crate::proofs::Known::rose_on, crate::proofs::Known::all_same_on, crate::proofs::Known::caused_on))]
+    pub(crate) fn finish<C: Source, S: Source>(
+        &mut self,
+        record: Option<Record>,
+        console: &mut C,
+        steps: &mut S,
+    ) -> Result<Option<Finding>, Unread>
+        requires console { KnowsConsole self.old.listening.reader (C.state console.old) }
+        requires steps { KnowsSteps self.old.recorded.reader (S.state steps.old) }
+        requires next { IsNext self.old «record» }
+        ensures found { IfOk result (λ found. (job : SourceState) → Finishes self.old self.new job (C.state console.old) (S.state steps.old) (C.state console.new) (S.state steps.new) found) }
+        ensures read { MatchResult result (λ found. KnowsConsole self.new.listening.reader (C.state console.new) × KnowsSteps self.new.recorded.reader (S.state steps.new) × IsSame (C.state console.old) (C.state console.new) × IsSame (S.state steps.old) (S.state steps.new))
+            (λ e. EndFails e (C.state console.old) (S.state steps.old) (C.state console.new) (S.state steps.new)) }
+        ensures sending { self.new.sending.reader ≡ self.old.sending.reader }
+    {
+        match self.listening.ends(console) {
+            Err(_) => Err(Unread::Console),
+            Ok(false) => Ok(Some(self.bad_behind())),
+            Ok(true) => self.finish_steps(record, steps),
+        }
+    }
+
+    /// Nothing is left of the job and the console.
+    #[tactic(auto, using(crate::proofs::Known::rose_on, crate::proofs::Known::all_same_on, crate::proofs::Known::caused_on))]
+    fn finish_steps<S: Source>(
+        &mut self,
+        record: Option<Record>,
+        steps: &mut S,
+    ) -> Result<Option<Finding>, Unread>
+        requires steps { KnowsSteps self.old.recorded.reader (S.state steps.old) }
+        requires next { IsNext self.old «record» }
+        ensures read { MatchResult result (λ found. KnowsSteps self.new.recorded.reader (S.state steps.new) × IsSame (S.state steps.old) (S.state steps.new)) (λ e. (e ≡ Unread.Steps) × Rose (S.state steps.old).faults (S.state steps.new).faults) }
+        ensures sending { self.new.sending ≡ self.old.sending }
+        ensures listening { self.new.listening ≡ self.old.listening }
+        ensures found { IfOk result (λ found. FinishesSteps self.old self.new (S.state steps.old) (S.state steps.new) found) }
+    {
+        if let Some(at) = self.broken {
+            return Ok(Some(Finding::Misfit(at)));
+        }
+        let events = self.course.events();
+        if !self.may_end(record) {
+            return Ok(Some(Finding::Misfit(self.recorded.at())));
+        }
+        self.recorded.take();
+        match self.recorded.ends(steps) {
+            Err(_) => Err(Unread::Steps),
+            Ok(true) => Ok(Some(Finding::Fits(events))),
+            Ok(false) => Ok(Some(Finding::Misfit(self.recorded.at()))),
+        }
+    }
+
+    /// Whether the end comes next, and may.
+    fn may_end(&mut self, record: Option<Record>) -> bool
+        ensures next { IsTrue result → «record» ≡ Some kinds.End }
+        ensures ends { IsTrue result → MayFit self.old self.new }
+        ensures sending { self.new.sending ≡ self.old.sending }
+        ensures listening { self.new.listening ≡ self.old.listening }
+        ensures recorded { self.new.recorded ≡ self.old.recorded }
+    {
+        match record {
+            Some(Record::End) => self.ends_course(),
+            _ => false,
+        }
+    }
+
+    /// Whether the course may end here.
+    fn ends_course(&mut self) -> bool
+        ensures ends { IsTrue result → MayFit self.old self.new }
+        ensures sending { self.new.sending ≡ self.old.sending }
+        ensures listening { self.new.listening ≡ self.old.listening }
+        ensures recorded { self.new.recorded ≡ self.old.recorded }
+    {
+        self.course.end() && self.may_fit()
+    }
+
+    /// Whether all is told that is sent of the job, up to an alarm, each line of it is audited, and there are no more cuts
+    /// than bytes that may cut.
+    fn may_fit(&self) -> bool
+        ensures told { IsTrue result → IsAllRead self.now.sending self.now.course.line.halts self.now.course.work.number }
+        ensures few { IsTrue result → self.now.course.cuts ≤ self.now.sending.cuts }
+        ensures audited { IsTrue result → self.now.sending.foreign ≡ 0 }
+    {
+        self.sending
+            .is_all_told(self.course.is_halted(), self.course.number())
+            && self.sending.foreign().is_none()
+            && u64::from(self.course.cuts()) <= self.sending.cuts()
+    }
+
+    /// Reads the job on to its end, for a line that is not audited.
+    #[tactic(auto, using(crate::proofs::Known::rose_on, crate::proofs::Known::all_same_on, crate::proofs::Known::caused_on))]
+    fn read_on<J: Source>(&mut self, job: &mut J) -> Result<(), Unread>
+        requires known { KnowsJob self.old.sending.reader (J.state job.old) }
+        ensures read { MatchResult result (λ found. KnowsJob self.new.sending.reader (J.state job.new) × IsSame (J.state job.old) (J.state job.new)) (λ e. (e ≡ Unread.Job) × Rose (J.state job.old).faults (J.state job.new).faults) }
+        ensures listening { self.new.listening.reader ≡ self.old.listening.reader }
+        ensures recorded { self.new.recorded.reader ≡ self.old.recorded.reader }
+        ensures others { OthersStay self.old self.new }
+        ensures ahead { IfOk result (λ done. (self.old.sending.last ≡ None → ⊥) → (console steps : SourceState) (job_text console_text steps_text : List ℕ) →
+            IsUnderWay self.old (J.state job.old) console steps job_text console_text steps_text → IsAhead self.new (J.state job.new) console steps job_text console_text steps_text) }
+        ensures read_on { IfOk result (λ done. (console steps : SourceState) (job_text console_text steps_text : List ℕ) →
+            CanBeRead self.old (J.state job.old) console steps job_text console_text steps_text → CanBeRead self.new (J.state job.new) console steps job_text console_text steps_text) }
+    {
+        'rest: for _ in 0..33_554_432 {
+            if !self.read_one(job)? {
+                return Ok(());
+            }
+        }
+        Ok(())
+    }
+
+    /// Takes what comes next of the job, a line or a reset: whether something did.
+    #[tactic(auto, using(crate::proofs::Known::rose_on, crate::proofs::Known::all_same_on, crate::proofs::Known::caused_on))]
+    fn read_one<J: Source>(&mut self, job: &mut J) -> Result<bool, Unread>
+        requires known { KnowsJob self.old.sending.reader (J.state job.old) }
+        ensures read { MatchResult result (λ more. KnowsJob self.new.sending.reader (J.state job.new) × IsSame (J.state job.old) (J.state job.new)) (λ e. (e ≡ Unread.Job) × Rose (J.state job.old).faults (J.state job.new).faults) }
+        ensures others { OthersStay self.old self.new }
+        ensures drops { IfOk result (λ more. (console steps : SourceState) (job_text console_text steps_text : List ℕ) (dropped : List Sent) →
+            IsDropping self.old (J.state job.old) console steps job_text console_text steps_text dropped → (now : List Sent) × IsDropping self.new (J.state job.new) console steps job_text console_text steps_text now) }
+        ensures reads { IfOk result (λ more. (console steps : SourceState) (job_text console_text steps_text : List ℕ) →
+            CanBeRead self.old (J.state job.old) console steps job_text console_text steps_text → CanBeRead self.new (J.state job.new) console steps job_text console_text steps_text) }
+    {
+        match self.sending.look(job) {
+            Err(_) => Err(Unread::Job),
+            Ok(Item::Nothing) => Ok(false),
+            Ok(Item::Line) => {
+                self.sending.take_line();
+                Ok(true)
+            }
+            Ok(Item::Stop) => {
+                self.sending.take_stop();
+                Ok(true)
+            }
+        }
+    }
+
+    /// What was found, once all three texts are read.
+    #[tactic(auto, using(crate::proofs::Known::rose_on, crate::proofs::Known::all_same_on, crate::proofs::Known::caused_on))]
+    pub(crate) fn read_all<J: Source, C: Source, S: Source>(
+        &mut self,
+        found: Finding,
+        job: &mut J,
+        console: &mut C,
+        steps: &mut S,
+    ) -> Result<Finding, Unread>
+        requires known { AllKnown self.old (J.state job.old) (C.state console.old) (S.state steps.old) }
+        ensures known { MatchResult result (λ found. AllKnown self.new (J.state job.new) (C.state console.new) (S.state steps.new) × AllSame (J.state job.old) (C.state console.old) (S.state steps.old) (J.state job.new) (C.state console.new) (S.state steps.new))
+            (λ e. IsCaused e (J.state job.old) (C.state console.old) (S.state steps.old) (J.state job.new) (C.state console.new) (S.state steps.new)) }
+        ensures right { IfOk result (λ now. (job_text console_text steps_text : List ℕ) → CanBeRead self.old (J.state job.old) (C.state console.old) (S.state steps.old) job_text console_text steps_text →
+            IsRight job_text console_text steps_text found → IsSaid job_text console_text steps_text now) }
+    {
+        self.read_job(job)?;
+        self.read_texts(console, steps)?;
+        Ok(self.said(found))
+    }
+
+    /// Reads the job to its end, unless a line has raised an alarm: then it is read.
+    #[tactic(auto, using(crate::proofs::Known::rose_on, crate::proofs::Known::all_same_on, crate::proofs::Known::caused_on))]
+    fn read_job<J: Source>(&mut self, job: &mut J) -> Result<(), Unread>
+        requires known { KnowsJob self.old.sending.reader (J.state job.old) }
+        ensures read { MatchResult result (λ found. KnowsJob self.new.sending.reader (J.state job.new) × IsSame (J.state job.old) (J.state job.new)) (λ e. (e ≡ Unread.Job) × Rose (J.state job.old).faults (J.state job.new).faults) }
+        ensures others { JudgeStays self.old self.new }
+        ensures read_on { IfOk result (λ done. (console steps : SourceState) (job_text console_text steps_text : List ℕ) →
+            CanBeRead self.old (J.state job.old) console steps job_text console_text steps_text → CanBeRead self.new (J.state job.new) console steps job_text console_text steps_text) }
+    {
+        if self.course.is_halted() {
+            return Ok(());
+        }
+        self.read_on(job)
+    }
+
+    /// Reads the console and the steps to their ends.
+    #[tactic(auto, using(crate::proofs::Known::rose_on, crate::proofs::Known::all_same_on, crate::proofs::Known::caused_on))]
+    fn read_texts<C: Source, S: Source>(
+        &mut self,
+        console: &mut C,
+        steps: &mut S,
+    ) -> Result<(), Unread>
+        requires console { KnowsConsole self.old.listening.reader (C.state console.old) }
+        requires steps { KnowsSteps self.old.recorded.reader (S.state steps.old) }
+        ensures read { MatchResult result (λ done. KnowsConsole self.new.listening.reader (C.state console.new) × KnowsSteps self.new.recorded.reader (S.state steps.new) × IsSame (C.state console.old) (C.state console.new) × IsSame (S.state steps.old) (S.state steps.new))
+            (λ e. EndFails e (C.state console.old) (S.state steps.old) (C.state console.new) (S.state steps.new)) }
+        ensures sending { self.new.sending ≡ self.old.sending }
+        ensures over { IfOk result (λ done. IsRead self.new.listening.reader.window self.new.listening.reader.place × IsRead self.new.recorded.reader.window self.new.recorded.reader.place) }
+        ensures read_on { IfOk result (λ done. (job : SourceState) (job_text console_text steps_text : List ℕ) →
+            CanBeRead self.old job (C.state console.old) (S.state steps.old) job_text console_text steps_text → CanBeRead self.new job (C.state console.new) (S.state steps.new) job_text console_text steps_text) }
+    {
+        if self.listening.ends(console).is_err() {
+            return Err(Unread::Console);
+        }
+        if self.recorded.take_rest(steps).is_err() {
+            return Err(Unread::Steps);
+        }
+        Ok(())
+    }
+
+    /// What is said where this was found, of texts that are read to their ends.
+    fn said(&self, found: Finding) -> Finding
+        ensures { (job console steps : SourceState) (job_text console_text steps_text : List ℕ) → CanBeRead self.now job console steps job_text console_text steps_text →
+            KnowsConsole self.now.listening.reader console → KnowsSteps self.now.recorded.reader steps →
+            IsRead self.now.listening.reader.window self.now.listening.reader.place → IsRead self.now.recorded.reader.window self.now.recorded.reader.place →
+            IsRight job_text console_text steps_text found → IsSaid job_text console_text steps_text result }
+    {
+        if self.listening.is_too_long() {
+            return Finding::TooLong;
+        }
+        if self.recorded.is_too_long() {
+            return Finding::TooLong;
+        }
+        match self.sending.foreign() {
+            Some(line) => Finding::Foreign(line),
+            None => found,
+        }
+    }
+}
