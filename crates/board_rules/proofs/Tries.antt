@@ -1,5 +1,5 @@
 -- What a step adds to a turn: what nothing passes with, and what was tried to be published.
-use Rattle.std.proofs.Common.{◌≡◌, ℕ, ◌+◌, ◌≤◌, inl, inr, Bool, List, [], ◌∷◌, ◌++◌, ◌&&◌, ◌||◌, cond, drop, true, false, refl, sym, ap, ◌∙◌, subst, arith, append_assoc}
+use Rattle.std.proofs.Common.{◌≡◌, ℕ, ◌+◌, ◌≤◌, inl, inr, Bool, List, [], ◌∷◌, ◌++◌, ◌&&◌, ◌||◌, cond, drop, true, false, not, refl, sym, ap, ◌∙◌, subst, arith, append_assoc}
 use Rattle.std.specs.List.{list_any, count_by}
 use Rattle.std.proofs.lemmas.List.Folds.{list_any-append}
 use Rattle.std.proofs.lemmas.List.Sums.{sum_by-cons}
@@ -10,7 +10,8 @@ use Rattle.feed_hold.specs.Motions.{Call}
 use Rattle.feed_hold.specs.Motions.Call.{on_exec}
 use Rattle.code_table.specs.declared.flags.Exec.{Exec}
 use Rattle.run_rules.specs.Work.{Task, pauses}
-use Rattle.run_rules.specs.Work.Task.{pause}
+use Rattle.run_rules.specs.Work.Task.{ask, tell, pause, normal, finish, halt}
+use Rattle.status_report.specs.Answering.{is_bye}
 use Rattle.step_line.specs.declared.Piece.{Piece}
 use Rattle.step_line.specs.declared.Piece.TheVariants as pieces
 use Rattle.step_line.specs.declared.Segment.{Segment}
@@ -22,14 +23,14 @@ use Rattle.planner_runs.specs.declared.Action.{Action}
 use Rattle.planner_runs.specs.declared.Action.TheVariants.{Add, Take, Mark, Rest}
 use Rattle.board_rules.specs.Openings.{Opening}
 use Rattle.board_rules.specs.Ports.PortStep.{published, no_piece_room, loaded}
-use Rattle.board_rules.specs.Steps.{Step, Journal, left_of, left_by, without_asks, hand_of, plan_of, motion_of}
-use Rattle.board_rules.specs.Steps.Step.{at_port, began, did, made_end, evened, became, cut, closing, turned}
+use Rattle.board_rules.specs.Steps.{Step, Journal, left_of, whole_of, left_by, without_asks, hand_of, plan_of, motion_of}
+use Rattle.board_rules.specs.Steps.Step.{at_port, began, did, made_end, evened, became, cut, halted, closing, turned}
 use Rattle.board_rules.specs.Cuts.{has_cut, is_cancelling}
 use Rattle.board_rules.proofs.Dropping.{pauses_kept}
-use Rattle.board_rules.specs.Turns.{this_turn, publishing, moving, ends_turn, obeys, unobeyed_by, unobeyed_of, owes_report, takes_changes, replans, is_full, has_segment, is_due, is_counted, tries_of}
+use Rattle.board_rules.specs.Turns.{this_turn, publishing, moving, ends_turn, obeys, unobeyed_by, unobeyed_of, owes_report, takes_changes, replans, is_full, has_segment, is_due, is_halting, is_counted, counts_tries, is_reply_back, is_report_back, tries_of}
 use Rattle.board_rules.specs.Conduct.{AreWaiting}
 use Rattle.units.specs.Truths.{one_if}
-use Rattle.board_rules.specs.Within.{changes_left, AreWorked, PassesNothing, DidAlone, MayHaveLooked, Tried, HasTried}
+use Rattle.board_rules.specs.Within.{changes_left, work_ahead, ahead, tries_ahead, AreWorked, PassesNothing, DidAlone, MayHaveLooked, Tried, HasTried}
 use Rattle.board_rules.proofs.Truths.{either_right}
 use Rattle.plan_rules.proofs.Reached.{length-moved}
 
@@ -81,6 +82,164 @@ pauses_by (Mark m) ts = fewer_pauses ts
 pauses_by Rest ts = fewer_pauses ts
 pauses_by _ ts = no_more (pauses ts)
 
+-- ---- what comes before the next poll
+
+two_most : (b : Bool) → 1 + one_if b ≤ 3
+two_most true = omega arith
+two_most false = omega arith
+
+some_most : (b : Bool) → one_if b ≤ 3
+some_most true = omega arith
+some_most false = omega arith
+
+pub three_most : (ts : List Task) (back : Bool) → work_ahead ts back ≤ 3
+three_most [] back = omega arith
+three_most (tell r ∷ []) back = some_most (not back)
+three_most (tell r ∷ tell q ∷ []) back = two_most (not back)
+three_most (tell r ∷ tell q ∷ t ∷ ts) back = omega arith
+three_most (tell r ∷ ask a ∷ ts) back = omega arith
+three_most (tell r ∷ pause ∷ ts) back = omega arith
+three_most (tell r ∷ normal ∷ ts) back = omega arith
+three_most (tell r ∷ finish ∷ ts) back = omega arith
+three_most (tell r ∷ halt ∷ ts) back = omega arith
+three_most (ask a ∷ ts) back = omega arith
+three_most (pause ∷ ts) back = omega arith
+three_most (normal ∷ ts) back = omega arith
+three_most (finish ∷ ts) back = omega arith
+three_most (halt ∷ ts) back = omega arith
+
+-- behind the first task no more comes, and where a try is counted so is one then
+record Shrinks (ts us : List Task) : Type 0 where
+  ahead : (back : Bool) → work_ahead us back ≤ work_ahead ts back
+  counts : (back : Bool) → counts_tries ts back ≡ true → counts_tries us back ≡ true
+
+shrinks_same : (ts : List Task) → Shrinks ts ts
+shrinks_same ts = record { ahead = λ back. no_more (work_ahead ts back); counts = λ back e. e }
+
+last_ahead : (b : Bool) → one_if b ≤ 1 + one_if b
+last_ahead true = omega arith
+last_ahead false = omega arith
+
+last_counts : (back one other : Bool) → not (back || (one || other)) ≡ true → not (back || other) ≡ true
+last_counts true one other e = absurd cc
+last_counts false true other e = absurd cc
+last_counts false false other e = e
+
+shrinks_first : (ts : List Task) → Shrinks ts (drop 1 ts)
+shrinks_first [] = shrinks_same []
+shrinks_first (tell r ∷ []) = record { ahead = λ back. omega arith; counts = λ back e. refl }
+shrinks_first (tell r ∷ tell q ∷ []) = record { ahead = λ back. last_ahead (not back); counts = λ back e. last_counts back (is_bye r) (is_bye q) e }
+shrinks_first (tell r ∷ tell q ∷ t ∷ ts) = record { ahead = λ back. three_most (tell q ∷ t ∷ ts) back; counts = λ back e. absurd cc }
+shrinks_first (tell r ∷ ask a ∷ ts) = record { ahead = λ back. three_most (ask a ∷ ts) back; counts = λ back e. absurd cc }
+shrinks_first (tell r ∷ pause ∷ ts) = record { ahead = λ back. three_most (pause ∷ ts) back; counts = λ back e. absurd cc }
+shrinks_first (tell r ∷ normal ∷ ts) = record { ahead = λ back. three_most (normal ∷ ts) back; counts = λ back e. absurd cc }
+shrinks_first (tell r ∷ finish ∷ ts) = record { ahead = λ back. three_most (finish ∷ ts) back; counts = λ back e. absurd cc }
+shrinks_first (tell r ∷ halt ∷ ts) = record { ahead = λ back. three_most (halt ∷ ts) back; counts = λ back e. absurd cc }
+shrinks_first (ask a ∷ ts) = record { ahead = λ back. three_most ts back; counts = λ back e. absurd cc }
+shrinks_first (pause ∷ ts) = record { ahead = λ back. three_most ts back; counts = λ back e. absurd cc }
+shrinks_first (normal ∷ ts) = record { ahead = λ back. three_most ts back; counts = λ back e. absurd cc }
+shrinks_first (finish ∷ ts) = record { ahead = λ back. three_most ts back; counts = λ back e. absurd cc }
+shrinks_first (halt ∷ ts) = record { ahead = λ back. three_most ts back; counts = λ back e. absurd cc }
+
+shrinks_cut : (ts : List Task) → Shrinks ts (without_asks ts)
+shrinks_cut [] = shrinks_same []
+shrinks_cut (tell r ∷ []) = shrinks_same (tell r ∷ [])
+shrinks_cut (tell r ∷ tell q ∷ []) = shrinks_same (tell r ∷ tell q ∷ [])
+shrinks_cut (tell r ∷ tell q ∷ t ∷ ts) = record { ahead = λ back. three_most (without_asks (tell r ∷ tell q ∷ t ∷ ts)) back; counts = λ back e. absurd cc }
+shrinks_cut (tell r ∷ ask a ∷ ts) = record { ahead = λ back. three_most (without_asks (tell r ∷ ask a ∷ ts)) back; counts = λ back e. absurd cc }
+shrinks_cut (tell r ∷ pause ∷ ts) = record { ahead = λ back. three_most (without_asks (tell r ∷ pause ∷ ts)) back; counts = λ back e. absurd cc }
+shrinks_cut (tell r ∷ normal ∷ ts) = record { ahead = λ back. three_most (without_asks (tell r ∷ normal ∷ ts)) back; counts = λ back e. absurd cc }
+shrinks_cut (tell r ∷ finish ∷ ts) = record { ahead = λ back. three_most (without_asks (tell r ∷ finish ∷ ts)) back; counts = λ back e. absurd cc }
+shrinks_cut (tell r ∷ halt ∷ ts) = record { ahead = λ back. three_most (without_asks (tell r ∷ halt ∷ ts)) back; counts = λ back e. absurd cc }
+shrinks_cut (ask a ∷ ts) = record { ahead = λ back. three_most (without_asks (ask a ∷ ts)) back; counts = λ back e. absurd cc }
+shrinks_cut (pause ∷ ts) = record { ahead = λ back. three_most (without_asks (pause ∷ ts)) back; counts = λ back e. absurd cc }
+shrinks_cut (normal ∷ ts) = record { ahead = λ back. three_most (without_asks (normal ∷ ts)) back; counts = λ back e. absurd cc }
+shrinks_cut (finish ∷ ts) = record { ahead = λ back. three_most (without_asks (finish ∷ ts)) back; counts = λ back e. absurd cc }
+shrinks_cut (halt ∷ ts) = record { ahead = λ back. three_most (without_asks (halt ∷ ts)) back; counts = λ back e. absurd cc }
+
+shrinks_by : (a : Action) (ts : List Task) → Shrinks ts (left_by a ts)
+shrinks_by (Add m) ts = shrinks_first ts
+shrinks_by (Mark m) ts = shrinks_first ts
+shrinks_by Rest ts = shrinks_first ts
+shrinks_by _ ts = shrinks_same ts
+
+-- at most so much comes
+pub ahead_most : (ts : List Task) (whole back : Bool) → ahead ts whole back ≤ 4
+ahead_most ts true back = omega arith
+ahead_most ts false back = let few = three_most ts back in omega (arith, few)
+
+-- and less where no line waits to be begun
+pub ahead_partial : (ts : List Task) (whole back : Bool) → whole ≡ false → ahead ts whole back ≡ work_ahead ts back
+ahead_partial ts whole back partial = ap (λ w. ahead ts w back) partial
+
+pub ahead_less : (ts : List Task) (whole back : Bool) → whole ≡ false → ahead ts whole back ≤ 3
+ahead_less ts whole back partial = let few = three_most ts back in let same = ahead_partial ts whole back partial in omega (arith, few, same)
+
+shrinks_ahead : (ts us : List Task) (whole back : Bool) → Shrinks ts us → ahead us whole back ≤ ahead ts whole back
+shrinks_ahead ts us true back s = omega arith
+shrinks_ahead ts us false back s = s.ahead back
+
+pub ahead_behind : (ts : List Task) (whole back : Bool) → ahead (drop 1 ts) whole back ≤ ahead ts whole back
+ahead_behind ts whole back = shrinks_ahead ts (drop 1 ts) whole back (shrinks_first ts)
+
+-- where a try is counted, the last two replies alone come
+pub ahead_counted : (ts : List Task) (back : Bool) → counts_tries ts back ≡ true → work_ahead ts back ≤ 2
+ahead_counted [] back counts = omega arith
+ahead_counted (tell r ∷ []) back counts = one_at_most (not back)
+  where
+    one_at_most : (b : Bool) → one_if b ≤ 2
+    one_at_most true = omega arith
+    one_at_most false = omega arith
+ahead_counted (tell r ∷ tell q ∷ []) back counts = two_at_most (not back)
+  where
+    two_at_most : (b : Bool) → 1 + one_if b ≤ 2
+    two_at_most true = omega arith
+    two_at_most false = omega arith
+ahead_counted (tell r ∷ tell q ∷ t ∷ ts) back counts = absurd cc
+ahead_counted (tell r ∷ ask a ∷ ts) back counts = absurd cc
+ahead_counted (tell r ∷ pause ∷ ts) back counts = absurd cc
+ahead_counted (tell r ∷ normal ∷ ts) back counts = absurd cc
+ahead_counted (tell r ∷ finish ∷ ts) back counts = absurd cc
+ahead_counted (tell r ∷ halt ∷ ts) back counts = absurd cc
+ahead_counted (ask a ∷ ts) back counts = absurd cc
+ahead_counted (pause ∷ ts) back counts = absurd cc
+ahead_counted (normal ∷ ts) back counts = absurd cc
+ahead_counted (finish ∷ ts) back counts = absurd cc
+ahead_counted (halt ∷ ts) back counts = absurd cc
+
+-- a machine that is not held, nor slows down to a stop, still is not
+changes_some : (m : Motion) (has : Bool) → is_halting m ≡ true → 1 ≤ changes_left m has
+changes_some motions.Holding has halts = omega arith
+changes_some motions.Held has halts = omega arith
+changes_some motions.Cancelling true halts = omega arith
+changes_some motions.Cancelling false halts = omega arith
+changes_some m has halts = absurd cc
+
+some_changes : (m : Motion) (has : Bool) → 1 ≤ changes_left m has → is_halting m ≡ true
+some_changes motions.Holding has some = refl
+some_changes motions.Held has some = refl
+some_changes motions.Cancelling has some = refl
+some_changes m has some = absurd (omega (arith, some))
+
+halted_before : (was now : Motion) (had has : Bool) → changes_left now has ≤ changes_left was had → is_halting now ≡ true → is_halting was ≡ true
+halted_before was now had has fewer halts = let some = changes_some now has halts in some_changes was had (omega (arith, some, fewer))
+
+-- so where no try is counted, none was
+unless : (x y : Bool) → (x ≡ true → y ≡ true) → y ≡ false → x ≡ false
+unless true y more none = absurd (let e = sym (more refl) ∙ none in cc)
+unless false y more none = refl
+
+still_counted : (owing now was whole : Bool) (ts us : List Task) (back : Bool) → Shrinks ts us → (now ≡ true → was ≡ true) → (not owing && (not (now && whole) && counts_tries us back)) ≡ false
+    → (not owing && (not (was && whole) && counts_tries ts back)) ≡ false
+still_counted true now was whole ts us back s before none = refl
+still_counted false now true true ts us back s before none = refl
+still_counted false true false true ts us back s before none = absurd (let e = before refl in cc)
+still_counted false false false true ts us back s before none = unless (counts_tries ts back) (counts_tries us back) (s.counts back) none
+still_counted false true true false ts us back s before none = unless (counts_tries ts back) (counts_tries us back) (s.counts back) none
+still_counted false true false false ts us back s before none = unless (counts_tries ts back) (counts_tries us back) (s.counts back) none
+still_counted false false true false ts us back s before none = unless (counts_tries ts back) (counts_tries us back) (s.counts back) none
+still_counted false false false false ts us back s before none = unless (counts_tries ts back) (counts_tries us back) (s.counts back) none
+
 -- a step by itself that no line begins with, and no turn ends with
 abbrev is_quiet : Step → Bool
 is_quiet (at_port e) = false
@@ -91,12 +250,13 @@ is_quiet _ = true
 
 -- nothing passes with it if it leaves the words, and the plan is not made anew
 passes_step : (first : Opening) (s : Step) (h : Journal) → is_quiet s ≡ true → unobeyed_of (s ∷ h) ≡ unobeyed_of h → replans s ≡ false → pauses (left_of first (s ∷ h)) ≤ pauses (left_of first h)
-    → changes_left (motion_of first (s ∷ h)) (has_cut (s ∷ h)) ≤ changes_left (motion_of first h) (has_cut h) → ((left_of first (s ∷ h) ≡ [] → ⊥) → left_of first h ≡ [] → ⊥) → PassesNothing first h (s ∷ h)
-passes_step first (at_port e) h quiet words same pauses changes less = absurd cc
-passes_step first (began o) h quiet words same pauses changes less = absurd cc
-passes_step first closing h quiet words same pauses changes less = absurd cc
-passes_step first (turned t) h quiet words same pauses changes less = absurd cc
-passes_step first s h quiet words same pauses changes less = record {
+    → changes_left (motion_of first (s ∷ h)) (has_cut (s ∷ h)) ≤ changes_left (motion_of first h) (has_cut h) → ((left_of first (s ∷ h) ≡ [] → ⊥) → left_of first h ≡ [] → ⊥) → Shrinks (left_of first h) (left_of first (s ∷ h))
+    → PassesNothing first h (s ∷ h)
+passes_step first (at_port e) h quiet words same pauses changes less shrinks = absurd cc
+passes_step first (began o) h quiet words same pauses changes less shrinks = absurd cc
+passes_step first closing h quiet words same pauses changes less shrinks = absurd cc
+passes_step first (turned t) h quiet words same pauses changes less shrinks = absurd cc
+passes_step first s h quiet words same pauses changes less shrinks = record {
   steps = s ∷ [];
   are = refl;
   inner = refl;
@@ -121,19 +281,28 @@ passes_step first s h quiet words same pauses changes less = record {
   pauses = pauses;
   changes = changes;
   less = less;
+  ahead = shrinks_ahead (left_of first h) (left_of first (s ∷ h)) (whole_of h) (is_reply_back h) shrinks;
+  counted =
+      still_counted (owes_report h && is_report_back h) (is_halting (motion_of first (s ∷ h))) (is_halting (motion_of first h)) (whole_of h) (left_of first h) (left_of first (s ∷ h)) (is_reply_back h) shrinks
+      (halted_before (motion_of first h) (motion_of first (s ∷ h)) (has_cut h) (has_cut (s ∷ h)) changes);
+  backs = refl;
 }
 
 -- something is done to the plan that is not made anew
 pub passes_did : (first : Opening) (a : Action) (ps : List Piece) (h : Journal) → replans (did a ps) ≡ false → PassesNothing first h (did a ps ∷ h)
-passes_did first a ps h same = passes_step first (did a ps) h refl refl same (pauses_by a (left_of first h)) (no_more (changes_left (motion_of first h) (has_cut h))) (λ some none. some (ap (left_by a) none ∙ none_left a))
+passes_did first a ps h same = passes_step first (did a ps) h refl refl same (pauses_by a (left_of first h)) (no_more (changes_left (motion_of first h) (has_cut h))) (λ some none. some (ap (left_by a) none ∙ none_left a)) (shrinks_by a (left_of first h))
+
+-- what is planned is dropped where a machine is halted
+pub passes_halted : (first : Opening) (h : Journal) → PassesNothing first h (halted ∷ h)
+passes_halted first h = passes_step first halted h refl refl refl (fewer_pauses (left_of first h)) (no_more (changes_left (motion_of first h) (has_cut h))) (λ some none. some (ap (λ (ts : List Task). drop 1 ts) none)) (shrinks_first (left_of first h))
 
 -- the end is made
 pub passes_end : (first : Opening) (h : Journal) → PassesNothing first h (made_end ∷ h)
-passes_end first h = passes_step first made_end h refl refl refl (fewer_pauses (left_of first h)) (no_more (changes_left (motion_of first h) (has_cut h))) (λ some none. some (ap (λ (ts : List Task). drop 1 ts) none))
+passes_end first h = passes_step first made_end h refl refl refl (fewer_pauses (left_of first h)) (no_more (changes_left (motion_of first h) (has_cut h))) (λ some none. some (ap (λ (ts : List Task). drop 1 ts) none)) (shrinks_first (left_of first h))
 
 -- each override is set to 100 percent
 pub passes_even : (first : Opening) (h : Journal) → PassesNothing first h (evened ∷ h)
-passes_even first h = passes_step first evened h refl refl refl (fewer_pauses (left_of first h)) (no_more (changes_left (motion_of first h) (has_cut h))) (λ some none. some (ap (λ (ts : List Task). drop 1 ts) none))
+passes_even first h = passes_step first evened h refl refl refl (fewer_pauses (left_of first h)) (no_more (changes_left (motion_of first h) (has_cut h))) (λ some none. some (ap (λ (ts : List Task). drop 1 ts) none)) (shrinks_first (left_of first h))
 
 -- a call that is no word leaves the words
 words_stay : (call : Call) (now : Motion) (words : List Exec) → obeys (became call now) ≡ false → unobeyed_by call words ≡ words
@@ -142,7 +311,7 @@ words_stay _ now words by_itself = refl
 
 -- the motion starts, or is over
 pub passes_motion : (first : Opening) (call : Call) (now : Motion) (h : Journal) → obeys (became call now) ≡ false → changes_left now (is_cancelling now && has_cut h) ≤ changes_left (motion_of first h) (has_cut h) → PassesNothing first h (became call now ∷ h)
-passes_motion first call now h by_itself fewer = passes_step first (became call now) h refl (words_stay call now (unobeyed_of h) by_itself) refl (no_more (pauses (left_of first h))) fewer (λ some. some)
+passes_motion first call now h by_itself fewer = passes_step first (became call now) h refl (words_stay call now (unobeyed_of h) by_itself) refl (no_more (pauses (left_of first h))) fewer (λ some. some) (shrinks_same (left_of first h))
 
 -- a cut is a change less
 cut_lowers : (m : Motion) (was : Bool) → changes_left m true ≤ changes_left m was
@@ -152,7 +321,7 @@ cut_lowers _ was = omega arith
 
 -- jogs are cut
 pub passes_cut : (first : Opening) (k : ℕ) (h : Journal) → PassesNothing first h (cut k ∷ h)
-passes_cut first k h = passes_step first (cut k) h refl refl refl (let e = pauses_kept (left_of first h) in omega (arith, e)) (cut_lowers (motion_of first h) (has_cut h)) (λ some none. some (ap without_asks none))
+passes_cut first k h = passes_step first (cut k) h refl refl refl (let e = pauses_kept (left_of first h) in omega (arith, e)) (cut_lowers (motion_of first h) (has_cut h)) (λ some none. some (ap without_asks none)) (shrinks_cut (left_of first h))
 
 -- it is looked how many ticks are done
 pub passes_load : (first : Opening) (done : ℕ) (h : Journal) → PassesNothing first h (at_port (loaded done) ∷ h)
@@ -181,6 +350,9 @@ passes_load first done h = record {
   pauses = no_more (pauses (left_of first h));
   changes = no_more (changes_left (motion_of first h) (has_cut h));
   less = λ some. some;
+  ahead = no_more (tries_ahead first h);
+  counted = λ e. e;
+  backs = refl;
 }
 
 -- ---- no step, and some after others
@@ -215,6 +387,9 @@ passes_none first h = record {
   pauses = no_more (pauses (left_of first h));
   changes = no_more (changes_left (motion_of first h) (has_cut h));
   less = λ some. some;
+  ahead = no_more (tries_ahead first h);
+  counted = λ e. e;
+  backs = refl;
 }
 
 pub are_both : (h mid next : Journal) (some more : List Step) → mid ≡ some ++ h → next ≡ more ++ mid → next ≡ (more ++ some) ++ h
@@ -249,6 +424,9 @@ passes_on first h mid next a b = record {
   pauses = at_most _ _ _ a.pauses b.pauses;
   changes = at_most _ _ _ a.changes b.changes;
   less = λ some. a.less (b.less some);
+  ahead = at_most _ _ _ a.ahead b.ahead;
+  counted = λ e. a.counted (b.counted e);
+  backs = b.backs ∙ a.backs;
 }
 
 pub alone_on : (first : Opening) (h mid next : Journal) → DidAlone first h mid → DidAlone first mid next → DidAlone first h next
@@ -291,6 +469,9 @@ tried_sent first p h one = record {
   jogged = refl;
   once = counts_more (is_counted first h) (tries_of first h);
   later = λ none. counts_same (is_counted first h) (tries_of first h) none;
+  ahead = refl;
+  counted = refl;
+  backs = refl;
   left = refl;
   whole = refl;
   motion = refl;
@@ -322,6 +503,9 @@ tried_kept first done h = record {
   jogged = refl;
   once = counts_more (is_counted first h) (tries_of first h);
   later = λ none. counts_same (is_counted first h) (tries_of first h) none;
+  ahead = refl;
+  counted = refl;
+  backs = refl;
   left = refl;
   whole = refl;
   motion = refl;
@@ -337,9 +521,9 @@ tried_kept first done h = record {
 }
 
 -- steps with which nothing passes come before a try
-tried_on : (first : Opening) (sent : Bool) (h mid next : Journal) → PassesNothing first h mid → is_counted first mid ≡ is_counted first h → left_of first mid ≡ left_of first h → motion_of first mid ≡ motion_of first h
+tried_on : (first : Opening) (sent : Bool) (h mid next : Journal) → PassesNothing first h mid → is_counted first mid ≡ is_counted first h → tries_ahead first mid ≡ tries_ahead first h → left_of first mid ≡ left_of first h → motion_of first mid ≡ motion_of first h
     → has_cut mid ≡ has_cut h → (AreWaiting first mid → AreWaiting first h) → (is_full first.blocks (plan_of mid) ≡ true → is_full first.blocks (plan_of h) ≡ true) → HasTried first sent mid next → HasTried first sent h next
-tried_on first sent h mid next p counted left motion cuts waiting full t = record {
+tried_on first sent h mid next p counted ahead left motion cuts waiting full t = record {
   steps = t.steps ++ p.steps;
   are = are_both h mid next p.steps t.steps p.are t.are;
   inner = none_ends t.steps p.steps t.inner p.inner;
@@ -354,6 +538,9 @@ tried_on first sent h mid next p counted left motion cuts waiting full t = recor
   jogged = t.jogged ∙ p.jogged;
   once = (let same = p.tries in let one = t.once in omega (arith, same, one));
   later = λ none. t.later (counted ∙ none) ∙ p.tries;
+  ahead = t.ahead ∙ ahead;
+  counted = t.counted ∙ counted;
+  backs = t.backs ∙ p.backs;
   left = t.left ∙ left;
   whole = t.whole ∙ p.whole;
   motion = t.motion ∙ motion;
@@ -371,7 +558,7 @@ tried_on first sent h mid next p counted left motion cuts waiting full t = recor
 -- it was looked how many ticks are done before
 looked_before : (first : Opening) (sent : Bool) (done : ℕ) (h next : Journal) → HasTried first sent (at_port (loaded done) ∷ h) next → HasTried first sent h next
 looked_before first sent done h next t =
-    tried_on first sent h (at_port (loaded done) ∷ h) next (passes_load first done h) refl refl refl refl (λ w. record { stands = w.stands; blocks = w.blocks }) (λ e. e) t
+    tried_on first sent h (at_port (loaded done) ∷ h) next (passes_load first done h) refl refl refl refl refl (λ w. record { stands = w.stands; blocks = w.blocks }) (λ e. e) t
 
 tried_now : (first : Opening) (sent : Bool) (h mid next : Journal) → MayHaveLooked h mid → HasTried first sent mid next → HasTried first sent h next
 tried_now first sent h mid next (inl same) t = subst (λ (j : Journal). HasTried first sent j next) same t
@@ -400,4 +587,4 @@ pub tried_behind : (first : Opening) (mode : Mode) (s : Segment) (sent : Bool) (
 tried_behind first mode s sent h next due t =
     let taken = did (Take mode) (pieces.Segment s ∷ []) in
     let p = passes_did first (Take mode) (pieces.Segment s ∷ []) h refl in
-    tried_on first sent h (taken ∷ h) next p refl refl refl refl (λ w. absurd (not_due (plan_of h) (motion_of first h) due w.stands)) (full_before first.blocks (plan_of h) s.n s.w_out) t
+    tried_on first sent h (taken ∷ h) next p refl refl refl refl refl (λ w. absurd (not_due (plan_of h) (motion_of first h) due w.stands)) (full_before first.blocks (plan_of h) s.n s.w_out) t

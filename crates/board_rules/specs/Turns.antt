@@ -20,6 +20,7 @@ use Rattle.run_rules.specs.Work.{Task, has_moves}
 use Rattle.run_rules.specs.Work.Task.{ask, tell, pause, normal, finish, halt}
 use Rattle.run_rules.specs.Outcomes.{jogged_behind, begins_with_dollar}
 use Rattle.serial_ring.specs.Logs.{has_greeted}
+use Rattle.status_report.specs.Answering.{is_bye}
 use Rattle.step_line.specs.Asking.Asked.{a_move, a_rest}
 use Rattle.board_rules.specs.Openings.{Opening}
 use Rattle.board_rules.specs.Ports.{PortStep, asks_reset, has_changes, owes_in, link_steps}
@@ -300,14 +301,42 @@ is_held_up first h = needs_motion (left_of first h) (whole_of h) (is_full first.
 
 -- ---- from turn to turn
 
--- a try to publish a piece is counted: nothing is left to do, no report is owed, and no line waits for a machine that
--- is held, or slows down for that
-abbrev pub counts_tries : List Task → (whole : Bool) → Motion → Bool
-counts_tries [] whole m = not (is_halting m && whole)
-counts_tries tasks whole m = false
+abbrev pub reply_back_at : PortStep → (owes : Bool) → Bool → Bool
+reply_back_at (answered r) owes back = false
+reply_back_at no_reply_room owes back = not owes || back
+reply_back_at e owes back = back
 
+-- A reply that is no report was handed back, and none was told since: the one that is next waits for room. While a report is owed it is
+-- the report that is handed back.
+abbrev pub is_reply_back : Journal → Bool
+is_reply_back [] = false
+is_reply_back (at_port e ∷ h) = reply_back_at e (owes_report h) (is_reply_back h)
+is_reply_back (_ ∷ h) = is_reply_back h
+
+abbrev pub report_back_at : PortStep → (owes : Bool) → Bool → Bool
+report_back_at (reported r) owes back = false
+report_back_at no_reply_room owes back = owes || back
+report_back_at e owes back = back
+
+-- a report was handed back, and none was told since: the one that is owed waits for room
+abbrev pub is_report_back : Journal → Bool
+is_report_back [] = false
+is_report_back (at_port e ∷ h) = report_back_at e (owes_report h) (is_report_back h)
+is_report_back (_ ∷ h) = is_report_back h
+
+-- A try to publish a piece is counted by what is left to do: nothing is, or one of the last two replies of a line, which was not handed
+-- back. Bye is none of a line.
+abbrev pub counts_tries : List Task → (back : Bool) → Bool
+counts_tries [] back = true
+counts_tries (tell r ∷ []) back = not (back || is_bye r)
+counts_tries (tell r ∷ tell q ∷ []) back = not (back || (is_bye r || is_bye q))
+counts_tries tasks back = false
+
+-- A try to publish a piece is counted, unless the board waits: for room, behind a report or a reply that was handed back; for a machine
+-- that is held, or slows down for that, with a line that is to be begun; or with what else is left to do of a line, or to close the run.
 abbrev pub is_counted : Opening → Journal → Bool
-is_counted first h = not (owes_report h) && counts_tries (left_of first h) (whole_of h) (motion_of first h)
+is_counted first h =
+    not (owes_report h && is_report_back h) && (not (is_halting (motion_of first h) && whole_of h) && counts_tries (left_of first h) (is_reply_back h))
 
 abbrev pub tries_at : PortStep → (counted : Bool) → ℕ → ℕ
 tries_at (took b) counted n = 0
@@ -317,8 +346,7 @@ tries_at (published p) counted n = cond counted (n + 1) n
 tries_at (no_piece_room done) counted n = cond counted (n + 1) n
 tries_at e counted n = n
 
--- how many tries to publish a piece there were since the last poll for a byte, while nothing was left to do, no report
--- was owed, and no line waited for a machine that is held, or slows down for that
+-- how many tries to publish a piece were counted since the last poll for a byte
 abbrev pub tries_of : Opening → Journal → ℕ
 tries_of first [] = 0
 tries_of first (at_port e ∷ h) = tries_at e (is_counted first h) (tries_of first h)

@@ -248,8 +248,8 @@ pub fn boards_refuse_only_while_they_move()
 {}
 
 /// A board publishes one thing a turn at most, also in one that ends in a wait, and between two turns no more than five tries to publish come after
-/// its last poll, while nothing was left to do, no report was owed, and no line waited for a machine that is held, or
-/// slows down for that. Each word of requests that was taken, and asks for no reset, is obeyed once, in order, or is the
+/// its last poll, not counting those in a wait: for room, behind a report or a reply that was handed back; for a machine that is held, or
+/// slows down for that; or with what else is left to do of a line than its last two replies. Each word of requests that was taken, and asks for no reset, is obeyed once, in order, or is the
 /// last one: between two turns it waits only for a report that is owed. One that asks for a reset is not obeyed. For each word that changes overrides the plan is made anew, once.
 pub fn boards_take_turns()
     ensures once { (first : Opening) (h : Journal) → Conducted first h → this_turn h ≡ [] → count_by publishing h ≤ count_by ends_turn h }

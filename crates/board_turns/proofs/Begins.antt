@@ -20,11 +20,10 @@ use Rattle.board_rules.specs.Steps.{Step}
 use Rattle.board_rules.specs.Steps.Step.{at_port, began, became}
 use Rattle.board_rules.specs.Cuts.{has_cut, is_cancelling}
 use Rattle.board_rules.proofs.Beginning.{caused, of_begun}
-use Rattle.board_rules.specs.Turns.{this_turn, publishing, moving, ends_turn, owes_report, unobeyed_of, flags_taken, found_none, has_blocks, has_jogged, machine_in, tries_of, missed_of, is_due, is_full, awaits_motion, halts_next, is_alarm, is_limited, is_locked, awaits_unlock, begins_in, starts_cycle}
+use Rattle.board_rules.specs.Turns.{this_turn, publishing, moving, ends_turn, owes_report, unobeyed_of, flags_taken, found_none, has_blocks, has_jogged, machine_in, tries_of, missed_of, is_due, is_full, awaits_motion, halts_next, is_alarm, is_limited, is_locked, awaits_unlock, begins_in, starts_cycle, is_reply_back}
 use Rattle.board_rules.specs.Conduct.{MayBegin, MayStart, AsksForRoom}
 use Rattle.board_turns.specs.declared.board.Board.{Board}
 use Rattle.board_machine.specs.declared.machine.Machine.{Machine}
-use Rattle.units.specs.Truths.{one_if}
 use Rattle.board_turns.specs.declared.board.Flags.{Flags}
 use Rattle.board_turns.specs.declared.board.Flags.TheVariants as words
 use Rattle.board_turns.specs.declared.board.Beat.TheVariants.{Motion}
@@ -32,11 +31,11 @@ use Rattle.board_turns.specs.Boards.{Keeps, Works, IsFree}
 use Rattle.board_machine.specs.Machines.{Runs, limit_motion, start_motion}
 use Rattle.board_turns.specs.Turning.{IsReady, IsWholeLine, IsLooked, MayJudge, IsJudged, PassesNothing, DidAlone, HasLooked, HasBegun, HasFilled, BoardWorked, MayHaveTold, starting}
 use Rattle.board_turns.specs.Turning.MayHaveTold.{untold, handed_back, was_told}
-use Rattle.board_rules.specs.Within.{AreWorked}
+use Rattle.board_rules.specs.Within.{AreWorked, tries_ahead, ahead}
 use Rattle.board_turns.proofs.Starting.{starts_off, starts_to_begin}
 use Rattle.board_turns.proofs.Standing.{blocks_undrained}
 use Rattle.board_rules.proofs.Polling.{none_told}
-use Rattle.board_rules.proofs.Tries.{IsNoWord, none_ends, worked_behind, publishes_one, publishes_none}
+use Rattle.board_rules.proofs.Tries.{IsNoWord, none_ends, worked_behind, publishes_one, publishes_none, ahead_less}
 use Rattle.board_rules.proofs.Uncut.{uncut_else}
 use Rattle.board_rules.proofs.HaltWorks.{HaltsOrNot, line_halts, none_halts_next}
 use Rattle.board_rules.proofs.Alarms.{still_locked}
@@ -315,9 +314,8 @@ begun_unlocked first was now m h o j none alarm one runs =
 
 -- ---- before it
 
-few_where_whole : (tries : ℕ) (whole : Bool) → whole ≡ true → tries + one_if whole ≤ 2 → tries ≤ 1
-few_where_whole tries true is few = omega (arith, few)
-few_where_whole tries false is few = absurd cc
+few_where_whole : (first : Opening) (h : Journal) → whole_of h ≡ true → tries_of first h + tries_ahead first h ≤ 5 → tries_of first h ≤ 1
+few_where_whole first h is few = let w = ap (λ b. ahead (left_of first h) b (is_reply_back h)) is in omega (arith, few, w)
 
 -- what is known behind the look
 pub looked_whole : (first : Opening) (h next : Journal) → IsReady first h → IsWholeLine first h → HasLooked first h next → IsLooked first next
@@ -337,7 +335,7 @@ looked_whole first h next ready line l =
       unpolled = p.polled ∙ ready.unpolled;
       untold = none_told (this_turn next) (p.still ∙ ready.quiet.still) (p.replies ∙ ready.quiet.untold);
       unmissed = p.missed ∙ ready.unmissed;
-      tries = (let few = few_where_whole (tries_of first h) (whole_of h) line.whole ready.tries in let t = p.tries in omega (arith, few, t));
+      tries = (let few = few_where_whole first h line.whole ready.tries in let t = p.tries in omega (arith, few, t));
     }
 
 -- queued blocks start before a line that begins with `$`
@@ -384,7 +382,8 @@ pub record IsBegun (first : Opening) (k : ℕ) (o : Outcome) (mid h : Journal) :
   pub worked : AreWorked mid → AreWorked h
   pub once : count_by publishing (this_turn h) ≤ count_by publishing (this_turn mid) + k
   pub unpolled : list_any found_none (this_turn h) ≡ list_any found_none (this_turn mid)
-  pub tries : tries_of first h + one_if (whole_of h) ≡ tries_of first mid
+  pub tries : tries_of first h ≡ tries_of first mid
+  pub partial : whole_of h ≡ false
   pub free : IsFree mid → IsFree h
   pub moved : list_any moving (this_turn h) ≡ true
 
@@ -400,7 +399,8 @@ line_begun first o mid = record {
   worked = worked_behind (began o) mid (began o ∷ mid) refl (record { no_changes = refl; none_planned = refl }) refl refl;
   once = (let c = publishes_none (began o) (this_turn mid) refl in omega (arith, c));
   unpolled = refl;
-  tries = omega arith;
+  tries = refl;
+  partial = refl;
   free = λ f. record { flags = f.flags; obeyed = f.obeyed; unowed = f.unowed };
   moved = refl;
 }
@@ -418,6 +418,7 @@ line_limited first o mid m =
       once = (let c = publishes_none (became on_limit m) (this_turn line) refl in let had = b.once in omega (arith, c, had));
       unpolled = refl;
       tries = b.tries;
+      partial = b.partial;
       free = λ f. record { flags = f.flags; obeyed = f.obeyed; unowed = f.unowed };
       moved = refl;
     }
@@ -435,6 +436,7 @@ line_unlocked first o mid =
       once = (let c = publishes_none (became on_unlock motions.Idle) (this_turn line) refl in let had = b.once in omega (arith, c, had));
       unpolled = refl;
       tries = b.tries;
+      partial = b.partial;
       free = λ f. record { flags = f.flags; obeyed = f.obeyed; unowed = f.unowed };
       moved = refl;
     }
@@ -454,7 +456,8 @@ begun_on first o mid h next s is b plain owed words flags turn none inner tries 
   worked = λ w. worked_behind s h next turn plain owed words (b.worked w);
   once = (let c = ap (λ ss. count_by publishing ss) turn in let one = at_most_one s (this_turn h) in let had = b.once in omega (arith, c, one, had));
   unpolled = ap (λ ss. list_any found_none ss) turn ∙ ap (λ t. t || list_any found_none (this_turn h)) none ∙ b.unpolled;
-  tries = (let t = b.tries in let w = ap one_if whole in omega (arith, t, w, tries));
+  tries = tries ∙ b.tries;
+  partial = whole ∙ b.partial;
   free = λ f. let free = b.free f in record { flags = flags ∙ free.flags; obeyed = words ∙ free.obeyed; unowed = owed ∙ free.unowed };
   moved = ap (λ ss. list_any moving ss) turn ∙ or_true (moving s) (list_any moving (this_turn h)) b.moved;
 }
@@ -470,7 +473,7 @@ begun_on first o mid h next s is b plain owed words flags turn none inner tries 
 pub has_spoken : (first : Opening) (o : Outcome) (mid line next : Journal) → HasBegun first o mid line → MayHaveTold line next → IsBegun first 1 o mid next
 has_spoken first o mid line next begun (untold is) =
     let b = has_begun first o mid line begun in
-    subst (λ (j : Journal). IsBegun first 1 o mid j) (sym is) (record { front = b.front; are = b.are; inner = b.inner; worked = b.worked; once = (let c = b.once in omega (arith, c)); unpolled = b.unpolled; tries = b.tries; free = b.free; moved = b.moved })
+    subst (λ (j : Journal). IsBegun first 1 o mid j) (sym is) (record { front = b.front; are = b.are; inner = b.inner; worked = b.worked; once = (let c = b.once in omega (arith, c)); unpolled = b.unpolled; tries = b.tries; partial = b.partial; free = b.free; moved = b.moved })
 has_spoken first o mid line next begun (handed_back is) =
     subst (λ (j : Journal). IsBegun first 1 o mid j) (sym is)
     (begun_on first o mid line (at_port no_reply_room ∷ line) (at_port no_reply_room) refl (has_begun first o mid line begun) (record { no_changes = refl; none_planned = refl }) refl refl refl refl refl refl refl refl)
@@ -495,7 +498,7 @@ pub did_begin_line : {N : ℕ} (first : Opening) (was : Flags) (board : Board N)
     → board.beat ≡ Motion → board.flags ≡ words.None → HasFilled first spoken next → BoardWorked first Did was board h next
 did_begin_line first was board h seen mid spoken next o ready line look alone b keeps beat no_word filled =
     let a = alone.passes in
-    let few = few_where_whole (tries_of first h) (whole_of h) line.whole ready.tries in
+    let few = few_where_whole first h line.whole ready.tries in
     let quiet : count_by publishing (this_turn mid) ≡ 0 = a.quiet ∙ look.quiet ∙ ready.quiet.quiet in
     let tries : tries_of first mid ≡ tries_of first h = a.tries ∙ look.tries in
     let free = free_passed first seen mid a (free_passed first h seen look (free_of h ready.quiet)) in
@@ -506,8 +509,9 @@ did_begin_line first was board h seen mid spoken next o ready line look alone b 
     let inner : list_any ends_turn steps ≡ false = none_ends b.front (began o ∷ (a.steps ++ look.steps)) b.inner (none_ends a.steps look.steps a.inner look.inner) in
     let once = b.once in
     let tried = b.tries in
+    let two = ahead_less (left_of first spoken) (whole_of spoken) (is_reply_back spoken) b.partial in
     did_filled first was board h spoken next steps are inner keeps beat taken filled (b.worked (a.worked (look.worked ready.quiet.worked)))
-    (omega (arith, once, quiet)) (b.unpolled ∙ a.polled ∙ look.polled ∙ ready.unpolled) (omega (arith, few, tries, tried)) (inl (filled.alone.passes.moves b.moved))
+    (omega (arith, once, quiet)) (b.unpolled ∙ a.polled ∙ look.polled ∙ ready.unpolled) (omega (arith, few, tries, tried, two)) (inl (filled.alone.passes.moves b.moved))
 
 -- the port knows nothing of that
 pub port_begun : (first : Opening) (o : Outcome) (mid line : Journal) → HasBegun first o mid line → port_log line ≡ port_log mid

@@ -1,8 +1,7 @@
 -- How a turn ends: by what was done in it its answer is allowed, and what holds between two turns holds again.
 use Rattle.std.proofs.Common.{◌≡◌, ℕ, ◌+◌, ◌≤◌, ◌<◌, ◌⊎◌, inl, inr, Bool, true, false, ◌||◌, List, [], ◌∷◌, ◌++◌, length, nat_eq, drop, sym, refl, ap, ◌∙◌, subst, arith, append_assoc}
+use Rattle.board_rules.specs.Within.{tries_ahead}
 use Rattle.std.specs.List.{list_any, count_by, Contains}
-use Rattle.feed_hold.specs.declared.Motion.{Motion as AnyMotion}
-use Rattle.feed_hold.specs.declared.Motion.TheVariants.{Holding, Held, Cancelling}
 use Rattle.outside.specs.declared.On.{On}
 use Rattle.outside.specs.declared.On.TheVariants.{SegmentRoom}
 use Rattle.outside.specs.declared.Turn.{Turn}
@@ -13,10 +12,10 @@ use Rattle.run_rules.specs.Work.Task.{ask, tell, pause, normal, finish, halt}
 use Rattle.status_report.specs.declared.Reply.{Reply}
 use Rattle.step_line.specs.Asking.Asked.{a_move, a_mark, a_rest}
 use Rattle.board_rules.specs.Ports.{BoardLog}
-use Rattle.board_rules.specs.Steps.{Step, Journal, left_of, plan_of, motion_of, whole_of, closed_tells}
+use Rattle.board_rules.specs.Steps.{Step, Journal, left_of, plan_of, motion_of, closed_tells}
 use Rattle.board_rules.specs.Cuts.{has_cut}
-use Rattle.board_rules.specs.Turns.{this_turn, publishing, passing, moving, ends_turn, found_none, lacks_reply_room, unobeyed_of, owes_report, takes_changes, replans, flags_taken, awaits_motion, has_jogged, is_full, begins_in, halts_next, is_halting, is_limited, is_counted, has_blocks, has_segment, is_due, starts_cycle, tries_of, missed_of, waits_of}
-use Rattle.board_rules.specs.Conduct.{Conducted, AreWaiting, IsNextTask}
+use Rattle.board_rules.specs.Turns.{this_turn, publishing, passing, moving, ends_turn, found_none, lacks_reply_room, unobeyed_of, owes_report, takes_changes, replans, flags_taken, awaits_motion, has_jogged, is_full, begins_in, halts_next, is_halting, is_limited, is_counted, has_blocks, has_segment, is_due, starts_cycle, tries_of, missed_of, waits_of, counts_tries, is_reply_back}
+use Rattle.board_rules.specs.Conduct.{AreWaiting, IsNextTask}
 use Rattle.units.specs.Truths.{one_if}
 use Rattle.board_turns.specs.declared.board.Board.{Board}
 use Rattle.board_turns.specs.declared.board.Flags.{Flags}
@@ -24,8 +23,8 @@ use Rattle.board_turns.specs.declared.board.Flags.TheVariants as words
 use Rattle.board_turns.specs.declared.board.Beat.TheVariants.{Motion, Main}
 use Rattle.board_turns.specs.Boards.{Keeps, Rounds, NoneWaits, GoingBetween, IsFree, TakesFlags, takes_no_word, has_published, changes_left, number_of}
 use Rattle.board_turns.specs.Turning.{IsNextMove, AreWorked, IsQuiet, IsReady, MayRun, MayAwait, HasStopped, NeedsNoWait, GoesOn, PassesNothing, HasFilled, HasTried, BoardWorked, WorksOn}
-pub use Rattle.board_turns.proofs.Freeing.{free_of, takes_none, no_word_left, free_passed, free_tried, flags_tried, flags_passed, taken_by, obeyed_by, obeyed_unless}
-use Rattle.board_rules.proofs.Facts.{not_whole, uncounted, uncounted_line, uncounted_owing}
+pub use Rattle.board_turns.proofs.Freeing.{free_of, takes_none, no_word_left, free_passed, free_tried}
+use Rattle.board_rules.proofs.Facts.{none_awaited, uncounted}
 use Rattle.board_rules.proofs.Tries.{none_ends}
 use Rattle.board_turns.proofs.Steps.{other_beat, halts_by, none_halts}
 
@@ -105,15 +104,14 @@ same_calls f g ts us j i full left jogged = ap (λ b. b || (awaits_motion ts || 
 pub none_waited : (h : Journal) (o : On) → waits_of h ≡ [] → Contains (waits_of h) o → ⊥
 none_waited h o none has = let e = ap length none in let within = has.1 in absurd (omega arith)
 
-pub rounds_still : (first : Opening) (h : Journal) → NoneWaits first h → tries_of first h + one_if (whole_of h) ≤ 1 → Rounds first Motion h
+pub rounds_still : (first : Opening) (h : Journal) → NoneWaits first h → tries_of first h + tries_ahead first h ≤ 4 → Rounds first Motion h
 rounds_still first h none few = record {
   waits = λ e. absurd cc;
   tried = λ e. absurd cc;
   sent = λ e. absurd cc;
   none_waits = none;
   tries = omega arith;
-  few = λ some. omega arith;
-  held = λ halts whole. let w = ap one_if whole in omega (arith, few, w);
+  few = λ none. few;
   owed = λ e. few;
 }
 
@@ -125,7 +123,8 @@ pub record MayTry (first : Opening) (h : Journal) : Type 0 where
   pub worked : AreWorked h
   pub flags : flags_taken h ≡ true
   pub polled : list_any found_none (this_turn h) ≡ true → (AreWaiting first h → ⊥) × (IsNextMove first h → ⊥)
-  pub tries : tries_of first h + one_if (whole_of h) ≤ 1
+  pub tries : tries_of first h + tries_ahead first h ≤ 4
+  pub owing : owes_report h ≡ true → is_counted first h ≡ false
 
 none_called_behind : (first : Opening) (h mid next : Journal) (p : Bool) → MayTry first h → HasTried first p h mid → HasFilled first mid next → AreWaiting first next → starts_cycle first next ≡ false
 none_called_behind first h mid next p may tried filled waiting = by_poll (list_any found_none (this_turn h)) refl
@@ -137,45 +136,23 @@ none_called_behind first h mid next p may tried filled waiting = by_poll (list_a
         let no_move : IsNextMove first mid → ⊥ = (λ m. n.1 (m.0, subst (λ (ts : List Task). ts ≡ ask (a_move m.0) ∷ drop 1 ts) tried.left m.1)) in
         absurd (n.0 (tried.waiting (filled.waiting no_move waiting)))
 
-few_tries : (first : Opening) (h mid next : Journal) (p : Bool) → MayTry first h → HasTried first p h mid → HasFilled first mid next → tries_of first next + one_if (whole_of next) ≤ 2
+few_tries : (first : Opening) (h mid next : Journal) (p : Bool) → MayTry first h → HasTried first p h mid → HasFilled first mid next → tries_of first next + tries_ahead first next ≤ 5
 few_tries first h mid next p may tried filled =
     let t = filled.alone.passes.tries in
-    let w = ap one_if (filled.alone.passes.whole ∙ tried.whole) in
+    let a = filled.alone.passes.ahead in
+    let w = tried.ahead in
     let f = tried.once in
     let m = may.tries in
-    omega (arith, t, w, f, m)
+    omega (arith, t, a, w, f, m)
 
--- some changes are left of a machine that is held, or slows down to a stop, and of no other
-changes_some : (m : AnyMotion) (cut : Bool) → is_halting m ≡ true → 1 ≤ changes_left m cut
-changes_some Holding cut halts = omega arith
-changes_some Held cut halts = omega arith
-changes_some Cancelling true halts = omega arith
-changes_some Cancelling false halts = omega arith
-changes_some m cut halts = absurd cc
-
-some_changes : (m : AnyMotion) (cut : Bool) → 1 ≤ changes_left m cut → is_halting m ≡ true
-some_changes Holding cut some = refl
-some_changes Held cut some = refl
-some_changes Cancelling cut some = refl
-some_changes m cut some = absurd (omega (arith, some))
-
--- a machine that is not held, nor slows down to a stop, still is not
-pub halts_before : (first : Opening) (h next : Journal) → PassesNothing first h next → is_halting (motion_of first next) ≡ true → is_halting (motion_of first h) ≡ true
-halts_before first h next p halts =
-    let some = changes_some (motion_of first next) (has_cut next) halts in
-    let fewer = p.changes in some_changes (motion_of first h) (has_cut h) (omega (arith, some, fewer))
-
--- no try is counted for a line that waits for the machine
-none_for_line : (first : Opening) (h mid next : Journal) (p : Bool) → MayTry first h → HasTried first p h mid → HasFilled first mid next → is_halting (motion_of first next) ≡ true → whole_of next ≡ true → tries_of first next ≡ 0
-none_for_line first h mid next p may tried filled halts whole =
-    let a = filled.alone.passes in
-    let halted = sym (ap is_halting tried.motion) ∙ halts_before first mid next a halts in
-    let line = sym (a.whole ∙ tried.whole) ∙ whole in
-    let f = tried.later (uncounted_line first h halted line) in
-    let t = a.tries in
-    let m = may.tries in
-    let w = ap one_if line in
-    omega (arith, f, t, m, w)
+-- where none was counted they are as few as before
+few_uncounted : (first : Opening) (h mid next : Journal) (p : Bool) → HasTried first p h mid → PassesNothing first mid next → is_counted first h ≡ false → tries_of first h + tries_ahead first h ≤ 4 → tries_of first next + tries_ahead first next ≤ 4
+few_uncounted first h mid next p tried passes none few =
+    let t = passes.tries in
+    let a = passes.ahead in
+    let w = tried.ahead in
+    let f = tried.later none in
+    omega (arith, t, a, w, f, few)
 
 -- ---- a piece that is published
 
@@ -193,13 +170,8 @@ sent_by first was board h mid next may tried filled keeps no_word takes =
         sent = λ e. filled.hand ∙ tried.sent refl;
         none_waits = filled.none_waits;
         tries = omega arith;
-        few = λ some.
-            (let left : left_of first h ≡ [] → ⊥ = (λ e. a.less some (tried.left ∙ e)) in
-            let f = tried.later (uncounted first h left) in let m = may.tries in let t = a.tries in omega (arith, f, m, t));
-        held = none_for_line first h mid next true may tried filled;
-        owed = λ owed.
-            (let f = tried.later (uncounted_owing first h (sym (a.owed ∙ tried.owed) ∙ owed)) in let m = may.tries in let t = a.tries in let w = ap one_if (a.whole ∙ tried.whole) in
-            omega (arith, f, m, t, w));
+        few = λ none. few_uncounted first h mid next true tried a (sym tried.counted ∙ a.counted none) may.tries;
+        owed = λ owed. few_uncounted first h mid next true tried a (may.owing (sym (a.owed ∙ tried.owed) ∙ owed)) may.tries;
       };
       flags = takes;
       still = λ e. no_word;
@@ -236,6 +208,7 @@ may_try first h may = record {
   flags = may.quiet.flags;
   polled = may.polled;
   tries = by_counted (is_counted first h) (λ e. let f = may.once e in omega (arith, f)) may.few;
+  owing = λ owed. absurd (let e = sym owed ∙ may.quiet.unowed in cc);
 }
 
 -- it was handed back, and room for it is waited for
@@ -244,10 +217,11 @@ pub handed_back : {N : ℕ} (first : Opening) (was : Flags) (board : Board N) (h
 handed_back first was board h mid next may tried filled keeps beat no_word =
     let a = filled.alone.passes in
     let try = may_try first h may in
-    let w = ap one_if (a.whole ∙ tried.whole) in
+    let w = tried.ahead in
+    let b = a.ahead in
     let t = a.tries in
-    let few : tries_of first next + one_if (whole_of next) ≤ 1 =
-    by_counted (is_counted first h) (λ e. let f = tried.once in let m = may.once e in omega (arith, w, t, f, m)) (λ e. let f = tried.later e in let m = may.few e in omega (arith, w, t, f, m)) in
+    let few : tries_of first next + tries_ahead first next ≤ 4 =
+    by_counted (is_counted first h) (λ e. let f = tried.once in let m = may.once e in omega (arith, w, b, t, f, m)) (λ e. (few_uncounted first h mid next false tried a e (may.few e))) in
     let worked = a.worked (tried.worked may.quiet.worked) in
     let free = free_passed first mid next a (free_tried first false h mid tried (free_of h may.quiet)) in
     record {
@@ -305,13 +279,14 @@ quiet_between h between free = record {
   untold = none_between h lacks_reply_room between;
 }
 
-pub may_try_first : (first : Opening) (f : Flags) (h : Journal) → Rounds first Motion h → GoingBetween h → takes_no_word f ≡ true → TakesFlags f h → MayTry first h
-may_try_first first f h r between none takes = record {
+pub may_try_first : (first : Opening) (h : Journal) → Rounds first Motion h → GoingBetween h → IsFree h → MayTry first h
+may_try_first first h r between free = record {
   quiet = count_between h between;
-  worked = none_worked h between (obeyed_by f h none takes);
-  flags = taken_by f h none takes;
+  worked = none_worked h between (λ e. free.obeyed);
+  flags = free.flags;
   polled = λ e. absurd (let n = none_between h found_none between in cc);
   tries = (let t = r.tries in omega (arith, t));
+  owing = λ owed. absurd (let e = sym owed ∙ free.unowed in cc);
 }
 
 still_none_waits : (first : Opening) (h next : Journal) (p : Bool) → HasTried first p h next → NoneWaits first h → NoneWaits first next
@@ -322,7 +297,7 @@ still_none_waits first h next p tried none waiting =
 -- what was tried first was handed back
 pub ready_tried : (first : Opening) (h next : Journal) → Rounds first Motion h → GoingBetween h → IsFree h → HasTried first false h next → IsReady first next
 ready_tried first h next r between free tried =
-    let w = ap one_if tried.whole in
+    let w = tried.ahead in
     let rt = r.tries in
     record {
       quiet = record {
@@ -338,10 +313,7 @@ ready_tried first h next r between free tried =
       unmissed = tried.missed;
       none_waits = still_none_waits first h next false tried r.none_waits;
       tries = (let f = tried.once in omega (arith, f, w, rt));
-      few = λ some. (let left : left_of first h ≡ [] → ⊥ = (λ e. some (tried.left ∙ e)) in let f = tried.later (uncounted first h left) in omega (arith, f, rt));
-      held = λ halts whole.
-          (let halted = sym (ap is_halting tried.motion) ∙ halts in let line = sym tried.whole ∙ whole in
-          let f = tried.later (uncounted_line first h halted line) in let o = ap one_if line in omega (arith, f, rt, o));
+      few = λ none. (let f = tried.later (sym tried.counted ∙ none) in omega (arith, f, w, rt));
     }
 
 -- the last turn published
@@ -354,7 +326,6 @@ ready_sent first h r between taken = record {
   none_waits = r.none_waits;
   tries = (let t = r.tries in omega arith);
   few = r.few;
-  held = r.held;
 }
 
 -- nothing is due
@@ -367,25 +338,20 @@ ready_idle first h r between taken idle unmissed = record {
   none_waits = r.none_waits;
   tries = (let t = r.tries in omega arith);
   few = r.few;
-  held = r.held;
 }
 
 -- ---- the motion is waited for
 
-pub may_run : (first : Opening) (h : Journal) → Conducted first h → IsReady first h → (left_of first h ≡ [] → ⊥) → MayRun first h
-may_run first h c ready some = record {
+pub may_run : (first : Opening) (h : Journal) → IsReady first h → counts_tries (left_of first h) (is_reply_back h) ≡ false → MayRun first h
+may_run first h ready none = record {
   quiet = ready.quiet;
   polled = λ e. absurd (let n = ready.unpolled in cc);
-  once = λ e. absurd (let n = sym e ∙ uncounted first h some in cc);
-  few = λ e. (let f = ready.few some in let w = ap one_if (not_whole first h c some) in omega (arith, f, w));
-  held = ready.held;
+  once = λ e. absurd (let n = sym e ∙ uncounted first h none in cc);
+  few = ready.few;
 }
 
-pub some_awaited : (first : Opening) (h : Journal) → awaits_motion (left_of first h) ≡ true → left_of first h ≡ [] → ⊥
-some_awaited first h awaits none = absurd (let e = ap awaits_motion none in cc)
-
-pub may_await : (first : Opening) (h : Journal) → Conducted first h → IsReady first h → begins_in (motion_of first h) ≡ true → awaits_motion (left_of first h) ≡ true → MayAwait first h
-may_await first h c ready going awaits = record { run = may_run first h c ready (some_awaited first h awaits); going = going; awaits = awaits; none_waits = ready.none_waits }
+pub may_await : (first : Opening) (h : Journal) → IsReady first h → begins_in (motion_of first h) ≡ true → awaits_motion (left_of first h) ≡ true → MayAwait first h
+may_await first h ready going awaits = record { run = may_run first h ready (none_awaited (left_of first h) (is_reply_back h) awaits); going = going; awaits = awaits; none_waits = ready.none_waits }
 
 -- a machine that stands with nothing left to run waits for no start, and has no segment due
 pub no_blocks : (first : Opening) (h : Journal) → HasStopped first h → has_blocks (plan_of h).blocks ≡ false
@@ -413,9 +379,8 @@ ready_stopped first h next ready passes stopped =
       tried = λ due. absurd (let e = sym due ∙ not_due first next stopped in cc);
       unmissed = passes.missed ∙ ready.unmissed;
       none_waits = λ waiting. absurd (not_waiting first next stopped waiting);
-      tries = (let w = ap one_if passes.whole in let r = ready.tries in omega arith);
-      few = λ some. (let m = ready.few (passes.less some) in omega arith);
-      held = λ halts whole. absurd (let e = sym halts ∙ ap is_halting stopped.stands in cc);
+      tries = (let w = passes.ahead in let r = ready.tries in omega (arith, t, w, r));
+      few = λ none. (let w = passes.ahead in let m = ready.few (passes.counted none) in omega (arith, t, w, m));
     }
 
 -- what is next goes on where the machine stands
@@ -450,16 +415,16 @@ needs_no_wait first b h k stopped no_rest no_normal awaits = by_task (awaited (l
 
 -- something was done up to a journal, behind which moves were added
 pub did_filled : {N : ℕ} (first : Opening) (was : Flags) (board : Board N) (h mid next : Journal) (steps : List Step) → mid ≡ steps ++ h → list_any ends_turn steps ≡ false → Keeps first board next → board.beat ≡ Motion → TakesFlags board.flags next → HasFilled first mid next
-    → AreWorked mid → count_by publishing (this_turn mid) ≤ 1 → list_any found_none (this_turn mid) ≡ false → tries_of first mid + one_if (whole_of mid) ≤ 1
+    → AreWorked mid → count_by publishing (this_turn mid) ≤ 1 → list_any found_none (this_turn mid) ≡ false → tries_of first mid + tries_ahead first mid ≤ 4
     → (list_any moving (this_turn next) ≡ true) ⊎ (number_of first board.flags next < number_of first was h) → BoardWorked first Did was board h next
 did_filled first was board h mid next steps is inner keeps beat taken filled worked once unpolled few moves =
     let a = filled.alone.passes in
     let now = a.worked worked in
     let t = a.tries in
-    let w = ap one_if a.whole in
+    let w = a.ahead in
     record {
       keeps = keeps;
-      rounds = subst (λ b. (Rounds first) b next) (sym beat) (rounds_still first next filled.none_waits (omega arith));
+      rounds = subst (λ b. (Rounds first) b next) (sym beat) (rounds_still first next filled.none_waits (omega (arith, t, w, few)));
       flags = taken;
       still = λ e. absurd (let s = ap has_published beat in cc);
       beat = λ o e. beat;

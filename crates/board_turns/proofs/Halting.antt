@@ -1,5 +1,6 @@
 -- Where what is next is held up, the stop is waited for, and then the resume.
 use Rattle.std.proofs.Common.{◌≡◌, ℕ, ◌+◌, ◌≤◌, ◌<◌, ◌⊎◌, inl, inr, Bool, true, false, ◌&&◌, ◌||◌, not, List, [], ◌∷◌, ◌++◌, length, drop, cond, nat_eq, Some, None, refl, sym, ap, ◌∙◌, subst, arith}
+use Rattle.board_rules.specs.Within.{tries_ahead}
 use Rattle.std.specs.List.{list_any, count_by}
 use Rattle.std.specs.Option.{option_to_list}
 use Rattle.std.specs.declared.option.Option.{Option}
@@ -26,7 +27,7 @@ use Rattle.board_rules.specs.Ports.PortStep.{took_exec}
 use Rattle.board_rules.specs.Steps.{Step, Journal, left_of, whole_of, closed_tells, hand_of, plan_of, motion_of}
 use Rattle.board_rules.specs.Steps.Step.{at_port, became}
 use Rattle.board_rules.specs.Cuts.{has_cut}
-use Rattle.board_rules.specs.Turns.{this_turn, ends_turn, is_going, publishing, passing, unobeyed_of, owes_report, takes_changes, replans, asks_no_start, flags_taken, has_blocks, has_jogged, has_jog_to_start, waits_to_jog, has_segment, is_full, is_due, is_halting, is_limited, halts_next, is_counted, is_held_up, needs_motion, awaits_motion, tells_next, starts_cycle, tries_of, most_tries}
+use Rattle.board_rules.specs.Turns.{this_turn, ends_turn, is_going, publishing, passing, unobeyed_of, owes_report, takes_changes, replans, asks_no_start, flags_taken, has_blocks, has_jogged, has_jog_to_start, waits_to_jog, has_segment, is_full, is_due, is_halting, is_limited, halts_next, is_counted, is_held_up, needs_motion, awaits_motion, tells_next, starts_cycle, tries_of, most_tries, is_reply_back}
 use Rattle.board_rules.specs.Conduct.{Conducted, EndsTurn, IsNextTask, AreWaiting, HasSlowedDown}
 use Rattle.board_rules.proofs.Staying.{both_taken, stays_held}
 use Rattle.board_rules.proofs.Given.{known_within}
@@ -39,7 +40,7 @@ use Rattle.board_turns.specs.declared.board.Flags.TheVariants as words
 use Rattle.board_turns.specs.Boards.{Keeps, Rounds, NoneWaits, IsFree, IsAsked, AwaitsWords, TakesFlags, takes_no_word, words_left, changes_left, number_of}
 use Rattle.board_turns.specs.Turning.{HasPiece, IsHeldUp, MayRun, PassesNothing, StaysSo, IsCutNow, HasSettled, AreWorked, BoardWorked, obeyed, obeying, to_obey}
 use Rattle.board_turns.specs.Reporting.{IsBehind}
-use Rattle.board_rules.proofs.Facts.{uncounted, uncounted_line}
+use Rattle.board_rules.proofs.Facts.{none_held_up, uncounted, uncounted_line}
 use Rattle.board_rules.proofs.Tries.{counts_none, counts_one}
 use Rattle.board_turns.proofs.Steps.{at_rest, halts_by}
 use Rattle.board_turns.proofs.Standing.{all_published}
@@ -64,20 +65,17 @@ held_awaits first h c halted = record {
   obeyed = (free_of h halted.ready.quiet).obeyed;
 }
 
--- few tries stand behind the last poll
-pub few_halted : (first : Opening) (h : Journal) → IsHeldUp first h → tries_of first h + one_if (whole_of h) ≤ 1
-few_halted first h halted = by_whole (whole_of h) refl
-  where
-    by_whole : (w : Bool) → whole_of h ≡ w → tries_of first h + one_if (whole_of h) ≤ 1
-    by_whole true e = let none = halted.ready.held halted.halts e in let w = ap one_if e in omega (arith, none, w)
-    by_whole false e = let few = halted.ready.few (some_left first h halted.held_up e) in let w = ap one_if e in omega (arith, few, w)
-
+-- no try to publish is counted
 uncounted_halted : (first : Opening) (h : Journal) → IsHeldUp first h → is_counted first h ≡ false
 uncounted_halted first h halted = by_whole (whole_of h) refl
   where
     by_whole : (w : Bool) → whole_of h ≡ w → is_counted first h ≡ false
     by_whole true e = uncounted_line first h halted.halts e
-    by_whole false e = uncounted first h (some_left first h halted.held_up e)
+    by_whole false e = uncounted first h (none_held_up (left_of first h) (whole_of h) (is_full first.blocks (plan_of h)) (is_reply_back h) halted.held_up e)
+
+-- and few stand behind the last poll
+pub few_halted : (first : Opening) (h : Journal) → IsHeldUp first h → tries_of first h + tries_ahead first h ≤ 4
+few_halted first h halted = halted.ready.few (uncounted_halted first h halted)
 
 -- what is in hand or due may be tried to be published
 pub may_run_halted : (first : Opening) (h : Journal) → IsHeldUp first h → MayRun first h
@@ -86,7 +84,6 @@ may_run_halted first h halted = record {
   polled = λ e. absurd (let f = sym halted.ready.unpolled ∙ e in cc);
   once = λ counted. absurd (let f = sym (uncounted_halted first h halted) ∙ counted in cc);
   few = λ e. (few_halted first) h halted;
-  held = halted.ready.held;
 }
 
 -- a move that is held up has no room
@@ -103,8 +100,8 @@ still_held_up first h next p s held_up =
     ap (λ (ts : List Task). needs_motion ts (whole_of next) (is_full first.blocks (plan_of next))) s.left ∙ ap (λ w. needs_motion (left_of first h) w (is_full first.blocks (plan_of next))) p.whole
     ∙ ap (λ (p : Planned). needs_motion (left_of first h) (whole_of h) (is_full first.blocks p)) s.plan ∙ held_up
 
-few_settled : (first : Opening) (h next : Journal) → HasSettled first h next → tries_of first h + one_if (whole_of h) ≤ 1 → tries_of first next + one_if (whole_of next) ≤ 1
-few_settled first h next s few = let t = s.passes.tries in let w = ap one_if s.passes.whole in omega (arith, few, t, w)
+few_settled : (first : Opening) (h next : Journal) → HasSettled first h next → tries_of first h + tries_ahead first h ≤ 4 → tries_of first next + tries_ahead first next ≤ 4
+few_settled first h next s few = let t = s.passes.tries in let w = s.passes.ahead in omega (arith, few, t, w)
 
 -- where the machine is to be halted, it slows down for that, or stands in alarm
 abbrev pub HaltsInTime : Opening → Journal → Type 0
@@ -323,7 +320,7 @@ pub none_waits_behind : (first : Opening) (w : Option Exec) (h : Journal) → No
 none_waits_behind first None h none = none
 none_waits_behind first (Some word) h none = λ w. none (waited_before first word h w)
 
-pub rounds_behind : (first : Opening) (w : Option Exec) (h : Journal) → NoneWaits first h → tries_of first h + one_if (whole_of h) ≤ 1 → Rounds first Motion (obeying first w h)
+pub rounds_behind : (first : Opening) (w : Option Exec) (h : Journal) → NoneWaits first h → tries_of first h + tries_ahead first h ≤ 4 → Rounds first Motion (obeying first w h)
 rounds_behind first None h none few = rounds_still first h none few
 rounds_behind first (Some word) h none few = rounds_still first (obeying first (Some word) h) (none_waits_behind first (Some word) h none) few
 

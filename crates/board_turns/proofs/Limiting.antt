@@ -1,5 +1,6 @@
 -- A machine that a soft limit stops is halted once each tick is done; then the alarm is told, and the run is closed.
 use Rattle.std.proofs.Common.{◌≡◌, ℕ, ◌+◌, ◌≤◌, ◌<◌, ◌⊎◌, inl, inr, Bool, true, false, ◌&&◌, ◌||◌, List, [], ◌∷◌, ◌++◌, length, drop, nat_eq, sym, refl, ap, ◌∙◌, subst, arith}
+use Rattle.board_rules.specs.Within.{tries_ahead}
 use Rattle.feed_hold.specs.declared.Motion.{Motion as AnyMotion}
 use Rattle.feed_hold.specs.declared.Motion.TheVariants as motions
 use Rattle.feed_hold.specs.Motions.{is_stopping}
@@ -7,7 +8,7 @@ use Rattle.feed_hold.specs.Motions.Call.{on_stopped}
 use Rattle.outside.specs.declared.On.TheVariants as on
 use Rattle.outside.specs.declared.Turn.TheVariants.{Did, Wait}
 use Rattle.planner_runs.specs.Runs.{cleared}
-use Rattle.run_rules.specs.Work.{Task, pauses, soft_limit, halting_work}
+use Rattle.run_rules.specs.Work.{Task, pauses, soft_limit, halting_work, closing_work}
 use Rattle.run_rules.specs.Work.Task.{ask, tell, pause, normal, halt}
 use Rattle.step_line.specs.Asking.Asked.{a_move, a_mark, a_rest}
 use Rattle.status_report.specs.declared.Reply.{Reply}
@@ -22,7 +23,7 @@ use Rattle.board_rules.specs.Ports.{MayBeDone}
 use Rattle.board_rules.specs.Ports.PortStep.{loaded}
 use Rattle.board_rules.specs.Steps.{Journal, has_limited, port_log, left_of, whole_of, closed_tells, given_of, hand_of, plan_of, motion_of}
 use Rattle.board_rules.specs.Steps.Step.{at_port, became, halted, closing}
-use Rattle.board_rules.specs.Turns.{this_turn, awaits_motion, halts_next, is_due, is_going, is_halting, is_held_up, is_limited, is_slowing, tries_of}
+use Rattle.board_rules.specs.Turns.{this_turn, awaits_motion, halts_next, is_due, is_going, is_held_up, is_limited, is_slowing, tries_of, is_reply_back}
 use Rattle.board_rules.specs.Conduct.{AreWaiting, IsNextTask, IsStopped, MayClose, ticks_given}
 use Rattle.board_rules.proofs.Tasks.{none_next}
 use Rattle.units.specs.Truths.{one_if}
@@ -41,7 +42,7 @@ use Rattle.board_turns.proofs.Stages.{alarm_limits, ends_run, halts_raised, limi
 use Rattle.board_turns.proofs.Stopping.{locks}
 use Rattle.board_turns.proofs.Standing.{all_published, awaits_no_move}
 use Rattle.board_turns.proofs.Halting.{not_due, none_in_hand, slow_stands}
-use Rattle.board_rules.proofs.Tries.{publishes_none, worked_behind, fewer_pauses, passes_none, passes_load, passes_on, alone_on, alone_motion}
+use Rattle.board_rules.proofs.Tries.{publishes_none, worked_behind, passes_none, passes_load, passes_on, alone_on, alone_motion, ahead_less, passes_halted}
 use Rattle.board_turns.proofs.Ends.{rounds_still, free_of, free_passed, takes_none, no_word_left}
 use Rattle.board_turns.proofs.Nexts.{quiet_on}
 
@@ -82,11 +83,11 @@ at_limit first b h done k is next none all = record {
 some_halt : (first : Opening) (h : Journal) → IsNextTask first halt h → left_of first h ≡ [] → ⊥
 some_halt first h next none = none_next (left_of first h) halt none next
 
-few_ready : {N : ℕ} (first : Opening) (b : Board N) (h : Journal) → Keeps first b h → IsReady first h → has_limited h ≡ true → tries_of first h + one_if (whole_of h) ≤ 1
+few_ready : {N : ℕ} (first : Opening) (b : Board N) (h : Journal) → Keeps first b h → IsReady first h → has_limited h ≡ true → tries_of first h + tries_ahead first h ≤ 4
 few_ready first b h k ready alarmed =
     let one = alarm_limits first h k.conducted k.limited alarmed in
     let few = k.tries alarmed in
-    let w = ap one_if one.1 in
+    let w = ahead_less (left_of first h) (whole_of h) (is_reply_back h) one.1 in
     omega (arith, few, w)
 
 -- ticks are found not to be done
@@ -134,34 +135,6 @@ waits_at_limit first b h done k ready is next none beat no_word found fewer =
 
 no_more : (n : ℕ) → n ≤ n
 no_more n = omega arith
-
-passes_halted : (first : Opening) (h : Journal) → PassesNothing first h (halted ∷ h)
-passes_halted first h = record {
-  steps = halted ∷ [];
-  are = refl;
-  inner = refl;
-  still = refl;
-  quiet = publishes_none halted (this_turn h) refl;
-  polled = refl;
-  room = refl;
-  moves = λ e. e;
-  loaded = λ e. e;
-  waits = refl;
-  tries = refl;
-  missed = refl;
-  jogged = refl;
-  raw = refl;
-  whole = refl;
-  closed = refl;
-  flags = refl;
-  replies = refl;
-  owed = refl;
-  words = refl;
-  worked = worked_behind halted h (halted ∷ h) refl (record { no_changes = refl; none_planned = refl }) refl refl;
-  pauses = fewer_pauses (left_of first h);
-  changes = no_more _;
-  less = λ some none. some (ap (λ (ts : List Task). drop 1 ts) none);
-}
 
 -- what was planned is dropped where it stands in alarm
 halts : {N : ℕ} (first : Opening) (c : Board N) (m : Machine N) (i : Interpreting) (h : Journal) → Keeps first c h → IsAtLimit first h → motion_of first h ≡ motions.Alarm → Runs m (cleared (plan_of h)) (motion_of first h) (hand_of h) (given_of h)
@@ -262,9 +235,8 @@ ready_halted first h mid next ready is look left stops =
       tried = λ due. absurd (let e = sym stops.undue ∙ due in cc);
       unmissed = p.missed ∙ ready.unmissed;
       none_waits = λ w. absurd (let e = sym stops.alarm ∙ w.stands in cc);
-      tries = (let w = ap one_if p.whole in let r = ready.tries in omega (arith, t, w, r));
-      few = λ some. (let f = ready.few (some_halt first h is) in omega (arith, t, f));
-      held = λ e. absurd (let f = sym (ap is_halting stops.alarm) ∙ e in cc);
+      tries = (let w = p.ahead in let r = ready.tries in omega (arith, t, w, r));
+      few = λ none. (let w = p.ahead in let f = ready.few (p.counted none) in omega (arith, t, w, f));
     }
 
 -- ---- the run is closed
@@ -284,8 +256,11 @@ closing_falls first f h none going =
 pub closes_limited : {N : ℕ} (first : Opening) (board now : Board N) (h : Journal) → Keeps first board h → Keeps first now (closing ∷ h) → IsReady first h → has_limited h ≡ true → left_of first h ≡ [] → board.closing ≡ false → now.beat ≡ Motion
     → board.flags ≡ flags.None → now.flags ≡ flags.None → BoardWorked first Did board.flags now h (closing ∷ h)
 closes_limited first board now h k keeps ready alarmed none open_yet beat no_word_was no_word =
-    let few = few_ready first board h k ready alarmed in
-    let is = (alarm_limits first h k.conducted k.limited alarmed).0 in
+    let one = alarm_limits first h k.conducted k.limited alarmed in
+    let is = one.0 in
+    let least = k.tries alarmed in
+    let two = ahead_less closing_work (whole_of h) (is_reply_back h) one.1 in
+    let few : tries_of first (closing ∷ h) + tries_ahead first (closing ∷ h) ≤ 4 = omega (arith, least, two) in
     let free = free_of h ready.quiet in
     let worked = worked_behind closing h (closing ∷ h) refl (record { no_changes = refl; none_planned = refl }) refl refl ready.quiet.worked in
     let none_now : AreWaiting first (closing ∷ h) → ⊥ = (λ w. (none_waiting first) h is (record { stands = w.stands; blocks = w.blocks })) in

@@ -1,5 +1,6 @@
 -- What is next is done: what the rules ask of it, and how the turn ends by it.
-use Rattle.std.proofs.Common.{◌-◌, ◌≡◌, ℕ, ◌+◌, ◌≤◌, ◌<◌, inl, inr, Bool, true, false, ◌||◌, ◌⊎◌, List, [], ◌∷◌, ◌++◌, length, drop, nat_eq, sym, refl, ap, ◌∙◌, subst, arith}
+use Rattle.std.proofs.Common.{◌-◌, ◌≡◌, ℕ, ◌+◌, ◌≤◌, ◌<◌, inl, inr, Bool, true, false, ◌||◌, ◌⊎◌, List, [], ◌∷◌, ◌++◌, length, drop, nat_eq, sym, refl, ap, ◌∙◌, subst, arith, not}
+use Rattle.board_rules.specs.Within.{tries_ahead, ahead, work_ahead}
 use Rattle.std.specs.List.{list_any}
 use Rattle.outside.specs.declared.On.TheVariants.{Byte, ReplyRoom}
 use Rattle.outside.specs.declared.Turn.TheVariants.{Did, Wait}
@@ -13,15 +14,15 @@ use Rattle.step_line.specs.declared.planned_move.PlannedMove.{PlannedMove}
 use Rattle.status_report.specs.declared.Reply.{Reply}
 use Rattle.status_report.specs.declared.Reply.TheVariants.{Bye}
 use Rattle.board_rules.specs.Openings.{Opening}
-use Rattle.run_rules.specs.Work.{Task, pauses}
+use Rattle.run_rules.specs.Work.{Task, pauses, closing_work}
 use Rattle.run_rules.specs.Work.Task.{ask, tell, pause, normal, finish, halt}
 use Rattle.step_line.specs.Asking.Asked.{a_move, a_mark, a_rest}
 use Rattle.line_interpreter.specs.Lefts.{IsTodo}
 use Rattle.line_interpreter.specs.declared.tasks.Todo.TheVariants as todo
-use Rattle.board_rules.specs.Ports.PortStep.{took, found_empty, found_closed, no_reply_room}
+use Rattle.board_rules.specs.Ports.PortStep.{took, found_empty, found_closed, no_reply_room, answered}
 use Rattle.board_rules.specs.Steps.{Journal, has_limited, left_of, plan_of, motion_of, whole_of, has_closed}
 use Rattle.board_rules.specs.Steps.Step.{at_port, did, made_end, closing}
-use Rattle.board_rules.specs.Turns.{this_turn, found_none, found_nothing, tells_next, awaits_motion, begins_in, halts_next, needs_motion, is_held_up, is_halting, is_limited, is_locked, stands_still, is_full, has_blocks, has_segment, has_jogged, is_due, tries_of}
+use Rattle.board_rules.specs.Turns.{this_turn, found_none, found_nothing, tells_next, awaits_motion, begins_in, halts_next, needs_motion, is_held_up, is_halting, is_limited, is_locked, stands_still, is_full, has_blocks, has_segment, has_jogged, is_due, tries_of, counts_tries, is_reply_back, is_counted}
 use Rattle.board_rules.specs.Conduct.{Conducted, IsLocked, AreWaiting, IsNextTask, MayPoll, MayStart, MayClose}
 use Rattle.board_rules.proofs.Tasks.{none_next, head_is}
 use Rattle.units.specs.Truths.{one_if}
@@ -36,13 +37,13 @@ use Rattle.board_rules.proofs.Alarms.{limited_alarmed}
 use Rattle.board_turns.proofs.Begins.{still_is}
 use Rattle.board_turns.proofs.Steps.{is_next, begins_by, calm_now, halts_by}
 use Rattle.board_turns.proofs.PortSteps.{not_told}
-use Rattle.board_rules.proofs.Facts.{not_whole, uncounted, unmissed}
+use Rattle.board_rules.proofs.Facts.{not_whole, uncounted, unmissed, none_awaited, none_asked, none_by_bye}
 use Rattle.board_rules.proofs.Polling.{none_polled, none_told}
-use Rattle.board_rules.proofs.Tries.{publishes_none, publishes_one, worked_behind, passes_did, passes_end, passes_motion}
+use Rattle.board_rules.proofs.Tries.{publishes_none, publishes_one, worked_behind, passes_did, passes_end, passes_motion, ahead_most, ahead_less, ahead_partial, ahead_counted, three_most}
 use Rattle.board_turns.proofs.Standing.{full_is_queued, goes_or_stands}
-use Rattle.board_turns.proofs.Starting.{none_left_to_change, starts_off, starts_going, full_is}
-use Rattle.board_rules.proofs.Lasts.{behind_asked, IsClosing}
-use Rattle.board_turns.proofs.Ends.{none_called, none_waited, rounds_still, one_at_most, takes_none, ready_sent, ready_idle, may_await, free_of, no_word_left}
+use Rattle.board_turns.proofs.Starting.{none_left_to_change, starts_off, full_is}
+use Rattle.board_rules.proofs.Lasts.{IsClosing}
+use Rattle.board_turns.proofs.Ends.{none_called, none_waited, rounds_still, takes_none, ready_sent, ready_idle, may_await, free_of, no_word_left}
 use Rattle.board_rules.proofs.Opening.{opened}
 
 -- ---- how a turn begins
@@ -63,12 +64,58 @@ ready_now first Motion h r between taken none =
 pub some_next : (first : Opening) (h : Journal) (t : Task) → IsNextTask first t h → left_of first h ≡ [] → ⊥
 some_next first h t next none = none_next (left_of first h) t none next
 
--- few tries stand behind the last poll while something is left to do
-pub few_working : (first : Opening) (h : Journal) → Conducted first h → IsReady first h → (left_of first h ≡ [] → ⊥) → tries_of first h + one_if (whole_of h) ≤ 1
-few_working first h c ready some =
-    let w = ap one_if (not_whole first h c some) in
-    let f = ready.few some in
-    omega arith
+-- ---- a reply that is next
+
+-- few tries stand behind the last poll where it was told, and where it was handed back
+few_by_reply : (ts : List Task) (back : Bool) (tries : ℕ) → tells_next ts ≡ true → tries + work_ahead ts back ≤ 5 → (counts_tries ts back ≡ false → tries + work_ahead ts back ≤ 4)
+    → (tries + work_ahead (drop 1 ts) false ≤ 4) × (tries + work_ahead ts true ≤ 4)
+few_by_reply [] back tries tells most few = absurd cc
+few_by_reply (tell r ∷ []) true tries tells most few = let none = few refl in (omega (arith, none), omega (arith, none))
+few_by_reply (tell r ∷ []) false tries tells most few = (omega (arith, most), omega (arith, most))
+few_by_reply (tell r ∷ tell q ∷ []) true tries tells most few = let none = few refl in (omega (arith, none), omega (arith, none))
+few_by_reply (tell r ∷ tell q ∷ []) false tries tells most few = (omega (arith, most), omega (arith, most))
+few_by_reply (tell r ∷ tell q ∷ t ∷ ts) back tries tells most few = let none = few refl in let three = three_most (tell q ∷ t ∷ ts) false in (omega (arith, none, three), omega (arith, none))
+few_by_reply (tell r ∷ ask a ∷ ts) back tries tells most few = let none = few refl in let three = three_most (ask a ∷ ts) false in (omega (arith, none, three), omega (arith, none))
+few_by_reply (tell r ∷ pause ∷ ts) back tries tells most few = let none = few refl in let three = three_most (pause ∷ ts) false in (omega (arith, none, three), omega (arith, none))
+few_by_reply (tell r ∷ normal ∷ ts) back tries tells most few = let none = few refl in let three = three_most (normal ∷ ts) false in (omega (arith, none, three), omega (arith, none))
+few_by_reply (tell r ∷ finish ∷ ts) back tries tells most few = let none = few refl in let three = three_most (finish ∷ ts) false in (omega (arith, none, three), omega (arith, none))
+few_by_reply (tell r ∷ halt ∷ ts) back tries tells most few = let none = few refl in let three = three_most (halt ∷ ts) false in (omega (arith, none, three), omega (arith, none))
+few_by_reply (ask a ∷ ts) back tries tells most few = absurd cc
+few_by_reply (pause ∷ ts) back tries tells most few = absurd cc
+few_by_reply (normal ∷ ts) back tries tells most few = absurd cc
+few_by_reply (finish ∷ ts) back tries tells most few = absurd cc
+few_by_reply (halt ∷ ts) back tries tells most few = absurd cc
+
+record FewBehind (first : Opening) (h : Journal) : Type 0 where
+  partial : whole_of h ≡ false
+  both : (tries_of first h + work_ahead (drop 1 (left_of first h)) false ≤ 4) × (tries_of first h + work_ahead (left_of first h) true ≤ 4)
+
+few_behind : (first : Opening) (h : Journal) (r : Reply) → Conducted first h → IsReady first h → IsNextTask first (tell r) h → FewBehind first h
+few_behind first h r c ready next =
+    let partial = not_whole first h c (some_next first h (tell r) next) in
+    let same = ahead_partial (left_of first h) (whole_of h) (is_reply_back h) partial in
+    let most = ready.tries in
+    record {
+      partial = partial;
+      both =
+          few_by_reply (left_of first h) (is_reply_back h) (tries_of first h) (ap tells_next next) (omega (arith, most, same))
+          (λ none. let few = ready.few (uncounted first h none) in omega (arith, few, same));
+    }
+
+pub few_told : (first : Opening) (h : Journal) (r q : Reply) → Conducted first h → IsReady first h → IsNextTask first (tell r) h → tries_of first (at_port (answered q) ∷ h) + tries_ahead first (at_port (answered q) ∷ h) ≤ 4
+few_told first h r q c ready next =
+    let few = few_behind first h r c ready next in
+    let same = ahead_partial (drop 1 (left_of first h)) (whole_of h) false few.partial in
+    let four = few.both.0 in
+    omega (arith, four, same)
+
+few_handed_back : (first : Opening) (h : Journal) (r : Reply) → Conducted first h → IsReady first h → IsNextTask first (tell r) h → tries_of first (at_port no_reply_room ∷ h) + tries_ahead first (at_port no_reply_room ∷ h) ≤ 4
+few_handed_back first h r c ready next =
+    let few = few_behind first h r c ready next in
+    let back = ap (λ o. ahead (left_of first h) (whole_of h) (not o || is_reply_back h)) ready.quiet.unowed in
+    let same = ahead_partial (left_of first h) (whole_of h) true few.partial in
+    let four = few.both.1 in
+    omega (arith, four, same, back)
 
 -- ---- moves
 
@@ -191,7 +238,7 @@ held_up_awaited (halt ∷ ts) whole full is = refl
 
 -- so the motion may be waited for where what is next goes on
 pub may_await_now : {N : ℕ} (first : Opening) (b : Board N) (h : Journal) → Keeps first b h → IsReady first h → GoesOn first h → awaits_motion (left_of first h) ≡ true → MayAwait first h
-may_await_now first b h k ready goes awaits = may_await first h k.conducted ready (not_halting first h goes (held_up_awaited (left_of first h) (whole_of h) (is_full first.blocks (plan_of h)) awaits)) awaits
+may_await_now first b h k ready goes awaits = may_await first h ready (not_halting first h goes (held_up_awaited (left_of first h) (whole_of h) (is_full first.blocks (plan_of h)) awaits)) awaits
 
 -- ---- what is next, by the fields
 
@@ -217,31 +264,51 @@ quiet_on first h next quiet passes = record {
   untold = passes.replies ∙ quiet.untold;
 }
 
+-- where the last replies come behind a mark, a try is counted, and less comes before the next poll
+once_marked : (first : Opening) (h : Journal) (m : AnyMark) (ps : List Piece) → Conducted first h → IsNextTask first (ask (a_mark m)) h → tries_of first h + tries_ahead first h ≤ 4
+    → is_counted first (did (Mark m) ps ∷ h) ≡ true → tries_of first (did (Mark m) ps ∷ h) + tries_ahead first (did (Mark m) ps ∷ h) ≤ 3
+once_marked first h m ps c next few counted = by_count (counts_tries (drop 1 (left_of first h)) (is_reply_back h)) refl
+  where
+    partial : whole_of h ≡ false
+    partial = not_whole first h c (some_next first h (ask (a_mark m)) next)
+
+    by_count : (b : Bool) → counts_tries (drop 1 (left_of first h)) (is_reply_back h) ≡ b → tries_of first (did (Mark m) ps ∷ h) + tries_ahead first (did (Mark m) ps ∷ h) ≤ 3
+    by_count false none = absurd (let e = sym counted ∙ uncounted first (did (Mark m) ps ∷ h) none in cc)
+    by_count true counts =
+        let least = ahead_counted (drop 1 (left_of first h)) (is_reply_back h) counts in
+        let was = ahead_partial (left_of first h) (whole_of h) (is_reply_back h) partial in
+        let is = ahead_partial (drop 1 (left_of first h)) (whole_of h) (is_reply_back h) partial in
+        let three = ap (λ (ts : List Task). work_ahead ts (is_reply_back h)) next in
+        omega (arith, few, least, was, is, three)
+
 pub may_run_marked : (first : Opening) (h : Journal) (m : AnyMark) (ps : List Piece) → Conducted first h → IsReady first h → IsNextTask first (ask (a_mark m)) h → MayRun first (did (Mark m) ps ∷ h)
 may_run_marked first h m ps c ready next =
     let passes = passes_did first (Mark m) ps h refl in
-    let some : left_of first (did (Mark m) ps ∷ h) ≡ [] → ⊥ = behind_asked first h (a_mark m) c next in
+    let few = ready.few (uncounted first h (none_asked (left_of first h) (a_mark m) (is_reply_back h) next)) in
+    let more = passes.ahead in
+    let same = passes.tries in
     record {
       quiet = quiet_on first h (did (Mark m) ps ∷ h) ready.quiet passes;
       polled = λ e. absurd (let f = sym e ∙ passes.polled ∙ ready.unpolled in cc);
-      once = λ e. absurd (let n = sym e ∙ uncounted first (did (Mark m) ps ∷ h) some in cc);
-      few = λ e. few_working first h c ready (some_next first h (ask (a_mark m)) next);
-      held = ready.held;
+      once = once_marked first h m ps c next few;
+      few = λ e. omega (arith, few, more, same);
     }
 
 pub may_run_ended : (first : Opening) (h : Journal) → MayRun first h → MayFinish first h → IsNextTask first finish h → IsClosing first h → MayRun first (made_end ∷ h)
 may_run_ended first h may stopped next is =
     let passes = passes_end first h in
-    let some : left_of first (made_end ∷ h) ≡ [] → ⊥ = (λ none. let f = sym is.later ∙ none in absurd cc) in
+    let bye = none_by_bye (drop 1 (left_of first h)) Bye (is_reply_back h) refl (is.later ∙ ap (λ (ts : List Task). tell Bye ∷ drop 1 ts) (sym is.later)) in
+    let few = may.few (uncounted first h (none_awaited (left_of first h) (is_reply_back h) (ap awaits_motion next))) in
+    let more = passes.ahead in
+    let same = passes.tries in
     record {
       quiet = quiet_on first h (made_end ∷ h) may.quiet passes;
       polled = λ e. (
         λ waiting. absurd (let f = sym waiting.blocks ∙ ap has_blocks stopped.drained.plan.blocks in cc),
         λ m. absurd (let f = head_is (drop 1 (left_of first h)) (ask (a_move m.0)) (tell Bye) [] m.1 is.later in cc),
       );
-      once = λ e. absurd (let n = sym e ∙ uncounted first (made_end ∷ h) some in cc);
-      few = λ e. may.few (uncounted first h (some_next first h finish next));
-      held = may.held;
+      once = λ e. absurd (let n = sym e ∙ uncounted first (made_end ∷ h) bye in cc);
+      few = λ e. omega (arith, few, more, same);
     }
 
 -- ---- replies
@@ -251,7 +318,7 @@ pub told_later : {N : ℕ} (first : Opening) (was : Flags) (board : Board N) (h 
     → BoardWorked first (Wait ReplyRoom) was board h (at_port no_reply_room ∷ h)
 told_later first was board h r k ready next beat no_word =
     let worked = worked_behind (at_port no_reply_room) h (at_port no_reply_room ∷ h) refl (record { no_changes = refl; none_planned = refl }) refl refl ready.quiet.worked in
-    let few = few_working first h k.conducted ready (some_next first h (tell r) next) in
+    let few = few_handed_back first h r k.conducted ready next in
     let free = free_of h ready.quiet in
     let none : NoneWaits first (at_port no_reply_room ∷ h) = (λ waiting. ready.none_waits (record { stands = waiting.stands; blocks = waiting.blocks })) in
     record {
@@ -289,11 +356,11 @@ pub took_worked : {N : ℕ} (first : Opening) (was : Flags) (board : Board N) (b
     → BoardWorked first Did was board h (at_port (took b) ∷ h)
 took_worked first was board b h keeps takes ready may beat =
     let none : NoneWaits first (at_port (took b) ∷ h) = (λ waiting. ready.none_waits (record { stands = waiting.stands; blocks = waiting.blocks })) in
-    let one = one_at_most (nat_eq b 10) in
+    let four = ahead_most (left_of first h) (nat_eq b 10) (is_reply_back h) in
     let worked = worked_behind (at_port (took b)) h (at_port (took b) ∷ h) refl (record { no_changes = refl; none_planned = refl }) refl refl ready.quiet.worked in
     record {
       keeps = keeps;
-      rounds = subst (λ t. (Rounds first) t (at_port (took b) ∷ h)) (sym beat) (rounds_still first (at_port (took b) ∷ h) none (omega arith));
+      rounds = subst (λ t. (Rounds first) t (at_port (took b) ∷ h)) (sym beat) (rounds_still first (at_port (took b) ∷ h) none (omega (arith, four)));
       flags = takes;
       still = λ e. absurd (let s = ap has_published beat in cc);
       beat = λ o e. beat;
@@ -358,10 +425,10 @@ pub waits_for_byte : {N : ℕ} (first : Opening) (was : Flags) (board : Board N)
     → BoardWorked first (Wait Byte) was board h h
 waits_for_byte first was board h k polled found none beat no_word =
     let t = polled.tries in
-    let w = ap one_if polled.partial in
+    let w = ahead_most (left_of first h) (whole_of h) (is_reply_back h) in
     record {
       keeps = k;
-      rounds = subst (λ b. (Rounds first) b h) (sym beat) (rounds_still first h (λ waiting. absurd (none waiting)) (omega arith));
+      rounds = subst (λ b. (Rounds first) b h) (sym beat) (rounds_still first h (λ waiting. absurd (none waiting)) (omega (arith, t, w)));
       flags = takes_none board h no_word (free_of h polled.quiet);
       still = λ e. no_word_left board.flags no_word;
       beat = λ o e. beat;
@@ -409,13 +476,12 @@ pub may_run_started : (first : Opening) (jog : Bool) (h : Journal) → HasPolled
 may_run_started first jog h polled =
     let passes = started_passes first jog h in
     let t = polled.tries in
-    let w = ap one_if polled.partial in
+    let w = ahead_less (left_of first h) (whole_of h) (is_reply_back h) polled.partial in
     record {
       quiet = quiet_on first h (starting jog h) polled.quiet passes;
       polled = λ e. (λ waiting. starts_off jog waiting.stands, λ m. none_next (left_of first h) (ask (a_move m.0)) polled.free m.1);
       once = λ e. omega (arith, t, w);
       few = λ e. omega (arith, t, w);
-      held = λ halts. absurd (let e = sym halts ∙ starts_going jog in cc);
     }
 
 -- a segment is due behind a start
@@ -441,12 +507,12 @@ pub closes_worked : {N : ℕ} (first : Opening) (board is : Board N) (h : Journa
 closes_worked first board is h keeps polled none beat no_word_was no_word =
     let none_now : AreWaiting first (closing ∷ h) → ⊥ = (λ waiting. none (record { stands = waiting.stands; blocks = waiting.blocks })) in
     let t = polled.tries in
-    let w = ap one_if polled.partial in
+    let w = ahead_most closing_work (whole_of h) (is_reply_back h) in
     let free = free_of h polled.quiet in
     let worked = worked_behind closing h (closing ∷ h) refl (record { no_changes = refl; none_planned = refl }) refl refl polled.quiet.worked in
     record {
       keeps = keeps;
-      rounds = subst (λ b. (Rounds first) b (closing ∷ h)) (sym beat) (rounds_still first (closing ∷ h) (λ waiting. absurd (none_now waiting)) (omega arith));
+      rounds = subst (λ b. (Rounds first) b (closing ∷ h)) (sym beat) (rounds_still first (closing ∷ h) (λ waiting. absurd (none_now waiting)) (omega (arith, t, w)));
       flags = takes_none is (closing ∷ h) no_word (record { flags = free.flags; obeyed = free.obeyed; unowed = free.unowed });
       still = λ e. no_word_left is.flags no_word;
       beat = λ o e. beat;

@@ -1,5 +1,6 @@
 -- How a board opens an epoch, in which it has done nothing.
 use Rattle.std.proofs.Common.{◌≡◌, ◌↔◌, ℕ, ◌+◌, ◌-◌, ◌^◌, ◌≤◌, Bool, true, false, not, ◌&&◌, ◌||◌, cond, [], refl, sym, ap, ◌∙◌, subst, arith}
+use Rattle.board_rules.proofs.Tries.{three_most}
 use Rattle.feed_hold.specs.Motions.{is_moving, behind_reset}
 use Rattle.feed_hold.specs.declared.Motion.{Motion as AnyMotion}
 use Rattle.feed_hold.specs.declared.Motion.TheVariants as motions
@@ -94,9 +95,8 @@ opens_epoch first m f l i s placed sized opens few runs works reads flies answer
     tried = λ e. refl;
     sent = λ e. refl;
     none_waits = λ w. absurd (let e = w.blocks in cc);
-    tries = omega arith;
-    few = λ some. omega arith;
-    held = λ halts whole. refl;
+    tries = (let few = three_most (telling first.tells) false in omega (arith, few));
+    few = λ none. (let few = three_most (telling first.tells) false in omega (arith, few));
     owed = λ e. absurd cc;
   };
   flags = record { flags = refl; obeyed = refl; unowed = refl };

@@ -1,5 +1,6 @@
 -- A report that is owed is tried to be told, and the turn goes on behind it.
-use Rattle.std.proofs.Common.{◌≡◌, ℕ, ◌+◌, ◌≤◌, ◌⊎◌, inl, inr, Bool, true, false, not, Ok, Err, List, [], ◌∷◌, ◌++◌, drop, Some, None, sym, refl, ap, ◌∙◌, subst, arith, append_assoc}
+use Rattle.std.proofs.Common.{◌≡◌, ℕ, ◌+◌, ◌≤◌, ◌⊎◌, inl, inr, Bool, true, false, ◌||◌, not, Ok, Err, List, [], ◌∷◌, ◌++◌, drop, Some, None, sym, refl, ap, ◌∙◌, subst, arith, append_assoc}
+use Rattle.board_rules.specs.Within.{tries_ahead, ahead}
 use Rattle.std.specs.Prelude.{OnOk, OnErr}
 use Rattle.std.specs.Result.{is_ok}
 use Rattle.std.specs.declared.result.Result.{Result}
@@ -23,9 +24,9 @@ use Rattle.board_rules.specs.Openings.{Opening}
 use Rattle.board_rules.specs.Ports.{BoardLog, said}
 use Rattle.epoch_ports.specs.Serving.{MayTellNow}
 use Rattle.board_rules.specs.Ports.PortStep.{found_free, reported, no_reply_room}
-use Rattle.board_rules.specs.Steps.{Step, Journal, port_log, published_of, known_of, whole_of, plan_of, motion_of}
+use Rattle.board_rules.specs.Steps.{Step, Journal, port_log, published_of, known_of, whole_of, plan_of, motion_of, left_of}
 use Rattle.board_rules.specs.Steps.Step.{at_port, became}
-use Rattle.board_rules.specs.Turns.{this_turn, publishing, passing, moving, ends_turn, found_none, lacks_reply_room, loads, has_blocks, is_going, is_due, flags_taken, unobeyed_of, owes_report, takes_changes, replans, tries_of, waits_of}
+use Rattle.board_rules.specs.Turns.{this_turn, publishing, passing, moving, ends_turn, found_none, lacks_reply_room, loads, has_blocks, is_going, is_due, flags_taken, unobeyed_of, owes_report, takes_changes, replans, tries_of, waits_of, is_reply_back, is_report_back}
 use Rattle.board_rules.specs.Conduct.{IsDrained, IsStopped, IsReportAt}
 use Rattle.units.specs.Truths.{one_if}
 use Rattle.board_turns.specs.declared.board.Board.{Board}
@@ -63,7 +64,7 @@ pub record IsFound (first : Opening) (word : Option Exec) (h : Journal) : Type 0
   pub untold : list_any lacks_reply_room (this_turn h) ≡ false
   pub none_waits : NoneWaits first h
   pub adds : NoneFits first h
-  pub tries : tries_of first h + one_if (whole_of h) ≤ 1
+  pub tries : tries_of first h + tries_ahead first h ≤ 4
 
 pub found : (first : Opening) (word : Option Exec) (h next : Journal) → IsToReport first word h → HasObserved first h next → IsFound first word next
 found first word h next t o =
@@ -82,7 +83,7 @@ found first word h next t o =
       untold = p.replies ∙ t.untold;
       none_waits = λ w. (none_waits_so first) h next p.jogged o.stays t.none_waits (o.waiting w) w;
       adds = none_fits_so first h next o.stays t.adds;
-      tries = (let a = p.tries in let b = ap one_if p.whole in let d = t.tries in omega (arith, a, b, d));
+      tries = (let a = p.tries in let b = p.ahead in let d = t.tries in omega (arith, a, b, d));
     }
 
 found_room : (first : Opening) (word : Option Exec) (bytes : ℕ) (h : Journal) → IsFound first word h → IsFound first word (at_port (found_free bytes) ∷ h)
@@ -158,6 +159,7 @@ reported_told first word r h f =
       moves = λ e. refl;
       lacks = λ e. absurd cc;
       owed = refl;
+      back = λ e. absurd cc;
       words = f.words;
       flags = f.flags;
       changed = counts_none replans s (this_turn h) refl ∙ f.changed ∙ sym (counts_none takes_changes s (this_turn h) refl);
@@ -178,6 +180,7 @@ reported_kept first word h f =
       moves = λ e. absurd cc;
       lacks = λ e. refl;
       owed = f.owed;
+      back = λ e. ap (λ o. o || is_report_back h) f.owed;
       words = f.words;
       flags = f.flags;
       changed = counts_none replans s (this_turn h) refl ∙ f.changed ∙ sym (counts_none takes_changes s (this_turn h) refl);
@@ -186,7 +189,7 @@ reported_kept first word h f =
       unpolled = f.unpolled;
       none_waits = λ w. f.none_waits (record { stands = w.stands; blocks = w.blocks });
       adds = f.adds;
-      tries = f.tries;
+      tries = (let few = f.tries in let same = ap (λ o. ahead (left_of first h) (whole_of h) (not o || is_reply_back h)) f.owed in omega (arith, few, same));
     }
 
 -- behind a journal a report was tried to be told
@@ -270,13 +273,14 @@ waits_handed first board was h mid next k l tried filled beat both =
       quiet = (let q = tried.quiet in let r = a.quiet in let s = l.quiet in omega arith);
       lacks = a.replies ∙ tried.replies ∙ l.lacks;
       owed = a.owed ∙ tried.owed ∙ l.owed;
+      back = a.backs ∙ tried.backs ∙ l.back;
       words = a.words ∙ tried.words ∙ l.words;
       flags = a.flags ∙ tried.flags ∙ l.flags;
       changed = (a.worked (tried.worked (record { obeyed = λ e. l.words; changed = l.changed }))).changed;
       unpolled = a.polled ∙ tried.polled ∙ l.unpolled;
       none_waits = filled.none_waits;
       adds = filled.adds;
-      tries = (let f = tried.later (uncounted_owing first h l.owed) in let t = a.tries in let w = ap one_if (a.whole ∙ tried.whole) in let m = l.tries in omega (arith, f, t, w, m));
+      tries = (let f = tried.later (uncounted_owing first h l.owed l.back) in let t = a.tries in let w = a.ahead in let v = tried.ahead in let m = l.tries in omega (arith, f, t, w, v, m));
     }) (λ due. a.waits ∙ tried.waits) beat both
 
 -- a piece was published, and the report is still told next
@@ -290,6 +294,7 @@ sent_owing first board was h mid next k l tried filled =
       flags = l.flags;
       polled = λ e. absurd (let n = l.unpolled in cc);
       tries = l.tries;
+      owing = λ e. uncounted_owing first h l.owed l.back;
     } in (
       sent_by first was (record board { flags = words.Report None }) h mid next may tried filled (other_flags first board (words.Report None) next k) refl
           (record { flags = a.flags ∙ tried.flags ∙ l.flags; next = a.words ∙ tried.words ∙ l.words; owed = a.owed ∙ tried.owed ∙ l.owed }),
@@ -305,13 +310,14 @@ pub record IsObeyed (first : Opening) (told : Bool) (h : Journal) : Type 0 where
   pub moves : told ≡ true → list_any moving (this_turn h) ≡ true
   pub lacks : told ≡ false → list_any lacks_reply_room (this_turn h) ≡ true
   pub owed : owes_report h ≡ not told
+  pub back : told ≡ false → is_report_back h ≡ true
   pub words : unobeyed_of h ≡ []
   pub flags : flags_taken h ≡ true
   pub changed : count_by replans (this_turn h) ≡ count_by takes_changes (this_turn h)
   pub unpolled : list_any found_none (this_turn h) ≡ false
   pub none_waits : NoneWaits first h
   pub adds : NoneFits first h
-  pub tries : tries_of first h + one_if (whole_of h) ≤ 1
+  pub tries : tries_of first h + tries_ahead first h ≤ 4
 
 pub obeyed_word : (first : Opening) (told : Bool) (waiting : Option Exec) (h : Journal) → IsReported first told waiting h → IsObeyed first told (obeying first waiting h)
 obeyed_word first told None h r = record {
@@ -320,6 +326,7 @@ obeyed_word first told None h r = record {
   moves = r.moves;
   lacks = r.lacks;
   owed = r.owed;
+  back = r.back;
   words = r.words;
   flags = r.flags;
   changed = r.changed;
@@ -336,6 +343,7 @@ obeyed_word first told (Some word) h r =
       moves = r.moves;
       lacks = r.lacks;
       owed = r.owed;
+      back = r.back;
       words = ap (λ (ws : List Exec). drop 1 ws) r.words;
       flags = r.flags;
       changed = counts_none replans s (this_turn h) refl ∙ r.changed ∙ sym (counts_none takes_changes s (this_turn h) refl);
@@ -353,6 +361,7 @@ lacks_room first waiting h r =
       quiet = o.quiet;
       lacks = o.lacks refl;
       owed = o.owed;
+      back = o.back refl;
       words = o.words;
       flags = o.flags;
       changed = o.changed;

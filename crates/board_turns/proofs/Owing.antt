@@ -1,5 +1,5 @@
--- A report that is owed is told next: where a piece that was tried first was handed back, and where none was tried.
-use Rattle.std.proofs.Common.{◌≡◌, true, false, [], sym, refl, ap, ◌∙◌, arith}
+-- A report that is owed is told next.
+use Rattle.std.proofs.Common.{◌≡◌, true, [], sym, refl, ◌∙◌}
 use Rattle.std.specs.declared.option.Option.{Option}
 use Rattle.code_table.specs.declared.flags.Exec.{Exec}
 use Rattle.board_rules.specs.Openings.{Opening}
@@ -7,15 +7,11 @@ use Rattle.board_rules.specs.Steps.{Journal}
 use Rattle.board_rules.specs.Turns.{passing, found_none, lacks_reply_room}
 use Rattle.board_rules.specs.Conduct.{Conducted}
 use Rattle.board_rules.proofs.Waiting.{adds}
-use Rattle.units.specs.Truths.{one_if}
 use Rattle.board_turns.specs.declared.board.Flags.{Flags}
 use Rattle.board_turns.specs.declared.board.Flags.TheVariants as words
 use Rattle.board_turns.specs.declared.board.Beat.{Beat}
-use Rattle.board_turns.specs.declared.board.Beat.TheVariants.{Motion}
 use Rattle.board_turns.specs.Boards.{Rounds, GoingBetween, IsAsked, takes_no_word}
-use Rattle.board_turns.specs.Turning.{HasFilled, HasTried}
 use Rattle.board_turns.specs.Reporting.{IsToReport}
-use Rattle.board_rules.proofs.Facts.{uncounted_owing}
 use Rattle.board_turns.proofs.Ends.{none_between, count_between, none_worked}
 
 -- ---- which words are left
@@ -29,24 +25,7 @@ none_left words.None none no_report = refl
 
 -- ---- a report that is owed
 
--- what was tried first was handed back, and moves were added
-pub owing_tried : (first : Opening) (word : Option Exec) (h mid next : Journal) → Rounds first Motion h → GoingBetween h → IsAsked word h → HasTried first false h mid → HasFilled first mid next → IsToReport first word next
-owing_tried first word h mid next r between asked tried filled =
-    let a = filled.alone.passes in
-    let w = ap one_if (a.whole ∙ tried.whole) in
-    record {
-      still = a.still ∙ tried.still refl ∙ none_between h passing between;
-      quiet = (let b = a.quiet in let q = tried.quiet in let c = count_between h between in omega (arith, b, q, c));
-      worked = a.worked (tried.worked (none_worked h between (λ e. absurd (let f = sym asked.owed ∙ e in cc))));
-      asked = record { flags = a.flags ∙ tried.flags ∙ asked.flags; next = a.words ∙ tried.words ∙ asked.next; owed = a.owed ∙ tried.owed ∙ asked.owed };
-      unpolled = a.polled ∙ tried.polled ∙ none_between h found_none between;
-      untold = a.replies ∙ tried.replies ∙ none_between h lacks_reply_room between;
-      none_waits = filled.none_waits;
-      adds = filled.adds;
-      tries = (let t = a.tries in let f = tried.later (uncounted_owing first h asked.owed) in let o = r.owed asked.owed in omega (arith, t, f, o, w));
-    }
-
--- none was tried
+-- nothing was done in this turn
 pub owing_now : (first : Opening) (beat : Beat) (word : Option Exec) (h : Journal) → Conducted first h → Rounds first beat h → GoingBetween h → IsAsked word h → IsToReport first word h
 owing_now first beat word h c r between asked = record {
   still = none_between h passing between;

@@ -1,24 +1,23 @@
 -- The machine is held for a pause where it has stopped.
-use Rattle.std.proofs.Common.{ℕ, ◌≡◌, inr, ◌≤◌, ◌<◌, List, [], ◌∷◌, ◌++◌, length, nat_eq, refl, sym, ap, ◌∙◌, subst, arith, append_assoc}
+use Rattle.std.proofs.Common.{ℕ, ◌≡◌, inr, ◌<◌, List, [], ◌∷◌, ◌++◌, length, nat_eq, refl, sym, ap, ◌∙◌, subst, arith, append_assoc}
 use Rattle.outside.specs.declared.Turn.TheVariants.{Did}
 use Rattle.run_rules.specs.Work as work
 use Rattle.run_rules.specs.Work.Task.{pause}
 use Rattle.status_report.specs.declared.Reply.{Reply}
 use Rattle.board_rules.specs.Openings.{Opening}
-use Rattle.board_rules.specs.Steps.{Journal, left_of}
+use Rattle.board_rules.specs.Steps.{Journal, left_of, whole_of}
 use Rattle.board_rules.specs.Steps.Step.{paused}
-use Rattle.board_rules.specs.Turns.{this_turn, tries_of}
+use Rattle.board_rules.specs.Turns.{this_turn, awaits_motion, is_reply_back}
 use Rattle.board_rules.specs.Conduct.{IsNextTask}
-use Rattle.board_rules.proofs.Tasks.{none_next}
 use Rattle.units.specs.Truths.{one_if}
 use Rattle.board_turns.specs.declared.board.Board.{Board}
 use Rattle.board_turns.specs.declared.board.Beat.TheVariants.{Motion}
 use Rattle.board_turns.specs.declared.board.Flags.TheVariants as flags
 use Rattle.board_turns.specs.Boards.{Keeps, Rounds, number_of}
 use Rattle.board_turns.specs.Turning.{IsReady, PassesNothing, HasFilled, BoardWorked}
-use Rattle.board_rules.proofs.Facts.{not_whole}
+use Rattle.board_rules.proofs.Facts.{none_awaited, uncounted}
 use Rattle.board_turns.proofs.Steps.{halts_by}
-use Rattle.board_rules.proofs.Tries.{none_ends, publishes_none, worked_behind}
+use Rattle.board_rules.proofs.Tries.{ahead_behind, none_ends, publishes_none, worked_behind}
 use Rattle.board_turns.proofs.Ends.{none_called, rounds_still, free_of, free_passed, takes_none, no_word_left}
 
 -- a pause less is left
@@ -35,16 +34,15 @@ pub paused_filled : {N : ℕ} (first : Opening) (board was : Board N) (h next : 
     → BoardWorked first Did flags.None board h next
 paused_filled first board was h next k ready task filled keeps beat no_word =
     let a = filled.alone.passes in
-    let some : left_of first h ≡ [] → ⊥ = (λ none. none_next (left_of first h) pause none task) in
-    let none_whole = ap one_if (not_whole first h k.conducted some) in
-    let few : tries_of first h ≤ 1 = ready.few some in
+    let few = ready.few (uncounted first h (none_awaited (left_of first h) (is_reply_back h) (ap awaits_motion task))) in
+    let behind = ahead_behind (left_of first h) (whole_of h) (is_reply_back h) in
     let free = free_of h ready.quiet in
     let t = a.tries in
-    let w = ap one_if a.whole in
+    let w = a.ahead in
     let worked = a.worked (worked_behind paused h (paused ∷ h) refl (record { no_changes = refl; none_planned = refl }) refl refl ready.quiet.worked) in
     record {
       keeps = keeps;
-      rounds = subst (λ b. (Rounds first) b next) (sym beat) (rounds_still first next filled.none_waits (omega (arith, few, t, w, none_whole)));
+      rounds = subst (λ b. (Rounds first) b next) (sym beat) (rounds_still first next filled.none_waits (omega (arith, few, t, w, behind)));
       flags = takes_none board next no_word (free_passed first (paused ∷ h) next a (record { flags = free.flags; obeyed = free.obeyed; unowed = free.unowed }));
       beat = λ o e. beat;
       still = λ e. no_word_left board.flags no_word;
@@ -55,7 +53,7 @@ paused_filled first board was h next k ready task filled keeps beat no_word =
         once = (let q = a.quiet in let p = publishes_none paused (this_turn h) refl in let r = ready.quiet.quiet in omega (arith, q, p, r));
         adds = filled.adds;
         starts = none_called first next (a.polled ∙ ready.unpolled) filled.none_waits;
-        tries = omega (arith, few, t);
+        tries = omega (arith, few, t, w, behind);
         obeyed = worked.obeyed;
         changed = worked.changed;
         halts = halts_by first board next keeps;

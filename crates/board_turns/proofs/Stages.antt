@@ -1,5 +1,6 @@
 -- Where a line has raised an alarm: the motion is stopped for that, the machine halted, the alarm told, and the run ended.
 use Rattle.std.proofs.Common.{◌≡◌, ℕ, ◌⊎◌, inl, inr, Bool, true, false, List, [], ◌∷◌, ◌++◌, drop, Some, sym, refl, ap, ◌∙◌, subst, append-nil}
+use Rattle.board_rules.proofs.Facts.{none_by_bye}
 use Rattle.feed_hold.specs.declared.Motion.{Motion}
 use Rattle.feed_hold.specs.declared.Motion.TheVariants.{Idle, Run, Holding, Held, Jog, Cancelling, Stopping, Alarm}
 use Rattle.feed_hold.specs.Motions.{Call, Reached, after, is_stopping}
@@ -22,7 +23,7 @@ use Rattle.board_rules.specs.Ports.{MayBeDone}
 use Rattle.board_rules.specs.Ports.PortStep.{took, answered, published, loaded, found_halt}
 use Rattle.board_rules.specs.Steps.{Journal, port_log, has_limited, open_of, before_of, left_of, whole_of, closed_tells, known_of, given_of, hand_of, plan_of, motion_of, plan_after}
 use Rattle.board_rules.specs.Steps.Step.{at_port, began, did, made_end, evened, paused, became, cut, halted, closing}
-use Rattle.board_rules.specs.Turns.{begins_in, machine_in, is_going, is_limited, is_locked, halts_next, stands_still}
+use Rattle.board_rules.specs.Turns.{begins_in, machine_in, is_going, is_limited, is_locked, halts_next, stands_still, counts_tries}
 use Rattle.board_rules.proofs.Alarms.{still_locked}
 use Rattle.board_rules.proofs.Locking.{locked_stands, or_false}
 use Rattle.board_rules.proofs.Opening.{opens_still}
@@ -563,19 +564,19 @@ finish_at first h (locked_end a p (inr (l, d)) m e) is next = absurd (none_next 
 pub limited_finish : (first : Opening) (h : Journal) → Conducted first h → is_limited (motion_of first h) ≡ true → IsNextTask first finish h → MayFinish first h
 limited_finish first h c is next = finish_at first h (halting_is first h c) is next
 
--- something is left to do where a piece is in hand
-left_at : (first : Opening) (h : Journal) → Halting first h → has_limited h ≡ true → (hand_of h ≡ [] → ⊥) → left_of first h ≡ [] → ⊥
-left_at first h (calm a m l p) one some none = opposite (has_limited h) one a
-left_at first h (pending a p l w m) one some none = absurd (let e = sym none ∙ l in cc)
-left_at first h (to_halt a p l w m) one some none = absurd (let e = sym none ∙ l in cc)
-left_at first h (to_tell a p l w m d) one some none = some d.hand
-left_at first h (ended a p (inl l) w m e) one some none = absurd (let f = sym none ∙ l in cc)
-left_at first h (ended a p (inr (l, d)) w m e) one some none = some d
-left_at first h (locked a p l m d) one some none = opposite (has_limited h) one a
-left_at first h (locked_end a p l m e) one some none = opposite (has_limited h) one a
+-- no try to publish is counted where a piece is in hand
+none_at : (first : Opening) (h : Journal) (back : Bool) → Halting first h → has_limited h ≡ true → (hand_of h ≡ [] → ⊥) → counts_tries (left_of first h) back ≡ false
+none_at first h back (calm a m l p) one some = opposite (has_limited h) one a
+none_at first h back (pending a p l w m) one some = ap (λ (ts : List Task). counts_tries ts back) l
+none_at first h back (to_halt a p l w m) one some = ap (λ (ts : List Task). counts_tries ts back) l
+none_at first h back (to_tell a p l w m d) one some = absurd (some d.hand)
+none_at first h back (ended a p (inl l) w m e) one some = none_by_bye (left_of first h) Bye back refl (l ∙ ap (λ (ts : List Task). tell Bye ∷ drop 1 ts) (sym l))
+none_at first h back (ended a p (inr (l, d)) w m e) one some = absurd (some d)
+none_at first h back (locked a p l m d) one some = opposite (has_limited h) one a
+none_at first h back (locked_end a p l m e) one some = opposite (has_limited h) one a
 
-pub left_alarmed : (first : Opening) (h : Journal) → Conducted first h → has_limited h ≡ true → (hand_of h ≡ [] → ⊥) → left_of first h ≡ [] → ⊥
-left_alarmed first h c one some none = left_at first h (halting_is first h c) one some none
+pub none_alarmed : (first : Opening) (h : Journal) (back : Bool) → Conducted first h → has_limited h ≡ true → (hand_of h ≡ [] → ⊥) → counts_tries (left_of first h) back ≡ false
+none_alarmed first h back c one some = none_at first h back (halting_is first h c) one some
 
 -- ---- what is left where the machine is to be halted
 

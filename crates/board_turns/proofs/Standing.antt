@@ -20,7 +20,7 @@ use Rattle.board_rules.specs.Ports.{MayBeDone}
 use Rattle.board_rules.specs.Ports.PortStep.{loaded}
 use Rattle.board_rules.specs.Steps.{Journal, port_log, left_of, given_of, published_of, hand_of, plan_of, motion_of}
 use Rattle.board_rules.specs.Steps.Step.{at_port, became}
-use Rattle.board_rules.specs.Turns.{has_blocks, has_segment, is_full, is_due, is_going, is_slowing, is_held_up, begins_in, is_locked, has_jogged, awaits_motion}
+use Rattle.board_rules.specs.Turns.{has_blocks, has_segment, is_full, is_due, is_going, is_slowing, is_held_up, begins_in, is_locked, has_jogged, awaits_motion, is_reply_back}
 use Rattle.board_rules.specs.Conduct.{IsDrained, AreWaiting, ticks_given, ticks_published}
 use Rattle.board_rules.proofs.Given.{published_within}
 use Rattle.board_rules.proofs.Keeping.{hand_is}
@@ -32,11 +32,11 @@ use Rattle.board_machine.specs.declared.machine.Machine.{Machine}
 use Rattle.board_machine.specs.Machines.{Runs, StandsOrGoes}
 use Rattle.board_turns.specs.Boards.{Keeps, Rounds}
 use Rattle.board_turns.specs.Turning.{HasPiece, HasLooked, MayAwait, PassesNothing, BoardWorked}
-use Rattle.board_rules.proofs.Facts.{uncounted, and_false}
+use Rattle.board_rules.proofs.Facts.{uncounted, and_false, none_awaited}
 use Rattle.board_turns.proofs.Steps.{at_rest, hand_empty, none_by_test, drained, halts_by}
 use Rattle.board_turns.proofs.PortSteps.{looked}
 use Rattle.board_rules.proofs.Tries.{passes_load, passes_motion, passes_on}
-use Rattle.board_turns.proofs.Ends.{rounds_still, some_awaited, free_of, free_passed, takes_none, no_word_left}
+use Rattle.board_turns.proofs.Ends.{rounds_still, free_of, free_passed, takes_none, no_word_left}
 use Rattle.std.proofs.lemmas.Bool.Decides.{nat_tests}
 
 -- ---- hands and blocks
@@ -180,8 +180,7 @@ all_published first b h k none =
 pub waits_for_motion : {N : ℕ} (first : Opening) (b : Board N) (h : Journal) (done : ℕ) → Keeps first b h → MayAwait first h → b.beat ≡ MotionBeat → b.flags ≡ flags.None → MayBeDone done (port_log h) → hand_of h ≡ []
     → has_blocks (plan_of h).blocks ≡ false → done < b.machine.given → BoardWorked first (Wait on.Motion) b.flags b h (at_port (loaded done) ∷ h)
 waits_for_motion first b h done k may beat no_word found hand none fewer =
-    let some = some_awaited first h may.awaits in
-    let few = may.run.few (uncounted first h some) in
+    let few = may.run.few (uncounted first h (none_awaited (left_of first h) (is_reply_back h) may.awaits)) in
     let next : Journal = at_port (loaded done) ∷ h in
     let waits_none : AreWaiting first next → ⊥ = λ a. (none_waits first) h may (record { stands = a.stands; blocks = a.blocks }) in
     let quiet = may.run.quiet in

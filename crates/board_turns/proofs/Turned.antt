@@ -30,7 +30,6 @@ rounds_turned first t was board h next w = record {
   none_waits = λ waiting. w.rounds.none_waits (record { stands = waiting.stands; blocks = waiting.blocks });
   tries = w.rounds.tries;
   few = w.rounds.few;
-  held = w.rounds.held;
   owed = w.rounds.owed;
 }
   where

@@ -1,5 +1,6 @@
 -- A turn takes a word of flags, and does what that asks for.
 use Rattle.std.proofs.Common.{ℕ, ◌≡◌, ◌+◌, ◌≤◌, ◌<◌, Bool, true, false, List, [], ◌∷◌, ◌++◌, cond, length, nat_eq, drop, Some, None, refl, sym, ap, ◌∙◌, subst, arith, inr}
+use Rattle.board_rules.specs.Within.{tries_ahead}
 use Rattle.std.specs.List.{list_any, count_by}
 use Rattle.std.specs.Option.{option_to_list}
 use Rattle.std.specs.declared.option.Option.{Option}
@@ -16,7 +17,7 @@ use Rattle.run_rules.specs.Work.Task.{ask}
 use Rattle.board_rules.specs.Openings.{Opening}
 use Rattle.board_rules.specs.Ports.{BoardLog, asks_reset, has_changes}
 use Rattle.board_rules.specs.Ports.PortStep.{took_exec, took_ovr}
-use Rattle.board_rules.specs.Steps.{Step, Journal, port_log, left_of, whole_of, closed_tells, plan_of, motion_of}
+use Rattle.board_rules.specs.Steps.{Step, Journal, port_log, left_of, closed_tells, plan_of, motion_of}
 use Rattle.board_rules.specs.Steps.Step.{at_port, did}
 use Rattle.board_rules.specs.Cuts.{has_cut}
 use Rattle.board_rules.specs.Turns.{this_turn, publishing, ends_turn, found_none, is_greeted, unobeyed_of, owes_report, takes_changes, replans, changes_taken, starts_cycle, has_blocks, has_jogged, has_jog_to_start, is_full, tries_of}
@@ -47,7 +48,7 @@ beat_is first board h f some = by_beat board.beat f.still
     by_beat Motion still = refl
     by_beat Main still = absurd (let e = sym some ∙ still refl in cc)
 
-few_between : {N : ℕ} (first : Opening) (board : Board N) (h : Journal) → GoingFits first board h → board.beat ≡ Motion → tries_of first h + one_if (whole_of h) ≤ 1
+few_between : {N : ℕ} (first : Opening) (board : Board N) (h : Journal) → GoingFits first board h → board.beat ≡ Motion → tries_of first h + tries_ahead first h ≤ 4
 few_between first board h f beat = let t = f.rounds.tries in let b = ap (λ x. one_if (has_published x)) beat in omega (arith, t, b)
 
 count_between : (h : Journal) (f : Step → Bool) → GoingBetween h → count_by f (this_turn h) ≡ 0
@@ -70,7 +71,7 @@ record TakesChanges (first : Opening) (h next : Journal) : Type 0 where
   worked : AreWorked h → AreWorked next
   polled : list_any found_none (this_turn next) ≡ list_any found_none (this_turn h)
   tries : tries_of first next ≡ tries_of first h
-  whole : whole_of next ≡ whole_of h
+  ahead : tries_ahead first next ≡ tries_ahead first h
   left : left_of first next ≡ left_of first h
   closed : closed_tells next ≡ closed_tells h
   motion : motion_of first next ≡ motion_of first h
@@ -94,7 +95,7 @@ none_changed first word h none = record {
   };
   polled = refl;
   tries = refl;
-  whole = refl;
+  ahead = refl;
   left = refl;
   closed = refl;
   motion = refl;
@@ -124,7 +125,7 @@ some_changed first word h some =
       };
       polled = refl;
       tries = refl;
-      whole = refl;
+      ahead = refl;
       left = refl;
       closed = refl;
       motion = refl;
@@ -183,8 +184,8 @@ changes_worked first was board h next f between both t keeps same_beat flag = re
     none : NoneWaits first next
     none = none_waits_changed first h next t f.rounds.none_waits
 
-    few : tries_of first next + one_if (whole_of next) ≤ 1
-    few = let b = few_between first was h f (sym same_beat ∙ beat) in let n = t.tries in let w = ap one_if t.whole in omega (arith, b, n, w)
+    few : tries_of first next + tries_ahead first next ≤ 4
+    few = let b = few_between first was h f (sym same_beat ∙ beat) in let n = t.tries in let w = t.ahead in omega (arith, b, n, w)
 
     falls : number_of first board.flags next < number_of first was.flags h
     falls =
@@ -221,10 +222,10 @@ has_changes_at first was h f flag = subst (λ x. TakesFlags x h) flag f.flags
 beat_there : {N : ℕ} (first : Opening) (was board : Board N) (h mid : Journal) → TakesRequests first was board h mid → board.beat ≡ Motion
 beat_there first was board h mid t = t.same_beat ∙ beat_is first was h t.fits (ap takes_no_word t.flag)
 
-few_there : {N : ℕ} (first : Opening) (was board : Board N) (h mid : Journal) → TakesRequests first was board h mid → tries_of first mid + one_if (whole_of mid) ≤ 1
+few_there : {N : ℕ} (first : Opening) (was board : Board N) (h mid : Journal) → TakesRequests first was board h mid → tries_of first mid + tries_ahead first mid ≤ 4
 few_there first was board h mid t =
     let b = few_between first was h t.fits (sym t.same_beat ∙ beat_there first was board h mid t) in
-    let n = t.settled.passes.tries in let w = ap one_if t.settled.passes.whole in omega (arith, b, n, w)
+    let n = t.settled.passes.tries in let w = t.settled.passes.ahead in omega (arith, b, n, w)
 
 none_left_there : {N : ℕ} (first : Opening) (was board : Board N) (h mid : Journal) → TakesRequests first was board h mid → unobeyed_of mid ≡ []
 none_left_there first was board h mid t = t.settled.passes.words ∙ (has_changes_at first was h t.fits t.flag).obeyed
@@ -264,7 +265,7 @@ took_obeyed first was board word h mid t keeps unowed no_word = record {
     beat : board.beat ≡ Motion
     beat = beat_there first was board h mid t
 
-    few : tries_of first mid + one_if (whole_of mid) ≤ 1
+    few : tries_of first mid + tries_ahead first mid ≤ 4
     few = few_there first was board h mid t
 
     none_left : unobeyed_of mid ≡ []
@@ -305,7 +306,7 @@ took_asked first was board word h mid t keeps owed asks = record {
     beat : board.beat ≡ Motion
     beat = beat_there first was board h mid t
 
-    few : tries_of first mid + one_if (whole_of mid) ≤ 1
+    few : tries_of first mid + tries_ahead first mid ≤ 4
     few = few_there first was board h mid t
 
     falls : number_of first board.flags (taken_word word mid) < number_of first was.flags h

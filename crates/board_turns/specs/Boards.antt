@@ -1,5 +1,5 @@
 -- What the fields of a board say of what it has done.
-use Rattle.std.specs.Prelude.{◌-◌, ◌≡◌, ◌⊎◌, ℕ, ◌+◌, ◌*◌, ◌≤◌, ◌<◌, Bool, true, false, ◌||◌, nat_eq, List, [], ◌∷◌, ◌++◌, length, ◌^◌, Some, None}
+use Rattle.std.specs.Prelude.{◌-◌, ◌≡◌, ◌⊎◌, ℕ, ◌+◌, ◌*◌, ◌≤◌, ◌<◌, Bool, true, false, ◌||◌, nat_eq, List, [], ◌∷◌, ◌++◌, length, ◌^◌}
 use Rattle.std.specs.List.{list_any}
 use Rattle.outside.specs.declared.Turn.{Turn}
 use Rattle.outside.specs.declared.Turn.TheVariants.{Did}
@@ -14,10 +14,10 @@ use Rattle.std.specs.declared.option.Option.{Option}
 use Rattle.board_rules.specs.Openings.{Opening, IsPlaced}
 use Rattle.board_rules.specs.Steps.{Step, Journal, taken_of, has_limited, published_of, known_of, open_of, whole_of, before_of, left_of, closed_tells, given_of, hand_of, plan_of, motion_of}
 use Rattle.board_rules.specs.Steps.Step.{turned}
-use Rattle.board_rules.specs.Turns.{this_turn, ends_turn, is_greeted, unobeyed_of, owes_report, moving, is_full, is_halting, awaits_unlock, awaits_motion, has_jogged, changes_taken, flags_taken, tries_of, missed_of, waits_of}
+use Rattle.board_rules.specs.Turns.{this_turn, ends_turn, is_greeted, unobeyed_of, owes_report, moving, is_full, is_counted, awaits_unlock, awaits_motion, has_jogged, changes_taken, flags_taken, tries_of, missed_of, waits_of}
 use Rattle.board_rules.specs.Conduct.{Conducted, AreWaiting}
 use Rattle.board_rules.specs.Cuts.{has_cut}
-pub use Rattle.board_rules.specs.Within.{changes_left}
+pub use Rattle.board_rules.specs.Within.{changes_left, tries_ahead}
 use Rattle.board_epochs.specs.Epochs.{answered_state}
 use Rattle.board_epochs.specs.Resets.{IsPrompt, MayReset, has_reset}
 use Rattle.units.specs.Truths.{one_if}
@@ -103,16 +103,16 @@ has_published Main = true
 abbrev pub NoneWaits : Opening → Journal → Type 0
 NoneWaits first h = AreWaiting first h → (is_full first.blocks (plan_of h) || (awaits_motion (left_of first h) || has_jogged h)) ≡ false
 
--- What holds between two turns, of which the last published a piece, or not.
+-- What holds between two turns, of which the last published a piece, or not. The tries to publish that were counted since the last poll
+-- are few for what comes before the next; they are one more only behind a try that was counted.
 pub record Rounds (first : Opening) (beat : Beat) (h : Journal) : Type 0 where
   pub waits : has_published beat ≡ true → waits_of h ≡ []
   pub tried : has_published beat ≡ true → missed_of first h ≡ false
   pub sent : has_published beat ≡ true → hand_of h ≡ []
   pub none_waits : NoneWaits first h
-  pub tries : tries_of first h + one_if (whole_of h) ≤ 1 + one_if (has_published beat)
-  pub few : (left_of first h ≡ [] → ⊥) → tries_of first h ≤ 1
-  pub held : is_halting (motion_of first h) ≡ true → whole_of h ≡ true → tries_of first h ≡ 0
-  pub owed : owes_report h ≡ true → tries_of first h + one_if (whole_of h) ≤ 1
+  pub tries : tries_of first h + tries_ahead first h ≤ 4 + one_if (has_published beat)
+  pub few : is_counted first h ≡ false → tries_of first h + tries_ahead first h ≤ 4
+  pub owed : owes_report h ≡ true → tries_of first h + tries_ahead first h ≤ 4
 
 -- both words of flags were taken since the last line feed, and since the last wait behind the banner; what they ask for is done
 pub record IsFree (h : Journal) : Type 0 where
@@ -150,14 +150,6 @@ takes_no_word words.Both = false
 takes_no_word words.Requests = false
 takes_no_word (words.Report word) = true
 takes_no_word words.None = true
-
--- a word of requests waits to be obeyed until a report is told
-abbrev pub has_word_waiting : Flags → Bool
-has_word_waiting words.Both = false
-has_word_waiting words.Requests = false
-has_word_waiting (words.Report None) = false
-has_word_waiting (words.Report (Some word)) = true
-has_word_waiting words.None = false
 
 -- between two turns
 abbrev pub GoingBetween : Journal → Type 0

@@ -11,7 +11,7 @@ use Rattle.status_report.specs.Reports.{IsReport}
 use Rattle.units.specs.Truths.{one_if}
 use Rattle.board_rules.specs.Openings.{Opening}
 use Rattle.board_rules.specs.Ports.PortStep.{found_free}
-use Rattle.board_rules.specs.Steps.{Step, Journal, published_of, known_of, whole_of, plan_of, motion_of}
+use Rattle.board_rules.specs.Steps.{Step, Journal, published_of, known_of, plan_of, motion_of}
 use Rattle.board_rules.specs.Steps.Step.{at_port}
 use Rattle.board_rules.specs.Turns.{
   this_turn,
@@ -28,13 +28,14 @@ use Rattle.board_rules.specs.Turns.{
   flags_taken,
   unobeyed_of,
   owes_report,
+  is_report_back,
   takes_changes,
   replans,
   tries_of,
 }
 use Rattle.board_rules.specs.Conduct.{IsDrained, IsStopped, AreWaiting, MayObey, IsRoom, feed_of, shown_as, ticks_given}
 use Rattle.board_turns.specs.declared.board.Board.{Board}
-use Rattle.board_turns.specs.Boards.{NoneWaits, IsAsked}
+use Rattle.board_turns.specs.Boards.{NoneWaits, IsAsked, tries_ahead}
 pub use Rattle.board_turns.specs.Turning.{obeying}
 use Rattle.board_turns.specs.Turning.{AreWorked, PassesNothing, NoneFits, StaysSo, IsCutNow}
 
@@ -51,7 +52,7 @@ pub record IsToReport (first : Opening) (word : Option Exec) (h : Journal) : Typ
   pub untold : list_any lacks_reply_room (this_turn h) ≡ false
   pub none_waits : NoneWaits first h
   pub adds : NoneFits first h
-  pub tries : tries_of first h + one_if (whole_of h) ≤ 1
+  pub tries : tries_of first h + tries_ahead first h ≤ 4
 
 -- ---- what is added
 
@@ -94,6 +95,7 @@ pub record IsReported (first : Opening) (told : Bool) (word : Option Exec) (h : 
   pub moves : told ≡ true → list_any moving (this_turn h) ≡ true
   pub lacks : told ≡ false → list_any lacks_reply_room (this_turn h) ≡ true
   pub owed : owes_report h ≡ not told
+  pub back : told ≡ false → is_report_back h ≡ true
   pub words : unobeyed_of h ≡ option_to_list word
   pub flags : flags_taken h ≡ true
   pub changed : count_by replans (this_turn h) ≡ count_by takes_changes (this_turn h)
@@ -102,7 +104,7 @@ pub record IsReported (first : Opening) (told : Bool) (word : Option Exec) (h : 
   pub unpolled : list_any found_none (this_turn h) ≡ false
   pub none_waits : NoneWaits first h
   pub adds : NoneFits first h
-  pub tries : tries_of first h + one_if (whole_of h) ≤ 1
+  pub tries : tries_of first h + tries_ahead first h ≤ 4
 
 -- the word that waits, if one does, may be obeyed now
 abbrev pub MayObeyNow : Opening → Option Exec → Journal → Type 0
@@ -115,10 +117,11 @@ pub record LacksRoom (first : Opening) (h : Journal) : Type 0 where
   pub quiet : count_by publishing (this_turn h) ≡ 0
   pub lacks : list_any lacks_reply_room (this_turn h) ≡ true
   pub owed : owes_report h ≡ true
+  pub back : is_report_back h ≡ true
   pub words : unobeyed_of h ≡ []
   pub flags : flags_taken h ≡ true
   pub changed : count_by replans (this_turn h) ≡ count_by takes_changes (this_turn h)
   pub unpolled : list_any found_none (this_turn h) ≡ false
   pub none_waits : NoneWaits first h
   pub adds : NoneFits first h
-  pub tries : tries_of first h + one_if (whole_of h) ≤ 1
+  pub tries : tries_of first h + tries_ahead first h ≤ 4

@@ -16,7 +16,7 @@ ghost use Rattle.board_rules.specs.Openings.{Opening, first_opening};
 ghost use Rattle.board_rules.specs.Steps.Step.{at_port};
 ghost use Rattle.board_rules.specs.Turns.{this_turn, is_greeted, tells_next, awaits_motion, begins_in, machine_in, needs_motion, flags_taken, found_nothing, has_blocks, is_full, is_locked};
 ghost use Rattle.board_rules.specs.Conduct.{IsNextTask, MayTake, MayPoll};
-ghost use Rattle.board_turns.specs.Boards.{Keeps, EpochFits, GoingFits, GoingTurned, BoardIsOver, GoingBetween, IsFree, TakesFlags, takes_no_word, has_word_waiting, board_number};
+ghost use Rattle.board_turns.specs.Boards.{Keeps, EpochFits, GoingFits, GoingTurned, BoardIsOver, GoingBetween, IsFree, TakesFlags, takes_no_word, board_number};
 ghost use Rattle.board_turns.specs.Turning.{IsNextMove, HasPiece, IsReady, MayRun, MayAwait, MayJudge, IsLooked, NeedsNoWait, IsWholeLine, HasPolled, HasStopped, PassesNothing, DidAlone, HasLooked, HasAdded, HasFilled, HasBegun, Tried, HasTried, BoardWorked, IsHeldUp, IsJudged, GoesOn, LetsLines, HasSettled, IsPassed, WorksOn};
 
 use board_lines::{Answered, Input, jogs_behind};
@@ -470,32 +470,21 @@ impl<const N: usize> Board<N> {
         self.proceed(port)
     }
 
-    /// Whether a word of requests waits to be obeyed until a report is told.
-    #[inline]
-    fn has_word_waiting(&self) -> bool
-        ensures { result ≡ has_word_waiting self.now.flags }
-    {
-        matches!(self.flags, Flags::Report(Some(_)))
-    }
-
-    /// Whether the turn begins with a piece: one is in hand, or a segment is due, the last turn published none, and no word of requests
-    /// waits to be obeyed.
+    /// Whether the turn begins with a piece: one is in hand, or a segment is due, and the last turn published none.
     #[inline]
     fn begins_with_piece(&self) -> bool
         ensures yes { (first : Opening) (h : Journal) → Keeps first self.now h → result ≡ true → (self.now.beat ≡ Beat.Motion) × HasPiece first h }
-        ensures obeyed { result ≡ true → has_word_waiting self.now.flags ≡ false }
-        ensures no { (first : Opening) (h : Journal) → Keeps first self.now h → result ≡ false → has_word_waiting self.now.flags ≡ false → self.now.beat ≡ Beat.Motion → HasPiece first h → ⊥ }
+        ensures no { (first : Opening) (h : Journal) → Keeps first self.now h → result ≡ false → self.now.beat ≡ Beat.Motion → HasPiece first h → ⊥ }
     {
-        matches!(self.beat, Beat::Motion) && !self.has_word_waiting() && self.has_piece()
+        matches!(self.beat, Beat::Motion) && self.has_piece()
     }
 
-    /// Publishes what is in hand or due, and where there is no room for it tells the report that is owed, or does what is next.
+    /// Publishes what is in hand or due, and where there is no room for it does what is next. No report is owed.
     fn publish_first<P: EpochPort>(&mut self, port: &mut P) -> Turn
         requires stands { (rest : P.Rest) × (first : Opening) × (h : Journal) × P.stands port.old rest first (port_log h) × GoingFits first self.old h × GoingBetween h × HasPiece first h }
         requires open { self.old.lines.left ≡ [] → self.old.closing ≡ false }
         requires beat { self.old.beat ≡ Beat.Motion }
-        requires flags { takes_no_word self.old.flags ≡ true }
-        requires obeyed { has_word_waiting self.old.flags ≡ false }
+        requires flags { self.old.flags ≡ Flags.None }
         ensures goes_on { (rest : P.Rest) (first : Opening) (h : Journal) → P.stands port.old rest first (port_log h) → GoingFits first self.old h → GoingBetween h → HasPiece first h
             → WorksOn first (P.stands port.new rest first) result self.old.flags self.new h }
         ensures going { result ≢ Done }
@@ -506,14 +495,10 @@ impl<const N: usize> Board<N> {
             self.beat = Beat::Main;
             return Turn::Did;
         }
-        if let Flags::Report(word) = self.flags {
-            self.fill();
-            return self.report(port, word);
-        }
         self.main(port)
     }
 
-    /// Takes no word of flags: publishes a piece, tells a report that is owed, or does what is next.
+    /// Takes no word of flags: tells a report that is owed, publishes a piece, or does what is next.
     #[inline(always)]
     fn go_on<P: EpochPort>(&mut self, port: &mut P) -> Turn
         requires stands { (rest : P.Rest) × (first : Opening) × (h : Journal) × P.stands port.old rest first (port_log h) × GoingFits first self.old h × GoingBetween h }
@@ -523,13 +508,14 @@ impl<const N: usize> Board<N> {
             → WorksOn first (P.stands port.new rest first) result self.old.flags self.new h }
         ensures going { result ≢ Done }
     {
+        if let Flags::Report(word) = self.flags {
+            self.beat = Beat::Motion;
+            return self.report(port, word);
+        }
         if self.begins_with_piece() {
             return self.publish_first(port);
         }
         self.beat = Beat::Motion;
-        if let Flags::Report(word) = self.flags {
-            return self.report(port, word);
-        }
         self.main(port)
     }
 

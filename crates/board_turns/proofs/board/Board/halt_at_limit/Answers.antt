@@ -1,14 +1,15 @@
 use Rattle.std.proofs.Common.{arith, rules, ◌∷◌, ap, sym, ◌∙◌, refl, subst}
 use Rattle.board_rules.specs.Ports.PortStep.{loaded}
 use Rattle.board_rules.specs.Steps.Step.{at_port}
-use Rattle.run_rules.specs.Work.Task.{halt}
 use Rattle.board_turns.specs.declared.board.Board.{Board}
 use Rattle.board_turns.specs.declared.board.Flags.{Flags}
 use Rattle.board_turns.specs.Turning.{HasPiece, WorksOn}
 use Rattle.board_turns.proofs.Stages.{halting_left}
+use Rattle.board_rules.specs.Steps.{left_of}
+use Rattle.board_rules.specs.Turns.{awaits_motion, is_reply_back}
+use Rattle.board_rules.proofs.Facts.{none_awaited}
 use Rattle.board_turns.proofs.Ends.{may_run, works_passed}
 use Rattle.board_turns.proofs.Limiting.{alarm_next, at_limit, waits_at_limit, ready_halted}
-use Rattle.board_turns.proofs.Nexts.{some_next}
 use Rattle.board_turns.proofs.Standing.{done_all}
 use Rattle.board_turns.proofs.PortSteps.{looked}
 use Rattle.board_rules.proofs.Tries.{passes_load, passes_on}
@@ -19,7 +20,7 @@ run-requires g c = (
   omega arith,
   (
     let r = c.requires.stands in let first = r.1 in
-        (r.0, first, r.2, r.3, r.4, may_run first r.2 r.4.conducted r.5 (some_next first r.2 halt r.7), (c.has_piece.ensures first r.2 r.4).0 c.if-has_piece.true),
+        (r.0, first, r.2, r.3, r.4, may_run first r.2 r.5 (none_awaited (left_of first r.2) (is_reply_back r.2) (ap awaits_motion r.7)), (c.has_piece.ensures first r.2 r.4).0 c.if-has_piece.true),
     (
       search rules,
       search rules,
@@ -29,7 +30,7 @@ run-requires g c = (
 
 pub returns-then-has_piece-clause-goes_on : goal.returns-then-has_piece-clause-goes_on
 returns-then-has_piece-clause-goes_on g c rest first h stands k ready is next =
-    c.run.ensures.goes_on rest first h stands k (may_run first h k.conducted ready (some_next first h halt next)) ((c.has_piece.ensures first h k).0 c.if-has_piece.true)
+    c.run.ensures.goes_on rest first h stands k (may_run first h ready (none_awaited (left_of first h) (is_reply_back h) (ap awaits_motion next))) ((c.has_piece.ensures first h k).0 c.if-has_piece.true)
 
 pub returns-then-done-self-clause-goes_on : goal.returns-then-done-self-clause-goes_on
 returns-then-done-self-clause-goes_on g c rest first h stands k ready is next =

@@ -1,7 +1,8 @@
 use Rattle.std.proofs.Common.{rules, [], ◌∷◌, inl, refl, sym, ap, ◌∙◌, arith}
 use Rattle.run_rules.specs.Work.Task.{tell}
-use Rattle.board_rules.specs.Steps.{port_log}
-use Rattle.board_rules.specs.Turns.{this_turn}
+use Rattle.board_rules.specs.Steps.{port_log, left_of}
+use Rattle.board_rules.specs.Turns.{this_turn, is_reply_back}
+use Rattle.board_rules.proofs.Facts.{none_by_bye}
 use Rattle.board_rules.specs.Steps.Step.{at_port}
 use Rattle.board_rules.specs.Ports.PortStep.{answered, no_reply_room}
 use Rattle.board_turns.specs.declared.board.Board.{Board}
@@ -11,7 +12,7 @@ use Rattle.board_rules.proofs.Polling.{none_told}
 use Rattle.board_turns.specs.Boards.{IsFree}
 use Rattle.board_turns.proofs.Known.{said_plain}
 use Rattle.board_turns.proofs.Ends.{did_filled, may_run, takes_none, free_of, free_passed}
-use Rattle.board_turns.proofs.Nexts.{few_working, told_later, some_next}
+use Rattle.board_turns.proofs.Nexts.{few_told, told_later}
 use Rattle.board_turns.proofs.board.Board.tell.Goals as goal
 
 pub run-requires : goal.run-requires
@@ -26,7 +27,7 @@ run-requires g c = (
           r.2,
           r.3,
           r.4,
-          may_run first r.2 r.4.conducted r.5 (some_next first r.2 (tell c.reply-reply.result) next),
+          may_run first r.2 r.5 (none_by_bye (left_of first r.2) c.reply-reply.result (is_reply_back r.2) (c.holds_back.ensures.only_bye c.if-holds_back.true) next),
           inl (hand_left first s r.2 r.4 (c.holds_back.ensures.yes c.if-holds_back.true)),
         ),
     (
@@ -40,7 +41,7 @@ pub returns-then-holds_back-clause-goes_on : goal.returns-then-holds_back-clause
 returns-then-holds_back-clause-goes_on g c = λ rest first h stands keeps ready.
     let s = c.args.self.now in
     let next = is_next first s h (tell c.reply-reply.result) keeps c.reply-reply.ensures.next in
-    c.run.ensures.goes_on rest first h stands keeps (may_run first h keeps.conducted ready (some_next first h (tell c.reply-reply.result) next))
+    c.run.ensures.goes_on rest first h stands keeps (may_run first h ready (none_by_bye (left_of first h) c.reply-reply.result (is_reply_back h) (c.holds_back.ensures.only_bye c.if-holds_back.true) next))
     (inl (hand_left first s h keeps (c.holds_back.ensures.yes c.if-holds_back.true)))
 
 pub answer-requires : goal.answer-requires
@@ -79,7 +80,7 @@ returns-clause-goes_on g c = λ rest first h stands keeps ready.
     let free = free_of h ready.quiet in
     let freed : IsFree mid = record { flags = free.flags; obeyed = free.obeyed; unowed = free.unowed } in
     let n = c.fill.ensures.filled first mid now in
-    let few = few_working first h keeps.conducted ready (some_next first h (tell r) next) in
+    let few = few_told first h r r keeps.conducted ready next in
     let one = publishes_one (at_port (answered r)) (this_turn h) refl in
     let quiet = ready.quiet.quiet in
     let worked = worked_behind (at_port (answered r)) h mid refl (record { no_changes = refl; none_planned = refl }) refl refl ready.quiet.worked in
