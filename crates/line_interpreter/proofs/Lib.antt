@@ -1,4 +1,5 @@
 pub mod Parts
+pub mod Ways
 pub mod Keeping
 pub mod Judging
 pub mod Views

@@ -33,7 +33,7 @@ use settings::Settings;
 use status_report::{
     Message, Modes, OFFSET_REPLIES, Reply, SETTING_REPLIES, offset_reply, setting_reply,
 };
-use step_line::{Mark, PlannedMove, events};
+use step_line::{Mark, PlannedMove};
 use units::{Move, Rate};
 
 /// The number of the alarm that a soft limit raises.
@@ -135,13 +135,21 @@ fn mark_todo(mark: Mark, stage: u8) -> Todo
     }
 }
 
-/// What is next of a move. One of no steps is no move.
+/// Whether a move goes anywhere. One of no steps is no move.
+#[inline]
+fn goes(mv: &Move) -> bool
+    ensures yes { result ≡ true → events_of mv.now ≢ 0 }
+    ensures no { result ≡ false → events_of mv.now ≡ 0 }
+{
+    mv.from != mv.to
+}
+
+/// What is next of a move.
 #[inline]
 fn move_todo(mv: &Move, stage: u8) -> Todo
-    requires places { IsMove mv.now }
     ensures next { (m : AnyMove) → m.mv ≡ mv.now → IsTodo result (drop stage (asking (move_asked m))) }
 {
-    if stage == 0 && events(mv) != 0 {
+    if stage == 0 && goes(mv) {
         Todo::Move
     } else {
         Todo::Nothing
@@ -266,7 +274,7 @@ fn task_count(item: &Item, running: Running) -> u8
 {
     match item {
         Item::Spindle(_, _) | Item::Coolant(_) | Item::Dwell(_) | Item::Pause => 3,
-        Item::Move(mv, _) => u8::from(events(mv) != 0),
+        Item::Move(mv, _) => u8::from(goes(mv)),
         Item::ProgramEnd => {
             4 + u8::from(running.spindle != SpindleMode::Off) + u8::from(running.flood)
         }
@@ -442,10 +450,11 @@ impl Line {
         ensures done { result ≡ true → (s : AnyState) → IsSettled self.now s → work_left self.now s ≡ [] }
         ensures going { result ≡ false → (s : AnyState) → work_left self.now s ≡ [] → ⊥ }
     {
-        if matches!(self.body, Body::Items) && self.items.len() <= self.place {
-            return self.stage > 0;
+        match self.body {
+            Body::Closing => self.stage > 1,
+            Body::Items if self.items.len() <= self.place => self.stage > 0,
+            _ => matches!(self.part_todo(), Todo::Nothing),
         }
-        matches!(self.part_todo(), Todo::Nothing)
     }
 
     /// The reply that is next of the items: that of a program's end, or `ok` behind the last one.
