@@ -24,11 +24,11 @@ use crate::ports::HostPort;
 use crate::reader::{Gave, LARGEST_JOB, Reader};
 use crate::realtime::{RESUME, is_held_after, pause_after, waits_for_lines};
 use crate::resets::Resets;
+use crate::shown::put_text;
 use outside::{On, Sink, Source, Turn};
 use serial_ring::Stored;
-use status_report::{Reply, put_reply};
+use status_report::Reply;
 use text_writer::TextWriter;
-use units::Text;
 
 /// So many polls in a row that find no reply are enough to resume the machine.
 const EMPTY_POLLS: u16 = 4096;
@@ -116,9 +116,7 @@ impl Host {
         ensures bye { self.new.bye ≡ (self.old.bye || is_bye reply.now) }
         ensures same { self.new ≡ record self.old { text = self.new.text; bye = self.new.bye } }
     {
-        let mut text = Text::new();
-        put_reply(reply, &mut text);
-        self.text.put(&text);
+        put_text(reply, &mut self.text);
         if let Reply::Bye = reply {
             self.bye = true;
             self.text.ask();

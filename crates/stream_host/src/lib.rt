@@ -10,6 +10,7 @@ mod ports;
 mod reader;
 mod realtime;
 mod resets;
+mod shown;
 mod stops;
 mod unanswered;
 
