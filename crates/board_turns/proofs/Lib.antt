@@ -18,6 +18,7 @@ pub mod Adding
 pub mod Flying
 pub mod Freeing
 pub mod Telling
+pub mod Silent
 pub mod Ends
 pub mod Turned
 pub mod Owing

@@ -76,6 +76,10 @@ impl<const N: usize> Board<N> {
     {
         self.settle(port);
         let word = port.take_exec();
+        if word.is_empty() && !self.owes {
+            self.flags = Flags::None;
+            return;
+        }
         self.resetting = self.resets_behind(word);
         self.owes = asks_report(word) | self.owes;
         let waiting = to_obey(word);
