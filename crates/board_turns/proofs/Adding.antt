@@ -22,7 +22,7 @@ use Rattle.board_turns.specs.declared.board.Board.{Board}
 use Rattle.board_turns.specs.Boards.{Keeps, NoneWaits}
 use Rattle.board_machine.specs.Machines.{start_motion}
 use Rattle.board_turns.specs.Turning.{IsNextMove, NoneFits, DidAlone, HasAdded, HasFilled, starting}
-use Rattle.board_rules.proofs.Tries.{alone_did, alone_on, alone_motion}
+use Rattle.board_rules.proofs.Tries.{passes_none, alone_did, alone_on, alone_motion}
 use Rattle.board_turns.proofs.Starting.{none_left_to_change, starts_off, full_is}
 use Rattle.board_turns.proofs.Ends.{same_calls}
 use Rattle.board_turns.proofs.Steps.{none_halts}
@@ -33,6 +33,9 @@ pub record Adds (first : Opening) (h next : Journal) : Type 0 where
   pub hand : hand_of next ≡ hand_of h
   pub motion : motion_of first next ≡ motion_of first h
   pub some : (next ≡ h) ⊎ (IsNextMove first h × (list_any moving (this_turn next) ≡ true))
+
+pub adds_none : (first : Opening) (h : Journal) → Adds first h h
+adds_none first h = record { alone = record { passes = passes_none first h; port = refl }; hand = refl; motion = refl; some = inl refl }
 
 first_is_next : (first : Opening) (m : PlannedMove) (h mid : Journal) → (mid ≡ h) ⊎ (IsNextMove first h × (list_any moving (this_turn mid) ≡ true)) → IsNextTask first (ask (a_move m)) mid → IsNextMove first h
 first_is_next first m h mid (inl e) next = (m, subst (λ j. (IsNextTask first) (ask (a_move m)) j) e next)

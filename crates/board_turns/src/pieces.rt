@@ -18,7 +18,7 @@ ghost use Rattle.board_rules.specs.Conduct.{IsNextTask, AsksForRoom, IsTimely};
 ghost use Rattle.board_turns.specs.Boards.{Keeps};
 ghost use Rattle.board_machine.specs.Machines.{marks_cut};
 ghost use Rattle.flight.specs.Flights.{flight_room};
-ghost use Rattle.board_turns.specs.Turning.{IsNextMove, HasPiece, IsReady, MayRun, MayHaveLooked, MayHaveTold, MayFinish, HasAdded, HasFilled, Tried, HasTried, GoesOn, WorksOn};
+ghost use Rattle.board_turns.specs.Turning.{IsNextMove, HasPiece, IsReady, MayRun, MayHaveLooked, MayHaveTold, MayFinish, NoneFits, HasAdded, HasFilled, Tried, HasTried, GoesOn, WorksOn};
 
 use crate::board::{Beat, Board, Flags};
 use board_lines::Answered;
@@ -38,8 +38,17 @@ impl<const N: usize> Board<N> {
         self.machine.hand.is_some() || self.machine.is_due()
     }
 
+    /// Whether a move is next that has room.
+    #[inline]
+    fn has_move_to_add(&self) -> bool
+        ensures { result ≡ false → (first : Opening) (h : Journal) → Keeps first self.now h → NoneFits first h }
+    {
+        !self.machine.is_full() && matches!(self.lines.todo(), Todo::Move)
+    }
+
     /// Adds the moves that are next, as far as they have room.
-    pub(crate) fn add_moves(&mut self)
+    #[inline(never)]
+    fn add_next_moves(&mut self)
         requires { (first : Opening) × (h : Journal) × Keeps first self.old h }
         ensures added { (first : Opening) (h : Journal) → Keeps first self.old h → (next : Journal) × Keeps first self.new next × HasAdded first h next }
         ensures same { self.new ≡ record self.old { machine = self.new.machine; lines = self.new.lines } }
@@ -50,6 +59,18 @@ impl<const N: usize> Board<N> {
             }
             self.machine.add(&self.lines.planned_move());
             self.lines.done();
+        }
+    }
+
+    /// Adds the moves that are next, as far as they have room. Mostly there is none to add.
+    #[inline]
+    pub(crate) fn add_moves(&mut self)
+        requires { (first : Opening) × (h : Journal) × Keeps first self.old h }
+        ensures added { (first : Opening) (h : Journal) → Keeps first self.old h → (next : Journal) × Keeps first self.new next × HasAdded first h next }
+        ensures same { self.new ≡ record self.old { machine = self.new.machine; lines = self.new.lines } }
+    {
+        if self.has_move_to_add() {
+            self.add_next_moves();
         }
     }
 
@@ -65,6 +86,7 @@ impl<const N: usize> Board<N> {
     }
 
     /// Adds the moves that are next, as far as they have room, and starts queued blocks where that is called for.
+    #[inline]
     pub(crate) fn fill(&mut self)
         requires { (first : Opening) × (h : Journal) × Keeps first self.old h }
         ensures filled { (first : Opening) (h : Journal) → Keeps first self.old h → (next : Journal) × Keeps first self.new next × HasFilled first h next }

@@ -3,7 +3,7 @@ use Rattle.board_rules.specs.Openings.{Opening}
 use Rattle.board_rules.specs.Steps.{Journal}
 use Rattle.board_turns.specs.Boards.{Keeps}
 use Rattle.board_turns.proofs.Adding.{Adds}
-use Rattle.board_turns.proofs.board.Board.add_moves.Given as goal
+use Rattle.board_turns.proofs.board.Board.add_next_moves.Given as goal
 
 abbrev pub invariant-loop-self : goal.invariant-loop-self
 invariant-loop-self g l =
