@@ -59,9 +59,9 @@ impl<const N: usize> Controller<N> {
         ensures still { BoardRests self.old → (self.new ≡ self.old) × (port.new ≡ port.old) }
         ensures few { (state : State) (e : Epochs) → BoardFits self.old e → number_in state self.old e < 64 }
     {
-        match self.reset {
+        match &self.reset {
             None => self.go_on(port),
-            Some(work) => self.work_on(port, work),
+            Some(_) => self.work_on(port),
         }
     }
 }

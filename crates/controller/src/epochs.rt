@@ -1,6 +1,6 @@
 //! How an epoch goes on, how a reset is worked behind it, and how the next one begins.
 
-ghost use Rattle.std.specs.Prelude.{◌-◌, ◌≡◌, ◌≢◌, ◌↔◌, ◌∷◌, [], ◌<◌, Some, None};
+ghost use Rattle.std.specs.Prelude.{◌-◌, ◌≡◌, ◌≢◌, ◌↔◌, ◌∷◌, [], ◌<◌, None};
 ghost use Rattle.outside.specs.declared.Turn.TheVariants.{Done};
 ghost use Rattle.run_rules.specs.declared.State.{State};
 ghost use Rattle.step_line.specs.Logs.{NewestFirst};
@@ -11,7 +11,7 @@ ghost use Rattle.board_epochs.specs.Epochs.Epochs.{goes, resets};
 ghost use Rattle.board_epochs.specs.Resets.{MayReset};
 ghost use Rattle.board_epochs.specs.Work.{Work, IsWorked};
 ghost use Rattle.reset_work.specs.Counting.{IsCounted};
-ghost use Rattle.reset_work.specs.Working.{IsWorking, number_of};
+ghost use Rattle.reset_work.specs.Working.{IsWorking};
 ghost use Rattle.board_turns.specs.Boards.{BoardIsOver, EpochFits, GoingBetween};
 ghost use Rattle.controller.specs.Boards.{GoesFits, ResetsFits, going_number, work_number};
 ghost use Rattle.controller.specs.Turning.{GoesOn, WentOn};
@@ -85,17 +85,20 @@ impl<const N: usize> Controller<N> {
         self.reset = None;
     }
 
-    /// Takes a turn of a reset's work. Behind it the next epoch begins, once the reset is worked whole.
+    /// Takes a turn of the work of the reset that is being worked. Behind it the next epoch begins, once the reset is worked whole.
     #[inline(never)]
-    pub(crate) fn work_on<P: BoardPort>(&mut self, port: &mut P, mut work: ResetWork) -> Turn
+    pub(crate) fn work_on<P: BoardPort>(&mut self, port: &mut P) -> Turn
         requires stands { (rest : P.Rest) × (state : State) × (es : NewestFirst Closed) × (h : Journal) × (w : Work) × P.stands port.old rest (log_of (resets es h w))
             × ResetsFits state self.old es h w × (this_turn w ≡ []) }
-        requires works { self.old.reset ≡ Some work }
+        requires works { self.old.reset ≢ None }
         ensures goes_on { (rest : P.Rest) (state : State) (es : NewestFirst Closed) (h : Journal) (w : Work) → P.stands port.old rest (log_of (resets es h w))
             → ResetsFits state self.old es h w → this_turn w ≡ [] → GoesOn (P.stands port.new rest) result state self.old self.new (resets es h w) }
         ensures going { result ≢ Done }
-        ensures few { number_of work < 64 }
+        ensures few { work_number self.old.reset < 64 }
     {
+        let Some(mut work) = self.reset else {
+            unreachable!();
+        };
         let turn = work.turn(port);
         if work.is_over() {
             self.begin_epoch(&work);
