@@ -141,7 +141,7 @@ fn line_of<'a>(alloc: Global, row: &Row<'a>) -> Result<Line<'a>, OutOfMemory> {
     let piece = row.piece.max(1);
     let job = MemSource::new(row.job.as_bytes(), piece, row.bad_reads);
     let console = MemSink::short(alloc, 400, piece, row.bad_writes)?;
-    let mut line = Line::over(taken, job, console, row.pause);
+    let mut line = Line::over(taken, job, console, row.pause, false);
     line.board.strict = row.strict;
     Ok(line)
 }

@@ -2,6 +2,8 @@
 #![tactic(auto)]
 
 #[cfg(test)]
+mod attended;
+#[cfg(test)]
 mod compact;
 #[cfg(test)]
 mod hosts;

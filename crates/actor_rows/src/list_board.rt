@@ -232,7 +232,22 @@ impl<'a, const ROOM: usize> RoomyLine<'a, ROOM> {
         let taken = MemSink::new(alloc, 400, &[])?;
         let console = MemSink::new(alloc, 1000, &[])?;
         let job = MemSource::new(job, piece.max(1), &[]);
-        Ok(RoomyLine::over(taken, job, console, pause))
+        Ok(RoomyLine::over(taken, job, console, pause, false))
+    }
+
+    /// The same with a sender that stands by.
+    pub(crate) fn attended(
+        alloc: Global,
+        job: &'a [u8],
+        piece: usize,
+        pause: u32,
+    ) -> Result<RoomyLine<'a, ROOM>, OutOfMemory>
+        requires { IsRoom ROOM }
+    {
+        let taken = MemSink::new(alloc, 400, &[])?;
+        let console = MemSink::new(alloc, 1000, &[])?;
+        let job = MemSource::new(job, piece.max(1), &[]);
+        Ok(RoomyLine::over(taken, job, console, pause, true))
     }
 
     /// One with this job and this console.
@@ -241,11 +256,12 @@ impl<'a, const ROOM: usize> RoomyLine<'a, ROOM> {
         job: MemSource<'a>,
         console: MemSink<'a>,
         pause: u32,
+        attended: bool,
     ) -> RoomyLine<'a, ROOM>
         requires { IsRoom ROOM }
     {
         RoomyLine {
-            host: Host::new(ROOM as u8),
+            host: Host::new(ROOM as u8, attended),
             board: Board {
                 taken,
                 marked: false,

@@ -23,7 +23,7 @@ j1 = turned Did ∷ at_port (got Banner) ∷ j0
 
 c1 : Conducted receive_room j1
 unfolding cut_within reply_text
-c1 = (record { once = omega arith; polls = omega arith }, (record { poll = record { going = refl; rested = omega arith }; lines = record { greeted = start ∷ []; are = record { each = refl; stored = (refl, tt) }; few = omega arith } }, c0))
+c1 = (record { once = omega arith; polls = omega arith }, (record { poll = record { going = refl; rested = refl }; lines = record { greeted = start ∷ []; are = record { each = refl; stored = (refl, tt) }; few = omega arith } }, c0))
 
 abbrev j2 : Journal
 j2 = turned Did ∷ wrote (length (text_of j1)) ∷ j1
@@ -79,7 +79,7 @@ j9 = turned Did ∷ at_port (got (Alarm 2)) ∷ j8
 
 c9 : Conducted receive_room j9
 unfolding cut_within reply_text
-c9 = (record { once = omega arith; polls = omega arith }, (record { poll = record { going = refl; rested = omega arith }; lines = record { greeted = start ∷ []; are = record { each = refl; stored = (refl, tt) }; few = omega arith } }, c8))
+c9 = (record { once = omega arith; polls = omega arith }, (record { poll = record { going = refl; rested = refl }; lines = record { greeted = start ∷ []; are = record { each = refl; stored = (refl, tt) }; few = omega arith } }, c8))
 
 abbrev j10 : Journal
 j10 = turned Did ∷ wrote (length (text_of j9) - length (text_of j1)) ∷ j9
@@ -93,7 +93,7 @@ j11 = at_port no_reply ∷ j10
 
 c11 : Conducted receive_room j11
 unfolding cut_within reply_text
-c11 = (record { going = refl; rested = omega arith }, c10)
+c11 = (record { going = refl; rested = refl }, c10)
 
 abbrev j12 : Journal
 j12 = turned Did ∷ at_port shut ∷ j11
@@ -107,7 +107,7 @@ j13 = turned Did ∷ at_port (got Bye) ∷ j12
 
 c13 : Conducted receive_room j13
 unfolding cut_within reply_text
-c13 = (record { once = omega arith; polls = omega arith }, (record { poll = record { going = refl; rested = omega arith }; lines = record { greeted = start ∷ []; are = record { each = refl; stored = (refl, tt) }; few = omega arith } }, c12))
+c13 = (record { once = omega arith; polls = omega arith }, (record { poll = record { going = refl; rested = refl }; lines = record { greeted = start ∷ []; are = record { each = refl; stored = (refl, tt) }; few = omega arith } }, c12))
 
 abbrev j14 : Journal
 j14 = turned Done ∷ j13

@@ -1,17 +1,16 @@
 -- Behind an alarm nothing more of the job is sent.
-use Rattle.std.proofs.Common.{◌≡◌, ℕ, ◌||◌, Bool, true, false, cond, List, [], ◌∷◌, ◌++◌, nat_eq, refl, sym, ap, ◌∙◌}
+use Rattle.std.proofs.Common.{◌≡◌, ℕ, ◌||◌, Bool, true, false, cond, List, [], ◌∷◌, ◌++◌, refl, sym, ap, ◌∙◌}
 use Rattle.std.specs.List.{list_any}
 use Rattle.std.proofs.lemmas.List.Folds.{list_any-append}
 use Rattle.status_report.specs.declared.Reply.{Reply}
 use Rattle.stream_host.specs.declared.Stop.{Stop}
 use Rattle.stream_host.specs.declared.Stop.TheVariants.{End, LongLine, TooLarge, Alarm}
 use Rattle.run_rules.specs.Work.{is_limit}
-use Rattle.stream_host.specs.Steps.{Journal, got_of, has_limit, line_raises_of, polls_of, empty_polls, or_alarm}
+use Rattle.stream_host.specs.Steps.{Journal, got_of, has_limit, line_raises_of, or_alarm, resumes_next}
 use Rattle.stream_host.specs.Steps.PortStep.{stored, dropped, marked, raised, got, no_reply, shut}
-use Rattle.stream_host.specs.Steps.Step.{at_port, read_some, read_end, read_failed, scanned, line_over, wrote, gave_up, turned}
+use Rattle.stream_host.specs.Steps.Step.{at_port, read_some, read_end, read_failed, scanned, line_over, wrote, gave_up, turned, attends}
 use Rattle.stream_host.specs.Conduct.{Conducted, MayRaise}
 use Rattle.stream_host.specs.Ran.{SentNoMore}
-use Rattle.stream_host.proofs.Raising.{few_polls, is_fewer}
 
 -- ---- an alarm that was got stays got
 
@@ -30,10 +29,10 @@ calm_step : (later h : Journal) {A : Type 0} → has_limit h ≡ true → has_li
 calm_step later h alarm calm = absurd (let e = sym (alarm_stays later h alarm) ∙ calm in cc)
 
 -- what is raised is a resume of the host's own
-own_resume : (room : ℕ) (later h : Journal) (b : ℕ) → Conducted room (later ++ h) → has_limit h ≡ true → MayRaise b (later ++ h) → (t : Bool) → nat_eq (polls_of (later ++ h)) empty_polls ≡ t → line_raises_of (later ++ h) ≡ line_raises_of h
+own_resume : (room : ℕ) (later h : Journal) (b : ℕ) → Conducted room (later ++ h) → has_limit h ≡ true → MayRaise b (later ++ h) → (t : Bool) → resumes_next (later ++ h) ≡ t → line_raises_of (later ++ h) ≡ line_raises_of h
     → cond t (line_raises_of (later ++ h)) (line_raises_of (later ++ h) ++ b ∷ []) ≡ line_raises_of h
 own_resume room later h b c alarm may true e same = same
-own_resume room later h b c alarm may false e same = calm_step later h alarm (may.calm (is_fewer (polls_of (later ++ h)) (few_polls room (later ++ h) c) e))
+own_resume room later h b c alarm may false e same = calm_step later h alarm (may.calm e)
 
 -- a step that leaves the job alone
 pub sent_on : (h is now : Journal) → SentNoMore h is → SentNoMore is now → SentNoMore h now
@@ -46,6 +45,12 @@ sent_on h is now s t = record {
   marks = t.marks ∙ s.marks;
   raised = t.raised ∙ s.raised;
 }
+
+-- a host that has got an alarm has done something
+some_end : (l h : Journal) → l ++ h ≡ [] → has_limit h ≡ true → ⊥
+some_end [] [] none e = absurd cc
+some_end [] (s ∷ h) none e = absurd cc
+some_end (s ∷ l) h none e = absurd cc
 
 pub sends_no_more : (room : ℕ) (later h : Journal) → Conducted room (later ++ h) → has_limit h ≡ true → SentNoMore h (later ++ h)
 sends_no_more room [] h c e = record { read = refl; reading = refl; scanned = refl; lines = refl; stored = refl; marks = refl; raised = refl }
@@ -60,7 +65,7 @@ sends_no_more room (at_port (raised b down) ∷ l) h c e =
       lines = s.lines;
       stored = s.stored;
       marks = s.marks;
-      raised = own_resume room l h b c.1 e c.0 (nat_eq (polls_of (l ++ h)) empty_polls) refl s.raised;
+      raised = own_resume room l h b c.1 e c.0 (resumes_next (l ++ h)) refl s.raised;
     }
 sends_no_more room (at_port (got r) ∷ l) h c e =
     sent_on h (l ++ h) (at_port (got r) ∷ (l ++ h)) (sends_no_more room l h c.1 e) (record { read = refl; reading = refl; scanned = refl; lines = refl; stored = refl; marks = refl; raised = refl })
@@ -77,6 +82,7 @@ sends_no_more room (wrote n ∷ l) h c e =
     sent_on h (l ++ h) (wrote n ∷ (l ++ h)) (sends_no_more room l h c.1 e) (record { read = refl; reading = refl; scanned = refl; lines = refl; stored = refl; marks = refl; raised = refl })
 sends_no_more room (gave_up ∷ l) h c e =
     sent_on h (l ++ h) (gave_up ∷ (l ++ h)) (sends_no_more room l h c.1 e) (record { read = refl; reading = refl; scanned = refl; lines = refl; stored = refl; marks = refl; raised = refl })
+sends_no_more room (attends ∷ l) h c e = absurd (some_end l h c.0 e)
 sends_no_more room (turned t ∷ l) h c e =
     sent_on h (l ++ h) (turned t ∷ (l ++ h)) (sends_no_more room l h c.1 e) (record { read = refl; reading = refl; scanned = refl; lines = refl; stored = refl; marks = refl; raised = refl })
 

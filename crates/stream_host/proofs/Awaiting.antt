@@ -10,7 +10,7 @@ use Rattle.stream_host.specs.Jobs.{is_reset, is_long, served, resets_scanned, la
 use Rattle.stream_host.specs.Ran.{AreAwaited, EndsInReset}
 use Rattle.stream_host.specs.Steps.{HostLog, Journal, port_log, got_in, latest_got, got_of, bytes_raised_in, resets_in, raises_of, resets_of, resets_so_far, banners_of, awaits_banner, scanned_of, raw_of, cut_of, due_of, more_served}
 use Rattle.stream_host.specs.Steps.PortStep.{stored, dropped, marked, raised, got, no_reply, shut}
-use Rattle.stream_host.specs.Steps.Step.{at_port, read_some, read_end, read_failed, scanned, line_over, wrote, gave_up, turned}
+use Rattle.stream_host.specs.Steps.Step.{at_port, read_some, read_end, read_failed, scanned, line_over, wrote, gave_up, turned, attends}
 use Rattle.stream_host.specs.Conduct.{Conducted}
 use Rattle.stream_host.proofs.Texts.{reset_drops, long_same}
 use Rattle.stream_host.proofs.Raising.{served_on, none_at_lf, one_more, raised_is}
@@ -148,6 +148,7 @@ await_is room (line_over ∷ h) c = over_await room h c (await_is room h c.1)
 await_is room (wrote n ∷ h) c = same_await h (wrote n ∷ h) refl refl refl (await_is room h c.1)
 await_is room (gave_up ∷ h) c = same_await h (gave_up ∷ h) refl refl refl (await_is room h c.1)
 await_is room (turned t ∷ h) c = same_await h (turned t ∷ h) refl refl refl (await_is room h c.1)
+await_is room (attends ∷ h) c = same_await h (attends ∷ h) refl refl refl (await_is room h c.1)
 
 pub awaited_is : (room : ℕ) (h : Journal) → Conducted room h → AreAwaited (scanned_of h) (cut_of h) (banners_of h)
 awaited_is room h c = record {

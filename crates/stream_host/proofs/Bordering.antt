@@ -9,12 +9,12 @@ use Rattle.run_rules.proofs.Cutting.{lines_are, some_bytes}
 use Rattle.stream_host.specs.Links.{on_link}
 use Rattle.stream_host.specs.Jobs.{is_reset, sent_text, served, marks_at, marks_behind}
 use Rattle.stream_host.specs.Ran.{AreMarks}
-use Rattle.stream_host.specs.Steps.{Journal, marks_of, resets_of, scanned_of, raw_of, cut_of, due_of, more_served, polls_of, empty_polls, stored_of}
+use Rattle.stream_host.specs.Steps.{Journal, marks_of, resets_of, scanned_of, raw_of, cut_of, due_of, more_served, stored_of, resumes_next}
 use Rattle.stream_host.specs.Steps.PortStep.{stored, dropped, marked, raised, got, no_reply, shut}
-use Rattle.stream_host.specs.Steps.Step.{at_port, read_some, read_end, read_failed, scanned, line_over, wrote, gave_up, turned}
+use Rattle.stream_host.specs.Steps.Step.{at_port, read_some, read_end, read_failed, scanned, line_over, wrote, gave_up, turned, attends}
 use Rattle.stream_host.specs.Conduct.{Conducted, MayRaise}
 use Rattle.stream_host.proofs.Keeping.{IsCut, cut_is}
-use Rattle.stream_host.proofs.Raising.{served_nil, served_on, none_at_lf, few_polls, is_enough, is_fewer, one_more}
+use Rattle.stream_host.proofs.Raising.{served_nil, served_on, none_at_lf, one_more}
 use Rattle.stream_host.proofs.Raised.{IsMarked, marks_are, one_due}
 use Rattle.stream_host.proofs.Epochs.{whole_at_mark}
 
@@ -53,13 +53,13 @@ pub record IsStored (marks : List ℕ) (resets : ℕ) (lines : List (List ℕ)) 
 has_none : (due : List ℕ) → due ≡ [] → list_any is_reset due ≡ false
 has_none due e = ap (list_any is_reset) e
 
-raised_on : (room : ℕ) (b : ℕ) (h : Journal) → Conducted room h → MayRaise b h → (t : Bool) → nat_eq (polls_of h) empty_polls ≡ t → (u : Bool) → is_reset b ≡ u → (place : ℕ) (left : List ℕ) → AllMarked (length (marks_of h)) (resets_of h) place (due_of h) left
+raised_on : (room : ℕ) (b : ℕ) (h : Journal) → Conducted room h → MayRaise b h → (t : Bool) → resumes_next h ≡ t → (u : Bool) → is_reset b ≡ u → (place : ℕ) (left : List ℕ) → AllMarked (length (marks_of h)) (resets_of h) place (due_of h) left
     → AllMarked (length (marks_of h)) (cond u (resets_of h + 1) (resets_of h)) place (cond t (due_of h) (drop 1 (due_of h))) left
-raised_on room b h c may true e true f place left all = absurd (let g = sym f ∙ ap is_reset (may.resumes (is_enough (polls_of h) e)) in cc)
+raised_on room b h c may true e true f place left all = absurd (let g = sym f ∙ ap is_reset (may.resumes e) in cc)
 raised_on room b h c may true e false f place left all = all
-raised_on room b h c may false e u f place left (inl all) = inl (all.0, inl (has_none (drop 1 (due_of h)) (one_due room h b c (may.next (is_fewer (polls_of h) (few_polls room h c) e)))))
+raised_on room b h c may false e u f place left (inl all) = inl (all.0, inl (has_none (drop 1 (due_of h)) (one_due room h b c (may.next e))))
 raised_on room b h c may false e u f place left (inr all) =
-    let next = may.next (is_fewer (polls_of h) (few_polls room h c) e) in
+    let next = may.next e in
     let same : b ≡ 0x18 = (let g = sym next ∙ all.1 in cc) in
     absurd (let m = may.behind_mark (ap is_reset same) in let n = all.2 in omega arith)
 
@@ -138,7 +138,7 @@ stored_marks room (at_port (dropped b) ∷ h) c = absurd c.0
 stored_marks room (at_port marked ∷ h) c = mark_marks room h c (stored_marks room h c.1)
 stored_marks room (at_port (raised b down) ∷ h) c =
     let s = stored_marks room h c.1 in
-    record { left = s.left; are = s.are; all = raised_on room b h c.1 c.0 (nat_eq (polls_of h) empty_polls) refl (is_reset b) refl (length (on_link (cut_of h))) s.left s.all }
+    record { left = s.left; are = s.are; all = raised_on room b h c.1 c.0 (resumes_next h) refl (is_reset b) refl (length (on_link (cut_of h))) s.left s.all }
 stored_marks room (at_port (got r) ∷ h) c = stored_marks room h c.1
 stored_marks room (at_port no_reply ∷ h) c = stored_marks room h c.1
 stored_marks room (at_port shut ∷ h) c = stored_marks room h c.1
@@ -150,6 +150,7 @@ stored_marks room (line_over ∷ h) c = line_marks (marks_of h) (resets_of h) (c
 stored_marks room (wrote n ∷ h) c = stored_marks room h c.1
 stored_marks room (gave_up ∷ h) c = stored_marks room h c.1
 stored_marks room (turned t ∷ h) c = stored_marks room h c.1
+stored_marks room (attends ∷ h) c = stored_marks room h c.1
 
 -- ---- by what was scanned
 

@@ -10,7 +10,7 @@ use Rattle.stream_host.specs.Links.{on_link, banners_in}
 use Rattle.stream_host.specs.Epochs.{Epoch, told_lines, dropped_lines, lines_in, told_in, replies_in, AreEpochs, lines_now, got_now, epoch_now, ended_of}
 use Rattle.stream_host.specs.Steps.{Journal, port_log, got_of, latest_got, begins, answered_of, raw_of, cut_of, live_of}
 use Rattle.stream_host.specs.Steps.PortStep.{stored, dropped, marked, raised, got, no_reply, shut}
-use Rattle.stream_host.specs.Steps.Step.{at_port, read_some, read_end, read_failed, scanned, line_over, wrote, gave_up, turned}
+use Rattle.stream_host.specs.Steps.Step.{at_port, read_some, read_end, read_failed, scanned, line_over, wrote, gave_up, turned, attends}
 use Rattle.stream_host.specs.Conduct.{Conducted}
 use Rattle.stream_host.proofs.Epochs.{answered_live, begins_free, begins_none, both_true, some_banner, none_banner}
 use Rattle.stream_host.proofs.Awaiting.{banner_on, banners_got}
@@ -116,6 +116,7 @@ epochs_are room (line_over ∷ h) c = with_line room (cut_of h) (live_of h) (got
 epochs_are room (wrote n ∷ h) c = epochs_are room h c.1
 epochs_are room (gave_up ∷ h) c = epochs_are room h c.1
 epochs_are room (turned t ∷ h) c = epochs_are room h c.1
+epochs_are room (attends ∷ h) c = epochs_are room h c.1
 
 -- no more lines of the epoch are answered than it has; a `?` and a cancel wait until all are
 pub low_now : (room : ℕ) (h : Journal) → Conducted room h → answers_in (got_now h) ≤ length (lines_now h)

@@ -8,7 +8,7 @@ use Rattle.stream_host.specs.Links.{on_link}
 use Rattle.stream_host.specs.Epochs.{Epoch, lines_in, AreEnds, epoch_now, ended_of}
 use Rattle.stream_host.specs.Steps.{Journal, port_log, latest_got, begins, stored_of, marks_of, banners_of, awaits_banner, to_store, due_of}
 use Rattle.stream_host.specs.Steps.PortStep.{stored, dropped, marked, raised, got, no_reply, shut}
-use Rattle.stream_host.specs.Steps.Step.{at_port, read_some, read_end, read_failed, scanned, line_over, wrote, gave_up, turned}
+use Rattle.stream_host.specs.Steps.Step.{at_port, read_some, read_end, read_failed, scanned, line_over, wrote, gave_up, turned, attends}
 use Rattle.stream_host.specs.Conduct.{Conducted}
 use Rattle.stream_host.proofs.Keeping.{none_next}
 use Rattle.stream_host.proofs.Raised.{banners_low, banners_first}
@@ -121,6 +121,7 @@ ends_are room (line_over ∷ h) c = ends_steady room h (to_store (line_over ∷ 
 ends_are room (wrote n ∷ h) c = ends_are room h c.1
 ends_are room (gave_up ∷ h) c = ends_are room h c.1
 ends_are room (turned t ∷ h) c = ends_are room h c.1
+ends_are room (attends ∷ h) c = ends_are room h c.1
 
 -- the marks end the epochs that are over, but for the latest where its Banner was not got yet
 pub ends_by : (room : ℕ) (h : Journal) → Conducted room h → AreEnds (marks_of h) (ended_of h) ⊎ AreEnds (drop 1 (marks_of h)) (ended_of h)

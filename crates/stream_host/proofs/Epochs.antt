@@ -15,7 +15,7 @@ use Rattle.stream_host.specs.Ports.{AnswersLines, SeemsFull}
 use Rattle.stream_host.specs.Ran.{AreBorders}
 use Rattle.stream_host.specs.Steps.{HostLog, Journal, port_log, stored_of, got_in, latest_got, marks_of, resets_of, banners_of, awaits_banner, begins, answered_of, raw_of, cut_of, live_of, unanswered_of, forgotten_of, to_store, due_of}
 use Rattle.stream_host.specs.Steps.PortStep.{stored, dropped, marked, raised, got, no_reply, shut}
-use Rattle.stream_host.specs.Steps.Step.{at_port, read_some, read_end, read_failed, scanned, line_over, wrote, gave_up, turned}
+use Rattle.stream_host.specs.Steps.Step.{at_port, read_some, read_end, read_failed, scanned, line_over, wrote, gave_up, turned, attends}
 use Rattle.stream_host.specs.Conduct.{Conducted, MayMark, MayStore}
 use Rattle.stream_host.proofs.Links.{lfs_push, lfs_linked, behind_append, behind_ended, all_no_lf}
 use Rattle.stream_host.proofs.Keeping.{stored_is, none_next, linked_line}
@@ -340,6 +340,7 @@ epoch_is room (line_over ∷ h) c = line_epoch room h c.1 c.0.epoch c.0.none_due
 epoch_is room (wrote n ∷ h) c = epoch_is room h c.1
 epoch_is room (gave_up ∷ h) c = epoch_is room h c.1
 epoch_is room (turned t ∷ h) c = epoch_is room h c.1
+epoch_is room (attends ∷ h) c = epoch_is room h c.1
 
 -- ---- what follows
 
@@ -407,6 +408,7 @@ all_lines room (line_over ∷ h) c = let m = all_lines room h c.1 in let a = len
 all_lines room (wrote n ∷ h) c = all_lines room h c.1
 all_lines room (gave_up ∷ h) c = all_lines room h c.1
 all_lines room (turned t ∷ h) c = all_lines room h c.1
+all_lines room (attends ∷ h) c = all_lines room h c.1
 
 -- ---- the borders
 
@@ -443,6 +445,7 @@ borders_are room (line_over ∷ h) c = borders_on (marks_of h) (cut_of h) (raw_o
 borders_are room (wrote n ∷ h) c = borders_are room h c.1
 borders_are room (gave_up ∷ h) c = borders_are room h c.1
 borders_are room (turned t ∷ h) c = borders_are room h c.1
+borders_are room (attends ∷ h) c = borders_are room h c.1
 
 pub whole_at_mark : (room : ℕ) (h : Journal) → Conducted room (at_port marked ∷ h) → stored_of h ≡ on_link (cut_of h)
 whole_at_mark room h c = whole_by room h c.1 (free_by room h 0x18 c.1 c.0.next)

@@ -22,7 +22,7 @@ j1 = turned Did ∷ at_port (got Banner) ∷ j0
 
 c1 : Conducted receive_room j1
 unfolding cut_within reply_text
-c1 = (record { once = omega arith; polls = omega arith }, (record { poll = record { going = refl; rested = omega arith }; lines = record { greeted = start ∷ []; are = record { each = refl; stored = (refl, tt) }; few = omega arith } }, c0))
+c1 = (record { once = omega arith; polls = omega arith }, (record { poll = record { going = refl; rested = refl }; lines = record { greeted = start ∷ []; are = record { each = refl; stored = (refl, tt) }; few = omega arith } }, c0))
 
 abbrev j2 : Journal
 j2 = turned Did ∷ wrote (length (text_of j1)) ∷ j1
@@ -64,7 +64,7 @@ j7 = turned Did ∷ at_port (got Ok) ∷ j6
 
 c7 : Conducted receive_room j7
 unfolding cut_within reply_text
-c7 = (record { once = omega arith; polls = omega arith }, (record { poll = record { going = refl; rested = omega arith }; lines = record { greeted = start ∷ []; are = record { each = refl; stored = (refl, tt) }; few = omega arith } }, c6))
+c7 = (record { once = omega arith; polls = omega arith }, (record { poll = record { going = refl; rested = refl }; lines = record { greeted = start ∷ []; are = record { each = refl; stored = (refl, tt) }; few = omega arith } }, c6))
 
 abbrev j8 : Journal
 j8 = turned Did ∷ wrote (length (text_of j7) - length (text_of j1)) ∷ j7
@@ -99,7 +99,7 @@ j12 = at_port no_reply ∷ j11
 
 c12 : Conducted receive_room j12
 unfolding cut_within reply_text
-c12 = (record { going = refl; rested = omega arith }, c11)
+c12 = (record { going = refl; rested = refl }, c11)
 
 abbrev j13 : Journal
 j13 = turned Did ∷ at_port (stored 10) ∷ j12
@@ -120,14 +120,14 @@ j15 = turned Did ∷ at_port (got Ok) ∷ j14
 
 c15 : Conducted receive_room j15
 unfolding cut_within reply_text
-c15 = (record { once = omega arith; polls = omega arith }, (record { poll = record { going = refl; rested = omega arith }; lines = record { greeted = start ∷ []; are = record { each = refl; stored = (refl, tt) }; few = omega arith } }, c14))
+c15 = (record { once = omega arith; polls = omega arith }, (record { poll = record { going = refl; rested = refl }; lines = record { greeted = start ∷ []; are = record { each = refl; stored = (refl, tt) }; few = omega arith } }, c14))
 
 abbrev j16 : Journal
 j16 = turned Did ∷ at_port (got Bye) ∷ j15
 
 c16 : Conducted receive_room j16
 unfolding cut_within reply_text
-c16 = (record { once = omega arith; polls = omega arith }, (record { poll = record { going = refl; rested = omega arith }; lines = record { greeted = start ∷ []; are = record { each = refl; stored = (refl, tt) }; few = omega arith } }, c15))
+c16 = (record { once = omega arith; polls = omega arith }, (record { poll = record { going = refl; rested = refl }; lines = record { greeted = start ∷ []; are = record { each = refl; stored = (refl, tt) }; few = omega arith } }, c15))
 
 abbrev j17 : Journal
 j17 = turned Did ∷ wrote (length (text_of j16) - length (text_of j7)) ∷ j16

@@ -10,7 +10,7 @@ use Rattle.stream_host.specs.Links.{AreGreetings, AreInOrder, banners_in, number
 use Rattle.stream_host.specs.Ports.{AreGreeted, PortsAgree}
 use Rattle.stream_host.specs.Steps.{HostLog, Journal, port_log, stored_of, latest_got, marks_in, marks_at_banners, marks_of, banners_of, to_store}
 use Rattle.stream_host.specs.Steps.PortStep.{stored, dropped, marked, raised, got, no_reply, shut}
-use Rattle.stream_host.specs.Steps.Step.{at_port, read_some, read_end, read_failed, scanned, line_over, wrote, gave_up, turned}
+use Rattle.stream_host.specs.Steps.Step.{at_port, read_some, read_end, read_failed, scanned, line_over, wrote, gave_up, turned, attends}
 use Rattle.stream_host.specs.Conduct.{Conducted}
 use Rattle.stream_host.proofs.Raised.{AreStored, banners_first, low_mark}
 use Rattle.stream_host.proofs.Epochs.{Stands, epoch_is}
@@ -154,6 +154,7 @@ marks_first room (line_over ∷ h) c greeted are = marks_first room h c.1 greete
 marks_first room (wrote n ∷ h) c greeted are = marks_first room h c.1 greeted are
 marks_first room (gave_up ∷ h) c greeted are = marks_first room h c.1 greeted are
 marks_first room (turned t ∷ h) c greeted are = marks_first room h c.1 greeted are
+marks_first room (attends ∷ h) c greeted are = marks_first room h c.1 greeted are
 
 few_greeted : (room : ℕ) (h : Journal) (greeted : List Mark) → Conducted room h → AreGreeted (port_log h) greeted → LacksOne (marks_of h) (length greeted)
 few_greeted room h greeted c are = subst (LacksOne (marks_of h)) (sym are.each) (few_marks room h c)

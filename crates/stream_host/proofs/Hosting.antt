@@ -1,5 +1,5 @@
 -- What one step of a host makes of what it keeps.
-use Rattle.std.proofs.Common.{◌≡◌, ◌↔◌, ℕ, ◌&&◌, ◌+◌, ◌-◌, ◌^◌, ◌≤◌, ◌<◌, ◌⊎◌, inl, inr, Bool, true, false, cond, List, [], ◌∷◌, ◌++◌, length, map, take, drop, nat_eq, nat_lt, nat_le, sum, option_to_list, Some, None, refl, sym, ap, ◌∙◌, arith, subst, length-append}
+use Rattle.std.proofs.Common.{◌≡◌, ◌↔◌, ℕ, not, ◌&&◌, ◌||◌, ◌+◌, ◌-◌, ◌^◌, ◌≤◌, ◌<◌, ◌⊎◌, inl, inr, Bool, true, false, cond, List, [], ◌∷◌, ◌++◌, length, map, take, drop, nat_eq, nat_lt, nat_le, sum, option_to_list, Some, None, refl, sym, ap, ◌∙◌, arith, subst, length-append}
 use Rattle.std.proofs.lemmas.Bool.Decides.{nat_tests}
 use Rattle.std.proofs.lemmas.List.{map-append, drop-append-le, length-drop, length-take}
 use Rattle.std.proofs.lemmas.List.Sums.{sum_by-cons}
@@ -12,7 +12,7 @@ use Rattle.stream_host.specs.declared.host.Host.{Host}
 use Rattle.stream_host.specs.Links.{on_link}
 use Rattle.stream_host.specs.Jobs.{resume, is_reset, is_long, sent_text, ends_sending, MayHaveRead}
 use Rattle.stream_host.specs.Holding.{held_after, has_pause, pauses}
-use Rattle.stream_host.specs.Steps.{Journal, port_log, got_of, has_limit, answered_of, read_of, reading_of, scanned_of, unscanned_of, raw_of, cut_of, live_of, over_of, marks_of, resets_of, banners_of, awaits_banner, to_store, begun_of, due_of, asking_of, pause_of, asked_more, more_served, HostLog, polls_of, empty_polls}
+use Rattle.stream_host.specs.Steps.{Journal, port_log, got_of, has_limit, answered_of, read_of, reading_of, scanned_of, unscanned_of, raw_of, cut_of, live_of, over_of, marks_of, resets_of, banners_of, awaits_banner, to_store, begun_of, due_of, asking_of, pause_of, asked_more, more_served, HostLog, is_attended, is_shut, polls_of, empty_polls, long_polls, resumes_behind, resumes_next}
 use Rattle.stream_host.specs.Steps.PortStep.{marked, raised, no_reply, shut}
 use Rattle.stream_host.specs.Steps.Step.{at_port, scanned}
 use Rattle.code_table.specs.Tables.{query}
@@ -147,14 +147,46 @@ has_room {room} s h f free =
 pub none_due_by : {room : ℕ} (s : Host) (h : Journal) → HostFits room s h → s.line.due ≡ None → due_of h ≡ []
 none_due_by {room} s h f none = sym f.due_is ∙ ap option_to_list none
 
-not_tired : (n : ℕ) → n < empty_polls → nat_eq n empty_polls ≡ false
-not_tired n few = grind (arith, nat_tests)
+-- ---- the polls
 
-tired_now : (n : ℕ) → n ≡ empty_polls → nat_eq n empty_polls ≡ true
-tired_now n e = grind (arith, nat_tests)
+-- so many polls are counted
+abbrev counted_to : ℕ → ℕ
+counted_to n = cond (nat_lt n long_polls) n long_polls
+
+pub low_counted : (count n k : ℕ) → count ≡ counted_to n → k ≤ long_polls → (k ≤ count) ↔ (k ≤ n)
+low_counted count n k is low = by_test (nat_lt n long_polls) refl is
+  where
+    by_test : (t : Bool) → nat_lt n long_polls ≡ t → count ≡ cond t n long_polls → (k ≤ count) ↔ (k ≤ n)
+    by_test true e is = ((λ le. omega arith), (λ le. omega arith))
+    by_test false e is = let far : long_polls ≤ n = grind (arith, nat_tests) in ((λ le. omega arith), (λ le. omega arith))
+
+-- one more is counted, as long as their number tells more
+counted_on : (count n : ℕ) → count ≡ counted_to n → cond (nat_lt count long_polls) (count + 1) count ≡ counted_to (n + 1)
+counted_on count n is = grind (arith, nat_tests)
+
+-- which is the last before a resume
+counted_all : (count n : ℕ) → count ≡ counted_to n → cond (nat_lt count long_polls) (count + 1) count ≡ empty_polls → n + 1 ≡ empty_polls
+counted_all count n is all = grind (arith, nat_tests)
+
+tired_now : (attended closed : Bool) (n : ℕ) → (attended && not closed) ≡ false → n ≡ empty_polls → resumes_behind attended closed n ≡ true
+tired_now true true n by e = grind (arith, nat_tests)
+tired_now true false n by e = absurd cc
+tired_now false closed n by e = grind (arith, nat_tests)
+
+not_tired : (attended closed : Bool) (n : ℕ) → ((n ≡ empty_polls) → ⊥) ⊎ ((attended && not closed) ≡ true) → resumes_behind attended closed n ≡ false
+not_tired true false n by = refl
+not_tired true true n (inl other) = grind (arith, nat_tests)
+not_tired true true n (inr by) = absurd cc
+not_tired false closed n (inl other) = grind (arith, nat_tests)
+not_tired false closed n (inr by) = absurd cc
+
+pub fresh_polls : (attended closed : Bool) → resumes_behind attended closed 0 ≡ false
+fresh_polls true true = refl
+fresh_polls true false = refl
+fresh_polls false closed = refl
 
 pub never_raised : {room : ℕ} (s : Host) (b : ℕ) (h : Journal) → HostFits room s h → due_of h ≡ [] → MayRaise b h → ⊥
-never_raised {room} s b h f none may = absurd (let e = sym none ∙ may.next f.polls_are.few in cc)
+never_raised {room} s b h f none may = absurd (let e = sym none ∙ may.next f.polls_are.rested in cc)
 
 pub due_next : {room : ℕ} (s : Host) (b : ℕ) (h : Journal) → HostFits room s h → s.line.due ≡ Some b → due_of h ≡ b ∷ []
 due_next {room} s b h f is = sym f.due_is ∙ ap option_to_list is
@@ -167,10 +199,10 @@ pub takes_resume : (l : HostLog) → TakesRaise resume l
 takes_resume l query_now = absurd cc
 
 -- a byte that waits for lines does so while fewer are answered than were scanned whole
-pub early_by : {room : ℕ} (s : Host) (b : ℕ) (h : Journal) (t : Bool) → HostFits room s h → waits_for_lines b ≡ true → t ≡ nat_lt s.counts.answered s.counts.lines → (t ≡ false) ↔ (waits_for_lines b ≡ true → AreAnswered h)
-early_by {room} s b h t f is test = (
-  λ none q. (let few = (sending.counts_are room h f.conducted).1 in let a = f.counts_are.answered_is in let l = f.counts_are.lines_are in grind (arith, nat_tests)),
-  λ after. (let all = after is in let a = f.counts_are.answered_is in let l = f.counts_are.lines_are in grind (arith, nat_tests)),
+pub early_by : {room : ℕ} (s : Host) (b : ℕ) (h : Journal) (t : Bool) → HostFits room s h → s.attended ≡ false → waits_for_lines b ≡ true → t ≡ nat_lt s.counts.answered s.counts.lines → (t ≡ false) ↔ (is_attended h ≡ false → waits_for_lines b ≡ true → AreAnswered h)
+early_by {room} s b h t f alone is test = (
+  λ none a q. (let few = (sending.counts_are room h f.conducted).1 in let a = f.counts_are.answered_is in let l = f.counts_are.lines_are in grind (arith, nat_tests)),
+  λ after. (let all = after (sym f.attended_is ∙ alone) is in let a = f.counts_are.answered_is in let l = f.counts_are.lines_are in grind (arith, nat_tests)),
 )
 
 same_line : (l : SentLine) (raw left : List ℕ) (d : Option ℕ) → KeepsLine l raw left → KeepsLine (record l { due = d }) raw left
@@ -230,6 +262,7 @@ pub marked_next : {room : ℕ} (s : Host) (h : Journal) → HostFits room s h �
 marked_next {room} s h f may = record {
   sized = f.sized;
   room_is = f.room_is;
+  attended_is = f.attended_is;
   conducted = (may, f.conducted);
   job_is = f.job_is;
   line_is = f.line_is;
@@ -240,6 +273,7 @@ marked_next {room} s h f may = record {
   resets_are = record { raised_is = f.resets_are.raised_is; banners_are = f.resets_are.banners_are; marked_is = one_more };
   polls_are = f.polls_are;
   held_is = f.held_is;
+  resumed_is = f.resumed_is;
   greeted_is = f.greeted_is;
   alarm_is = f.alarm_is;
   pause_is = f.pause_is;
@@ -252,15 +286,16 @@ marked_next {room} s h f may = record {
     one_more : true ≡ nat_lt (resets_of h) (length (marks_of (at_port marked ∷ h)))
     one_more = let e = may.fresh in let l : length (marks_of (at_port marked ∷ h)) ≡ length (marks_of h) + 1 = omega arith in grind (arith, nat_tests)
 
-pub raised_byte : {room : ℕ} (s : Host) (b : ℕ) (down : Bool) (a : Asking) (held : Bool) (n : ℕ) (h : Journal) → HostFits room s h → s.alarm ≡ false → s.line.due ≡ Some b → (waits_for_lines b ≡ true → AreAnswered h) → a ≡ cond (nat_eq b query) (asked_more s.asking) s.asking → held ≡ held_after b s.held → n ≡ cond (nat_eq b resume) 0 s.counts.pause_at → (is_reset b ≡ true → s.resets.marked ≡ true)
-    → HostFits room (record s { line = record s.line { due = None }; resets = record s.resets { raised = cond (is_reset b) (s.resets.raised + 1) s.resets.raised; marked = cond (is_reset b) false s.resets.marked }; asking = a; held = held; counts = record s.counts { pause_at = n } }) (at_port (raised b down) ∷ h)
-raised_byte {room} s b down a held n h f calm is after asks hold pause mark =
+pub raised_byte : {room : ℕ} (s : Host) (b : ℕ) (down : Bool) (a : Asking) (held again : Bool) (n : ℕ) (h : Journal) → HostFits room s h → s.alarm ≡ false → s.line.due ≡ Some b → (is_attended h ≡ false → waits_for_lines b ≡ true → AreAnswered h) → a ≡ cond (nat_eq b query) (asked_more s.asking) s.asking → held ≡ held_after b s.held → again ≡ (nat_eq b resume || s.resumed) → n ≡ cond (nat_eq b resume) 0 s.counts.pause_at → (is_reset b ≡ true → s.resets.marked ≡ true)
+    → HostFits room (record s { line = record s.line { due = None }; resets = record s.resets { raised = cond (is_reset b) (s.resets.raised + 1) s.resets.raised; marked = cond (is_reset b) false s.resets.marked }; asking = a; held = held; resumed = again; counts = record s.counts { pause_at = n } }) (at_port (raised b down) ∷ h)
+raised_byte {room} s b down a held again n h f calm is after asks hold more pause mark =
     let next = due_next s b h f is in
-    let going = not_tired (polls_of h) f.polls_are.few in
+    let going = f.polls_are.rested in
     record {
       sized = f.sized;
       room_is = f.room_is;
-      conducted = (record { resumes = λ e. absurd (let n = f.polls_are.few in omega arith); calm = λ fewer. calm_now s h f calm; next = λ e. next ∙ ap (λ (t : List ℕ). b ∷ drop 1 t) (sym next); after = after; behind_mark = λ reset. marked_now s h f (mark reset) }, f.conducted);
+      attended_is = f.attended_is;
+      conducted = (record { resumes = λ e. absurd (let n = sym going ∙ e in cc); calm = λ fewer. calm_now s h f calm; next = λ e. next ∙ ap (λ (t : List ℕ). b ∷ drop 1 t) (sym next); after = after; behind_mark = λ reset. marked_now s h f (mark reset) }, f.conducted);
       job_is = f.job_is;
       line_is = same_line s.line (raw_of h) (to_store h) None f.line_is;
       due_is = sym (ap (λ t. cond t (due_of h) (drop 1 (due_of h))) going ∙ ap (drop 1) next);
@@ -268,8 +303,9 @@ raised_byte {room} s b down a held n h f calm is after asks hold pause mark =
       counts_are = same_counts s.counts n (live_of h) (got_of h) f.counts_are;
       all_are = f.all_are;
       resets_are = raised_resets s.resets (is_reset b) (resets_of h) (banners_of h) (length (marks_of h)) f.resets_are (λ reset. (marks_between room h f.conducted).1);
-      polls_are = subst (λ t. KeepsPolls s.polls (cond t 0 (polls_of h))) (sym going) f.polls_are;
+      polls_are = subst (λ t. KeepsPolls s.polls (cond t 0 (polls_of h)) (resumes_behind (is_attended h) (is_shut h) (cond t 0 (polls_of h)))) (sym going) f.polls_are;
       held_is = hold ∙ ap (held_after b) f.held_is;
+      resumed_is = more ∙ ap (λ m. nat_eq b resume || m) f.resumed_is;
       greeted_is = f.greeted_is;
       alarm_is = f.alarm_is;
       pause_is = pause ∙ ap (λ m. cond (nat_eq b resume) 0 m) f.pause_is;
@@ -280,17 +316,19 @@ raised_byte {room} s b down a held n h f calm is after asks hold pause mark =
     }
 
 -- the machine is resumed
-pub resumed : {room : ℕ} (s : Host) (down : Bool) (h : Journal) → HostFits room s h → s.bye ≡ false → empty_polls ≤ s.polls + 1 → HostFits room (record s { polls = 0; held = false; counts = record s.counts { pause_at = 0 } }) (at_port (raised resume down) ∷ at_port no_reply ∷ h)
-resumed {room} s down h f going full =
-    let few = f.polls_are.few in let is = f.polls_are.polls_are in
-    let all : polls_of h + 1 ≡ empty_polls = omega arith in
-    let tired = tired_now (polls_of h + 1) all in
+pub resumed : {room : ℕ} (s : Host) (down : Bool) (h : Journal) → HostFits room s h → s.bye ≡ false → cond (nat_lt s.polls long_polls) (s.polls + 1) s.polls ≡ empty_polls → (s.attended && not s.shut) ≡ false
+    → HostFits room (record s { polls = 0; held = false; resumed = true; counts = record s.counts { pause_at = 0 } }) (at_port (raised resume down) ∷ at_port no_reply ∷ h)
+resumed {room} s down h f going full alone =
+    let all = counted_all s.polls (polls_of h) f.polls_are.polls_are full in
+    let by = ap (λ a. a && not (is_shut h)) (sym f.attended_is) ∙ ap (λ c. s.attended && not c) (sym f.shut_is) ∙ alone in
+    let tired = tired_now (is_attended h) (is_shut h) (polls_of h + 1) by all in
     record {
       sized = f.sized;
       room_is = f.room_is;
+      attended_is = f.attended_is;
       conducted = (
-        record { resumes = λ e. refl; calm = λ fewer. absurd (omega arith); next = λ fewer. absurd (omega arith); after = λ e. absurd cc; behind_mark = λ e. absurd cc },
-        (record { going = sym f.bye_is ∙ going; rested = few }, f.conducted),
+        record { resumes = λ e. refl; calm = λ fewer. absurd (let g = sym tired ∙ fewer in cc); next = λ fewer. absurd (let g = sym tired ∙ fewer in cc); after = λ a e. absurd cc; behind_mark = λ e. absurd cc },
+        (record { going = sym f.bye_is ∙ going; rested = f.polls_are.rested }, f.conducted),
       );
       job_is = f.job_is;
       line_is = f.line_is;
@@ -299,8 +337,9 @@ resumed {room} s down h f going full =
       counts_are = same_counts s.counts 0 (live_of h) (got_of h) f.counts_are;
       all_are = f.all_are;
       resets_are = f.resets_are;
-      polls_are = subst (λ t. KeepsPolls 0 (cond t 0 (polls_of h + 1))) (sym tired) (record { polls_are = refl; few = omega arith });
+      polls_are = subst (λ t. KeepsPolls 0 (cond t 0 (polls_of h + 1)) (resumes_behind (is_attended h) (is_shut h) (cond t 0 (polls_of h + 1)))) (sym tired) (record { polls_are = refl; rested = fresh_polls (is_attended h) (is_shut h) });
       held_is = refl;
+      resumed_is = refl;
       greeted_is = f.greeted_is;
       alarm_is = f.alarm_is;
       pause_is = refl;
@@ -309,6 +348,42 @@ resumed {room} s down h f going full =
       bye_is = f.bye_is;
       over = f.over;
     }
+
+-- a poll is counted
+pub polled : {room : ℕ} (s : Host) (h : Journal) → HostFits room s h → s.bye ≡ false → ((cond (nat_lt s.polls long_polls) (s.polls + 1) s.polls ≡ empty_polls) → ⊥) ⊎ ((s.attended && not s.shut) ≡ true)
+    → HostFits room (record s { polls = cond (nat_lt s.polls long_polls) (s.polls + 1) s.polls }) (at_port no_reply ∷ h)
+polled {room} s h f going by = record {
+  sized = f.sized;
+  room_is = f.room_is;
+  attended_is = f.attended_is;
+  conducted = (record { going = sym f.bye_is ∙ going; rested = f.polls_are.rested }, f.conducted);
+  job_is = f.job_is;
+  line_is = f.line_is;
+  due_is = f.due_is;
+  asking_is = f.asking_is;
+  counts_are = f.counts_are;
+  all_are = f.all_are;
+  resets_are = f.resets_are;
+  polls_are = record { polls_are = counted_on s.polls (polls_of h) f.polls_are.polls_are; rested = not_tired (is_attended h) (is_shut h) (polls_of h + 1) other };
+  held_is = f.held_is;
+  resumed_is = f.resumed_is;
+  greeted_is = f.greeted_is;
+  alarm_is = f.alarm_is;
+  pause_is = f.pause_is;
+  text_is = f.text_is;
+  shut_is = f.shut_is;
+  bye_is = f.bye_is;
+  over = f.over;
+}
+  where
+    counted : polls_of h + 1 ≡ empty_polls → cond (nat_lt s.polls long_polls) (s.polls + 1) s.polls ≡ empty_polls
+    counted e = let is = f.polls_are.polls_are in grind (arith, nat_tests)
+
+    other : ((polls_of h + 1 ≡ empty_polls) → ⊥) ⊎ ((is_attended h && not (is_shut h)) ≡ true)
+    other = elim by [
+      | inl few ↦ inl (λ e. few (counted e))
+      | inr stands ↦ inr (ap (λ a. a && not (is_shut h)) (sym f.attended_is) ∙ ap (λ c. s.attended && not c) (sym f.shut_is) ∙ stands)
+    ]
 
 -- ---- a byte is scanned
 
@@ -357,6 +432,7 @@ pub scanned_byte : {room : ℕ} (s : Host) (r : Reader) (l : SentLine) (a : Aski
 scanned_byte {room} s r l a b h f may going calm epoch next piece count reading other fed due whole asks = record {
   sized = f.sized;
   room_is = f.room_is;
+  attended_is = f.attended_is;
   conducted = (may_scan_next s r b h f may going calm epoch next, f.conducted);
   job_is = job_scanned s r b h f next piece count reading;
   line_is = subst (λ t. KeepsLine l (cond t [] (raw_of h ++ b ∷ [])) (cond t (sent_text (raw_of h) ++ 10 ∷ []) (to_store h))) (sym other) (record {
@@ -370,6 +446,7 @@ scanned_byte {room} s r l a b h f may going calm epoch next piece count reading 
   resets_are = f.resets_are;
   polls_are = f.polls_are;
   held_is = f.held_is;
+  resumed_is = f.resumed_is;
   greeted_is = f.greeted_is;
   alarm_is = f.alarm_is;
   pause_is = f.pause_is ∙ ap (λ t. cond t (cond (pauses (raw_of h)) (length (live_of h) + 1) (pause_of h)) (pause_of h)) (sym other);
@@ -384,6 +461,7 @@ pub scanned_lf : {room : ℕ} (s : Host) (r : Reader) (l : SentLine) (c : Counts
 scanned_lf {room} s r l c a b h f may going calm epoch next piece count reading lf line due counts all pause asks = record {
   sized = f.sized;
   room_is = f.room_is;
+  attended_is = f.attended_is;
   conducted = (may_scan_next s r b h f may going calm epoch next, f.conducted);
   job_is = job_scanned s r b h f next piece count reading;
   line_is = subst (λ t. KeepsLine l (cond t [] (raw_of h ++ b ∷ [])) (cond t (sent_text (raw_of h) ++ 10 ∷ []) (to_store h))) (sym lf) line;
@@ -394,6 +472,7 @@ scanned_lf {room} s r l c a b h f may going calm epoch next piece count reading 
   resets_are = f.resets_are;
   polls_are = f.polls_are;
   held_is = f.held_is;
+  resumed_is = f.resumed_is;
   greeted_is = f.greeted_is;
   alarm_is = f.alarm_is;
   pause_is =
@@ -470,10 +549,15 @@ may_shut {room} s h f whole going epoch none no_scan no_read =
 pub may_shut_at_alarm : {room : ℕ} (s : Host) (h : Journal) → HostFits room s h → s.shut ≡ false → awaits_by s.resets ≡ false → s.alarm ≡ true → MayShut h
 may_shut_at_alarm {room} s h f going epoch alarm = let e = alarm_now s h f alarm in record { going = sym f.shut_is ∙ going; epoch = calm_epoch s h f epoch; sent = inl e; all_raised = inl e }
 
-pub closed : {room : ℕ} (s : Host) (h : Journal) → HostFits room s h → MayShut h → HostFits room (record s { shut = true }) (at_port shut ∷ h)
-closed {room} s h f may = record {
+closed_polls : (attended : Bool) (count n : ℕ) → KeepsPolls count n (resumes_behind attended false n) → KeepsPolls (cond attended 0 count) (cond attended 0 n) (resumes_behind attended true (cond attended 0 n))
+closed_polls true count n k = record { polls_are = refl; rested = refl }
+closed_polls false count n k = record { polls_are = k.polls_are; rested = k.rested }
+
+pub closed : {room : ℕ} (s : Host) (n : ℕ) (h : Journal) → HostFits room s h → MayShut h → n ≡ cond s.attended 0 s.polls → HostFits room (record s { shut = true; polls = n }) (at_port shut ∷ h)
+closed {room} s n h f may anew = record {
   sized = f.sized;
   room_is = f.room_is;
+  attended_is = f.attended_is;
   conducted = (may, f.conducted);
   job_is = f.job_is;
   line_is = f.line_is;
@@ -482,8 +566,10 @@ closed {room} s h f may = record {
   counts_are = f.counts_are;
   all_are = f.all_are;
   resets_are = f.resets_are;
-  polls_are = f.polls_are;
+  polls_are = subst (λ m. KeepsPolls m (polls_of (at_port shut ∷ h)) (resumes_next (at_port shut ∷ h))) (sym (anew ∙ ap (λ a. cond a 0 s.polls) f.attended_is))
+      (closed_polls (is_attended h) s.polls (polls_of h) (subst (λ c. KeepsPolls s.polls (polls_of h) (resumes_behind (is_attended h) c (polls_of h))) may.going f.polls_are));
   held_is = f.held_is;
+  resumed_is = f.resumed_is;
   greeted_is = f.greeted_is;
   alarm_is = f.alarm_is;
   pause_is = f.pause_is;

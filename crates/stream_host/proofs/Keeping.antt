@@ -17,7 +17,7 @@ use Rattle.status_report.specs.declared.Reply.{Reply}
 use Rattle.run_rules.specs.Work.{is_limit}
 use Rattle.stream_host.specs.Steps.{Step, Journal, stored_of, got_of, has_limit, is_shut, read_of, reading_of, scanned_of, unscanned_of, raw_of, cut_of, to_store}
 use Rattle.stream_host.specs.Steps.PortStep.{stored, dropped, marked, raised, got, no_reply, shut}
-use Rattle.stream_host.specs.Steps.Step.{at_port, read_some, read_end, read_failed, scanned, line_over, wrote, gave_up, turned}
+use Rattle.stream_host.specs.Steps.Step.{at_port, read_some, read_end, read_failed, scanned, line_over, wrote, gave_up, turned, attends}
 use Rattle.stream_host.specs.Conduct.{Conducted, MayScanNext, HasSentAll}
 use Rattle.stream_host.proofs.Links.{all_push}
 use Rattle.stream_host.proofs.Pieces.{IsSendable, any_is, none_any, none_ends}
@@ -35,6 +35,7 @@ read_is room (line_over ∷ h) c = read_is room h c.1
 read_is room (wrote n ∷ h) c = read_is room h c.1
 read_is room (gave_up ∷ h) c = read_is room h c.1
 read_is room (turned t ∷ h) c = read_is room h c.1
+read_is room (attends ∷ h) c = read_is room h c.1
 
 -- ---- what is stored of a line, and what is still to be stored, is the line
 
@@ -72,6 +73,7 @@ stored_is room (line_over ∷ h) c = linked_line (stored_of h) (to_store h) (cut
 stored_is room (wrote n ∷ h) c = stored_is room h c.1
 stored_is room (gave_up ∷ h) c = stored_is room h c.1
 stored_is room (turned t ∷ h) c = stored_is room h c.1
+stored_is room (attends ∷ h) c = stored_is room h c.1
 
 -- ---- what is scanned is cut
 
@@ -129,6 +131,7 @@ cut_is room (line_over ∷ h) c = cut_end h c.0.at_end c.0.used c.0.some (cut_is
 cut_is room (wrote n ∷ h) c = cut_is room h c.1
 cut_is room (gave_up ∷ h) c = cut_is room h c.1
 cut_is room (turned t ∷ h) c = cut_is room h c.1
+cut_is room (attends ∷ h) c = cut_is room h c.1
 
 -- ---- no line in which the sending ends is cut
 
@@ -147,6 +150,7 @@ sendable_is room (line_over ∷ h) c = sendable_push (cut_of h) (raw_of h) true 
 sendable_is room (wrote n ∷ h) c = sendable_is room h c.1
 sendable_is room (gave_up ∷ h) c = sendable_is room h c.1
 sendable_is room (turned t ∷ h) c = sendable_is room h c.1
+sendable_is room (attends ∷ h) c = sendable_is room h c.1
 
 -- a test that only lines pass in which the sending ends is passed in what is scanned just where the line in hand passes
 pub any_now : (room : ℕ) (p : List ℕ → Bool) → p [] ≡ false → ((l : List ℕ) → IsSendable l → p l ≡ false) → (h : Journal) → Conducted room h → list_any p (lines_of (scanned_of h)) ≡ p (raw_of h)
@@ -181,6 +185,7 @@ early_is room (line_over ∷ h) c = early_is room h c.1
 early_is room (wrote n ∷ h) c = early_is room h c.1
 early_is room (gave_up ∷ h) c = early_is room h c.1
 early_is room (turned t ∷ h) c = early_is room h c.1
+early_is room (attends ∷ h) c = early_is room h c.1
 
 -- ---- how much is read and scanned
 
@@ -195,6 +200,7 @@ few_scanned room (line_over ∷ h) c = few_scanned room h c.1
 few_scanned room (wrote n ∷ h) c = few_scanned room h c.1
 few_scanned room (gave_up ∷ h) c = few_scanned room h c.1
 few_scanned room (turned t ∷ h) c = few_scanned room h c.1
+few_scanned room (attends ∷ h) c = few_scanned room h c.1
 
 -- what is read and not scanned is of one piece
 pub few_unscanned : (room : ℕ) (h : Journal) → Conducted room h → length (unscanned_of h) ≤ largest_piece
@@ -208,6 +214,7 @@ few_unscanned room (line_over ∷ h) c = few_unscanned room h c.1
 few_unscanned room (wrote n ∷ h) c = few_unscanned room h c.1
 few_unscanned room (gave_up ∷ h) c = few_unscanned room h c.1
 few_unscanned room (turned t ∷ h) c = few_unscanned room h c.1
+few_unscanned room (attends ∷ h) c = few_unscanned room h c.1
 
 -- a job is read for so many bytes at most
 pub few_read : (room : ℕ) (h : Journal) → Conducted room h → length (read_of h) ≤ length (scanned_of h) + largest_piece
@@ -235,6 +242,7 @@ reading_fits room (line_over ∷ h) c = reading_fits room h c.1
 reading_fits room (wrote n ∷ h) c = reading_fits room h c.1
 reading_fits room (gave_up ∷ h) c = reading_fits room h c.1
 reading_fits room (turned t ∷ h) c = reading_fits room h c.1
+reading_fits room (attends ∷ h) c = reading_fits room h c.1
 
 -- ---- a link that is closed has all that is sent, where no alarm was got
 
@@ -272,6 +280,7 @@ shut_is room (line_over ∷ h) c e calm = open_link h c.0.going e
 shut_is room (wrote n ∷ h) c e calm = let s = shut_is room h c.1 e calm in record { free = s.free; all = s.all }
 shut_is room (gave_up ∷ h) c e calm = let s = shut_is room h c.1 e calm in record { free = s.free; all = s.all }
 shut_is room (turned t ∷ h) c e calm = let s = shut_is room h c.1 e calm in record { free = s.free; all = s.all }
+shut_is room (attends ∷ h) c e calm = let s = shut_is room h c.1 e calm in record { free = s.free; all = s.all }
 
 -- nothing is stored behind the closing
 pub open_is : (room : ℕ) (b : ℕ) (h : Journal) → Conducted room h → has_limit h ≡ false → to_store h ≡ b ∷ drop 1 (to_store h) → is_shut h ≡ false

@@ -1,5 +1,5 @@
 -- Resets that are raised: what waits for their Banners, and the marks before them.
-use Rattle.std.proofs.Common.{◌≡◌, ℕ, ◌+◌, ◌≤◌, ◌⊎◌, ◌&&◌, inl, inr, Bool, true, false, cond, List, [], ◌∷◌, ◌++◌, length, drop, nat_eq, nat_lt, nat_le, refl, sym, ap, ◌∙◌, arith, length-append}
+use Rattle.std.proofs.Common.{◌≡◌, ℕ, ◌+◌, ◌≤◌, ◌⊎◌, ◌&&◌, inl, inr, Bool, true, false, cond, List, [], ◌∷◌, ◌++◌, length, drop, nat_lt, nat_le, refl, sym, ap, ◌∙◌, arith, length-append}
 use Rattle.std.proofs.lemmas.Bool.Decides.{nat_tests}
 use Rattle.std.proofs.lemmas.List.{nil_from_length, length-drop}
 use Rattle.std.proofs.lemmas.List.Sums.{sum_by-cons}
@@ -8,12 +8,12 @@ use Rattle.status_report.specs.Answering.{is_banner}
 use Rattle.serial_ring.specs.Marks.{Mark, latest, last_of, IsMark, Follows, AreRising}
 use Rattle.stream_host.specs.Links.{banners_in, AreGreetings}
 use Rattle.stream_host.specs.Jobs.{resume, is_reset}
-use Rattle.stream_host.specs.Steps.{HostLog, Journal, port_log, stored_in, latest_got, marks_in, marks_at_banners, marks_of, resets_of, banners_of, awaits_banner, scanned_of, raw_of, to_store, due_of, more_served, resumes_next, polls_of, empty_polls, is_shut, has_limit, got_of}
+use Rattle.stream_host.specs.Steps.{HostLog, Journal, port_log, stored_in, latest_got, marks_in, marks_at_banners, marks_of, resets_of, banners_of, awaits_banner, scanned_of, raw_of, to_store, due_of, more_served, resumes_next, is_shut, has_limit, got_of}
 use Rattle.stream_host.specs.Steps.PortStep.{stored, dropped, marked, raised, got, no_reply, shut}
-use Rattle.stream_host.specs.Steps.Step.{at_port, read_some, read_end, read_failed, scanned, line_over, wrote, gave_up, turned}
+use Rattle.stream_host.specs.Steps.Step.{at_port, read_some, read_end, read_failed, scanned, line_over, wrote, gave_up, turned, attends}
 use Rattle.stream_host.specs.Conduct.{Conducted, MayMark, MayRaise}
 use Rattle.stream_host.proofs.Keeping.{calm_before}
-use Rattle.stream_host.proofs.Raising.{none_due_shut, calm_is, few_polls, is_enough, is_fewer, one_more, still_none}
+use Rattle.stream_host.proofs.Raising.{none_due_shut, calm_is, one_more, still_none}
 
 -- ---- the byte that is due
 
@@ -26,7 +26,7 @@ few_due room [] c = omega arith
 few_due room (at_port (stored b) ∷ h) c = few_due room h c.1
 few_due room (at_port (dropped b) ∷ h) c = absurd c.0
 few_due room (at_port marked ∷ h) c = few_due room h c.1
-few_due room (at_port (raised b down) ∷ h) c = few_cond (resumes_next (port_log h)) (due_of h) (few_due room h c.1)
+few_due room (at_port (raised b down) ∷ h) c = few_cond (resumes_next h) (due_of h) (few_due room h c.1)
 few_due room (at_port (got r) ∷ h) c = few_due room h c.1
 few_due room (at_port no_reply ∷ h) c = few_due room h c.1
 few_due room (at_port shut ∷ h) c = few_due room h c.1
@@ -38,6 +38,7 @@ few_due room (line_over ∷ h) c = few_due room h c.1
 few_due room (wrote n ∷ h) c = few_due room h c.1
 few_due room (gave_up ∷ h) c = few_due room h c.1
 few_due room (turned t ∷ h) c = few_due room h c.1
+few_due room (attends ∷ h) c = few_due room h c.1
 
 pub one_due : (room : ℕ) (h : Journal) (b : ℕ) → Conducted room h → due_of h ≡ b ∷ drop 1 (due_of h) → drop 1 (due_of h) ≡ []
 one_due room h b c next = nil_from_length (drop 1 (due_of h)) (let f = few_due room h c in let l = ap length next in omega arith)
@@ -49,10 +50,10 @@ free_by room h b c next = elim (calm_is room h c) [
 ]
 
 -- a reset that is raised is the byte that was due
-reset_due : (room : ℕ) (b : ℕ) (h : Journal) → Conducted room h → MayRaise b h → is_reset b ≡ true → (t : Bool) → nat_eq (polls_of h) empty_polls ≡ t
+reset_due : (room : ℕ) (b : ℕ) (h : Journal) → Conducted room h → MayRaise b h → is_reset b ≡ true → (t : Bool) → resumes_next h ≡ t
     → (due_of h ≡ b ∷ drop 1 (due_of h)) × (cond t (due_of h) (drop 1 (due_of h)) ≡ [])
-reset_due room b h c may reset true e = absurd (let r = may.resumes (is_enough (polls_of h) e) in let f = sym reset ∙ ap is_reset r in cc)
-reset_due room b h c may reset false e = let next = may.next (is_fewer (polls_of h) (few_polls room h c) e) in (next, one_due room h b c next)
+reset_due room b h c may reset true e = absurd (let r = may.resumes e in let f = sym reset ∙ ap is_reset r in cc)
+reset_due room b h c may reset false e = let next = may.next e in (next, one_due room h b c next)
 
 -- ---- a Banner is awaited
 
@@ -78,11 +79,11 @@ awaits_on resets was is more e = by_tests (nat_lt 0 resets) (nat_le is resets) (
 raised_waiting : (room : ℕ) (b : ℕ) (down : Bool) (h : Journal) → Conducted room h → MayRaise b h → (awaits_banner h ≡ true → IsWaiting h) → (t : Bool) → is_reset b ≡ t
     → awaits_banner (at_port (raised b down) ∷ h) ≡ true → IsWaiting (at_port (raised b down) ∷ h)
 raised_waiting room b down h c may was true is e =
-    let due = reset_due room b h c may is (nat_eq (polls_of h) empty_polls) refl in
+    let due = reset_due room b h c may is (resumes_next h) refl in
     record { free = free_by room h b c due.0; none_due = due.1 }
 raised_waiting room b down h c may was false is e =
     let w = was (ap (λ t. nat_lt 0 (cond t (resets_of h + 1) (resets_of h)) && nat_le (banners_of h) (cond t (resets_of h + 1) (resets_of h))) (sym is) ∙ e) in
-    record { free = w.free; none_due = still_none (resumes_next (port_log h)) (due_of h) w.none_due }
+    record { free = w.free; none_due = still_none (resumes_next h) (due_of h) w.none_due }
 
 -- where one is, nothing is to be stored, and nothing to be raised
 pub waiting_is : (room : ℕ) (h : Journal) → Conducted room h → awaits_banner h ≡ true → IsWaiting h
@@ -104,11 +105,12 @@ waiting_is room (line_over ∷ h) c e = both (awaits_banner h) e c.0.epoch
 waiting_is room (wrote n ∷ h) c e = let w = waiting_is room h c.1 e in record { free = w.free; none_due = w.none_due }
 waiting_is room (gave_up ∷ h) c e = let w = waiting_is room h c.1 e in record { free = w.free; none_due = w.none_due }
 waiting_is room (turned t ∷ h) c e = let w = waiting_is room h c.1 e in record { free = w.free; none_due = w.none_due }
+waiting_is room (attends ∷ h) c e = let w = waiting_is room h c.1 e in record { free = w.free; none_due = w.none_due }
 
 -- a link that is closed awaits none, where no alarm was got
 raised_calm : (room : ℕ) (b : ℕ) (h : Journal) → Conducted room h → MayRaise b h → due_of h ≡ [] → awaits_banner h ≡ false → (t : Bool) → is_reset b ≡ t
     → (nat_lt 0 (cond t (resets_of h + 1) (resets_of h)) && nat_le (banners_of h) (cond t (resets_of h + 1) (resets_of h))) ≡ false
-raised_calm room b h c may none calm true is = absurd (let due = reset_due room b h c may is (nat_eq (polls_of h) empty_polls) refl in let e = sym none ∙ due.0 in cc)
+raised_calm room b h c may none calm true is = absurd (let due = reset_due room b h c may is (resumes_next h) refl in let e = sym none ∙ due.0 in cc)
 raised_calm room b h c may none calm false is = calm
 
 got_calm : (r : Reply) (h : Journal) → awaits_banner h ≡ false → (t : Bool) → awaits_banner (at_port (got r) ∷ h) ≡ t → t ≡ false
@@ -132,6 +134,7 @@ calm_shut room (line_over ∷ h) c e calm = c.0.epoch
 calm_shut room (wrote n ∷ h) c e calm = calm_shut room h c.1 e calm
 calm_shut room (gave_up ∷ h) c e calm = calm_shut room h c.1 e calm
 calm_shut room (turned t ∷ h) c e calm = calm_shut room h c.1 e calm
+calm_shut room (attends ∷ h) c e calm = calm_shut room h c.1 e calm
 
 -- ---- the marks
 
@@ -139,14 +142,14 @@ calm_shut room (turned t ∷ h) c e calm = calm_shut room h c.1 e calm
 abbrev pub IsMarked : ℕ → ℕ → List ℕ → Type 0
 IsMarked marks resets due = (marks ≡ resets) ⊎ ((marks ≡ resets + 1) × (due ≡ 0x18 ∷ []))
 
-raised_marked : (room : ℕ) (b : ℕ) (h : Journal) → Conducted room h → MayRaise b h → (t : Bool) → is_reset b ≡ t → (u : Bool) → nat_eq (polls_of h) empty_polls ≡ u
+raised_marked : (room : ℕ) (b : ℕ) (h : Journal) → Conducted room h → MayRaise b h → (t : Bool) → is_reset b ≡ t → (u : Bool) → resumes_next h ≡ u
     → IsMarked (length (marks_of h)) (resets_of h) (due_of h) → IsMarked (length (marks_of h)) (cond t (resets_of h + 1) (resets_of h)) (cond u (due_of h) (drop 1 (due_of h)))
 raised_marked room b h c may true is u e (inl same) = absurd (let m = may.behind_mark is in omega arith)
 raised_marked room b h c may true is u e (inr more) = inl more.0
 raised_marked room b h c may false is u e (inl same) = inl same
 raised_marked room b h c may false is true e (inr more) = inr more
 raised_marked room b h c may false is false e (inr more) =
-    let next = may.next (is_fewer (polls_of h) (few_polls room h c) e) in
+    let next = may.next e in
     absurd (let s : 0x18 ≡ b = (let f = sym more.1 ∙ next in cc) in let g = ap is_reset s ∙ is in cc)
 
 scanned_marked : (h : Journal) (due : List ℕ) → due_of h ≡ [] → IsMarked (length (marks_of h)) (resets_of h) (due_of h) → IsMarked (length (marks_of h)) (resets_of h) due
@@ -160,7 +163,7 @@ marks_are room (at_port (dropped b) ∷ h) c = absurd c.0
 marks_are room (at_port marked ∷ h) c =
     let f = c.0.fresh in
     inr ((omega arith), c.0.next ∙ ap (λ (t : List ℕ). 0x18 ∷ t) (one_due room h 0x18 c.1 c.0.next))
-marks_are room (at_port (raised b down) ∷ h) c = raised_marked room b h c.1 c.0 (is_reset b) refl (nat_eq (polls_of h) empty_polls) refl (marks_are room h c.1)
+marks_are room (at_port (raised b down) ∷ h) c = raised_marked room b h c.1 c.0 (is_reset b) refl (resumes_next h) refl (marks_are room h c.1)
 marks_are room (at_port (got r) ∷ h) c = marks_are room h c.1
 marks_are room (at_port no_reply ∷ h) c = marks_are room h c.1
 marks_are room (at_port shut ∷ h) c = marks_are room h c.1
@@ -172,6 +175,7 @@ marks_are room (line_over ∷ h) c = marks_are room h c.1
 marks_are room (wrote n ∷ h) c = marks_are room h c.1
 marks_are room (gave_up ∷ h) c = marks_are room h c.1
 marks_are room (turned t ∷ h) c = marks_are room h c.1
+marks_are room (attends ∷ h) c = marks_are room h c.1
 
 reset_by : (b n all : ℕ) (resumes t : Bool) (due : List ℕ) → is_reset b ≡ t → (resumes ≡ true → b ≡ resume) → (resumes ≡ false → due ≡ b ∷ drop 1 due) → n + length due ≤ all
     → cond t (n + 1) n + length (cond resumes due (drop 1 due)) ≤ all
@@ -187,8 +191,8 @@ few_resets room (at_port (stored b) ∷ h) c = few_resets room h c.1
 few_resets room (at_port (dropped b) ∷ h) c = absurd c.0
 few_resets room (at_port marked ∷ h) c = few_resets room h c.1
 few_resets room (at_port (raised b down) ∷ h) c =
-    reset_by b (resets_of h) (length (scanned_of h)) (nat_eq (polls_of h) empty_polls) (is_reset b) (due_of h) refl
-    (λ e. c.0.resumes (is_enough (polls_of h) e)) (λ e. c.0.next (is_fewer (polls_of h) (few_polls room h c.1) e)) (few_resets room h c.1)
+    reset_by b (resets_of h) (length (scanned_of h)) (resumes_next h) (is_reset b) (due_of h) refl
+    (λ e. c.0.resumes e) (λ e. c.0.next e) (few_resets room h c.1)
 few_resets room (at_port (got r) ∷ h) c = few_resets room h c.1
 few_resets room (at_port no_reply ∷ h) c = few_resets room h c.1
 few_resets room (at_port shut ∷ h) c = few_resets room h c.1
@@ -202,6 +206,7 @@ few_resets room (line_over ∷ h) c = few_resets room h c.1
 few_resets room (wrote n ∷ h) c = few_resets room h c.1
 few_resets room (gave_up ∷ h) c = few_resets room h c.1
 few_resets room (turned t ∷ h) c = few_resets room h c.1
+few_resets room (attends ∷ h) c = few_resets room h c.1
 
 -- a mark is stored only where no Banner is awaited
 pub fresh_calm : (room : ℕ) (h : Journal) → Conducted room h → MayMark h → awaits_banner h ≡ false
@@ -312,3 +317,4 @@ banners_low room (line_over ∷ h) c = banners_low room h c.1
 banners_low room (wrote n ∷ h) c = banners_low room h c.1
 banners_low room (gave_up ∷ h) c = banners_low room h c.1
 banners_low room (turned t ∷ h) c = banners_low room h c.1
+banners_low room (attends ∷ h) c = banners_low room h c.1

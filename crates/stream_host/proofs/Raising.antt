@@ -17,9 +17,9 @@ use Rattle.gcode_words.proofs.Scanning.{shown}
 use Rattle.gcode_words.proofs.Fed.{realtime-append}
 use Rattle.run_rules.proofs.Cutting.{lines_are, some_bytes}
 use Rattle.stream_host.specs.Jobs.{resume, is_reset, served, served_in}
-use Rattle.stream_host.specs.Steps.{Journal, port_log, got_of, has_limit, is_shut, marks_of, resets_of, scanned_of, raw_of, cut_of, to_store, due_of, more_served, empty_polls, polls_of, raises_of, line_raises_of, resumes_of, resumes_next, all_empty_in}
+use Rattle.stream_host.specs.Steps.{Journal, port_log, got_of, has_limit, is_shut, marks_of, resets_of, scanned_of, raw_of, cut_of, to_store, due_of, more_served, empty_polls, polls_of, raises_of, line_raises_of, resumes_of, resumes_next, all_empty_in, is_attended, resumes_behind}
 use Rattle.stream_host.specs.Steps.PortStep.{stored, dropped, marked, raised, got, no_reply, shut}
-use Rattle.stream_host.specs.Steps.Step.{at_port, read_some, read_end, read_failed, scanned, line_over, wrote, gave_up, turned}
+use Rattle.stream_host.specs.Steps.Step.{at_port, read_some, read_end, read_failed, scanned, line_over, wrote, gave_up, turned, attends}
 use Rattle.stream_host.specs.Conduct.{Conducted, AreAnswered, MayStore, Waits, waits_for_lines}
 use Rattle.stream_host.specs.Ports.{queries_in}
 use Rattle.stream_host.specs.Ran.{AreRaised}
@@ -74,32 +74,79 @@ is_enough n e = grind (arith, nat_tests)
 pub is_fewer : (n : ℕ) → n ≤ empty_polls → nat_eq n empty_polls ≡ false → n < empty_polls
 is_fewer n few e = grind (arith, nat_tests)
 
+-- nothing is resumed for a sender that stands by, else at so many polls
+no_resume : (attended closed : Bool) (n : ℕ) → (attended ≡ false) ⊎ (closed ≡ true) → resumes_behind attended closed n ≡ false → nat_eq n empty_polls ≡ false
+no_resume true true n by e = e
+no_resume true false n (inl by) e = absurd cc
+no_resume true false n (inr by) e = absurd cc
+no_resume false closed n by e = e
+
+pub resumes_at : (attended closed : Bool) (n : ℕ) → resumes_behind attended closed n ≡ true → n ≡ empty_polls
+resumes_at true true n e = is_enough n e
+resumes_at true false n e = absurd cc
+resumes_at false closed n e = is_enough n e
+
 few_or_none : (t : Bool) (n : ℕ) → n ≤ empty_polls → cond t 0 n ≤ empty_polls
 few_or_none true n few = omega arith
 few_or_none false n few = few
 
--- no more than so many polls in a row find no reply before the host resumes
-pub few_polls : (room : ℕ) (h : Journal) → Conducted room h → polls_of h ≤ empty_polls
-few_polls room [] c = omega arith
-few_polls room (at_port (stored b) ∷ h) c = few_polls room h c.1
-few_polls room (at_port (dropped b) ∷ h) c = absurd c.0
-few_polls room (at_port marked ∷ h) c = few_polls room h c.1
-few_polls room (at_port (raised b down) ∷ h) c = few_or_none (nat_eq (polls_of h) empty_polls) (polls_of h) (few_polls room h c.1)
-few_polls room (at_port (got r) ∷ h) c = omega arith
-few_polls room (at_port no_reply ∷ h) c = let r = c.0.rested in omega arith
-few_polls room (at_port shut ∷ h) c = few_polls room h c.1
-few_polls room (read_some bytes ∷ h) c = few_polls room h c.1
-few_polls room (read_end ∷ h) c = few_polls room h c.1
-few_polls room (read_failed ∷ h) c = few_polls room h c.1
-few_polls room (scanned b ∷ h) c = few_polls room h c.1
-few_polls room (line_over ∷ h) c = few_polls room h c.1
-few_polls room (wrote n ∷ h) c = few_polls room h c.1
-few_polls room (gave_up ∷ h) c = few_polls room h c.1
-few_polls room (turned t ∷ h) c = few_polls room h c.1
+-- the polls behind the closing of the link
+few_closed : (t : Bool) (n : ℕ) → (t ≡ false → n ≤ empty_polls) → cond t 0 n ≤ empty_polls
+few_closed true n few = omega arith
+few_closed false n few = few refl
 
-rested_by : (t : Bool) (polls resumes empty : ℕ) → nat_eq polls empty_polls ≡ t → empty_polls * resumes + polls ≤ empty → empty_polls * cond t (resumes + 1) resumes + cond t 0 polls ≤ empty
-rested_by true polls resumes empty e was = let n = is_enough polls e in omega arith
-rested_by false polls resumes empty e was = was
+-- no more than so many polls in a row find no reply before the host resumes, where no sender stands by
+pub few_polls : (room : ℕ) (h : Journal) → Conducted room h → (is_attended h ≡ false) ⊎ (is_shut h ≡ true) → polls_of h ≤ empty_polls
+few_polls room [] c by = omega arith
+few_polls room (at_port (stored b) ∷ h) c by = few_polls room h c.1 by
+few_polls room (at_port (dropped b) ∷ h) c by = absurd c.0
+few_polls room (at_port marked ∷ h) c by = few_polls room h c.1 by
+few_polls room (at_port (raised b down) ∷ h) c by = few_or_none (resumes_next h) (polls_of h) (few_polls room h c.1 by)
+few_polls room (at_port (got r) ∷ h) c by = omega arith
+few_polls room (at_port no_reply ∷ h) c by = let m = is_fewer (polls_of h) (few_polls room h c.1 by) (no_resume (is_attended h) (is_shut h) (polls_of h) by c.0.rested) in omega arith
+few_polls room (at_port shut ∷ h) c by = few_closed (is_attended h) (polls_of h) (λ e. few_polls room h c.1 (inl e))
+few_polls room (read_some bytes ∷ h) c by = few_polls room h c.1 by
+few_polls room (read_end ∷ h) c by = few_polls room h c.1 by
+few_polls room (read_failed ∷ h) c by = few_polls room h c.1 by
+few_polls room (scanned b ∷ h) c by = few_polls room h c.1 by
+few_polls room (line_over ∷ h) c by = few_polls room h c.1 by
+few_polls room (wrote n ∷ h) c by = few_polls room h c.1 by
+few_polls room (gave_up ∷ h) c by = few_polls room h c.1 by
+few_polls room (turned t ∷ h) c by = few_polls room h c.1 by
+few_polls room (attends ∷ h) c by = let e = ap polls_of c.0 in omega arith
+
+alone_by : (attended closed : Bool) (n resumes : ℕ) → attended ≡ true → closed ≡ false → resumes ≡ 0 → cond (resumes_behind attended closed n) (resumes + 1) resumes ≡ 0
+alone_by true false n resumes a s none = none
+alone_by true true n resumes a s none = absurd cc
+alone_by false closed n resumes a s none = absurd cc
+
+-- while the link is open, a host whose sender stands by resumes nothing
+pub never_resumes : (room : ℕ) (h : Journal) → Conducted room h → is_attended h ≡ true → is_shut h ≡ false → resumes_of h ≡ 0
+never_resumes room [] c a s = refl
+never_resumes room (at_port (stored b) ∷ h) c a s = never_resumes room h c.1 a s
+never_resumes room (at_port (dropped b) ∷ h) c a s = absurd c.0
+never_resumes room (at_port marked ∷ h) c a s = never_resumes room h c.1 a s
+never_resumes room (at_port (raised b down) ∷ h) c a s = alone_by (is_attended h) (is_shut h) (polls_of h) (resumes_of h) a s (never_resumes room h c.1 a s)
+never_resumes room (at_port (got r) ∷ h) c a s = never_resumes room h c.1 a s
+never_resumes room (at_port no_reply ∷ h) c a s = never_resumes room h c.1 a s
+never_resumes room (at_port shut ∷ h) c a s = absurd cc
+never_resumes room (read_some bytes ∷ h) c a s = never_resumes room h c.1 a s
+never_resumes room (read_end ∷ h) c a s = never_resumes room h c.1 a s
+never_resumes room (read_failed ∷ h) c a s = never_resumes room h c.1 a s
+never_resumes room (scanned b ∷ h) c a s = never_resumes room h c.1 a s
+never_resumes room (line_over ∷ h) c a s = never_resumes room h c.1 a s
+never_resumes room (wrote n ∷ h) c a s = never_resumes room h c.1 a s
+never_resumes room (gave_up ∷ h) c a s = never_resumes room h c.1 a s
+never_resumes room (turned t ∷ h) c a s = never_resumes room h c.1 a s
+never_resumes room (attends ∷ h) c a s = ap resumes_of c.0
+
+rested_by : (t : Bool) (polls resumes empty : ℕ) → (t ≡ true → polls ≡ empty_polls) → empty_polls * resumes + polls ≤ empty → empty_polls * cond t (resumes + 1) resumes + cond t 0 polls ≤ empty
+rested_by true polls resumes empty enough was = let n = enough refl in omega arith
+rested_by false polls resumes empty enough was = was
+
+rested_shut : (t : Bool) (polls resumes empty : ℕ) → empty_polls * resumes + polls ≤ empty → empty_polls * resumes + cond t 0 polls ≤ empty
+rested_shut true polls resumes empty was = omega arith
+rested_shut false polls resumes empty was = was
 
 -- so many polls of its own stand before each resume
 pub rested_is : (room : ℕ) (h : Journal) → Conducted room h → empty_polls * resumes_of h + polls_of h ≤ all_empty_in (port_log h)
@@ -107,10 +154,10 @@ rested_is room [] c = omega arith
 rested_is room (at_port (stored b) ∷ h) c = rested_is room h c.1
 rested_is room (at_port (dropped b) ∷ h) c = absurd c.0
 rested_is room (at_port marked ∷ h) c = rested_is room h c.1
-rested_is room (at_port (raised b down) ∷ h) c = rested_by (nat_eq (polls_of h) empty_polls) (polls_of h) (resumes_of h) (all_empty_in (port_log h)) refl (rested_is room h c.1)
+rested_is room (at_port (raised b down) ∷ h) c = rested_by (resumes_next h) (polls_of h) (resumes_of h) (all_empty_in (port_log h)) (resumes_at (is_attended h) (is_shut h) (polls_of h)) (rested_is room h c.1)
 rested_is room (at_port (got r) ∷ h) c = let m = rested_is room h c.1 in omega arith
 rested_is room (at_port no_reply ∷ h) c = let m = rested_is room h c.1 in omega arith
-rested_is room (at_port shut ∷ h) c = rested_is room h c.1
+rested_is room (at_port shut ∷ h) c = rested_shut (is_attended h) (polls_of h) (resumes_of h) (all_empty_in (port_log h)) (rested_is room h c.1)
 rested_is room (read_some bytes ∷ h) c = rested_is room h c.1
 rested_is room (read_end ∷ h) c = rested_is room h c.1
 rested_is room (read_failed ∷ h) c = rested_is room h c.1
@@ -119,6 +166,7 @@ rested_is room (line_over ∷ h) c = rested_is room h c.1
 rested_is room (wrote n ∷ h) c = rested_is room h c.1
 rested_is room (gave_up ∷ h) c = rested_is room h c.1
 rested_is room (turned t ∷ h) c = rested_is room h c.1
+rested_is room (attends ∷ h) c = rested_is room h c.1
 
 -- ---- what is raised for the lines is what is scanned, but for what is due
 
@@ -128,11 +176,11 @@ served_line lines raw =
     ap (λ (t : List ℕ). flat_map served (lines ++ raw ∷ []) ++ t) served_nil ∙ append-nil (flat_map served (lines ++ raw ∷ []))
     ∙ flat_map-append served lines (raw ∷ []) ∙ ap (λ (t : List ℕ). flat_map served lines ++ t) (append-nil (served raw))
 
-on_raise : (b polls : ℕ) (t : Bool) (gone due all : List ℕ) → nat_eq polls empty_polls ≡ t → polls ≤ empty_polls → (polls < empty_polls → due ≡ b ∷ drop 1 due) → gone ++ due ≡ all
+on_raise : (b : ℕ) (t : Bool) (gone due all : List ℕ) → (t ≡ false → due ≡ b ∷ drop 1 due) → gone ++ due ≡ all
     → cond t gone (gone ++ b ∷ []) ++ cond t due (drop 1 due) ≡ all
-on_raise b polls true gone due all e few next was = was
-on_raise b polls false gone due all e few next was =
-    append_assoc gone (b ∷ []) (drop 1 due) ∙ ap (λ (t : List ℕ). gone ++ t) (sym (next (is_fewer polls few e))) ∙ was
+on_raise b true gone due all next was = was
+on_raise b false gone due all next was =
+    append_assoc gone (b ∷ []) (drop 1 due) ∙ ap (λ (t : List ℕ). gone ++ t) (sym (next refl)) ∙ was
 
 on_byte : (b : ℕ) (gone due raw : List ℕ) (lines : List (List ℕ)) (t : Bool) → nat_eq b 10 ≡ t → gone ++ due ≡ flat_map served lines ++ served raw
     → gone ++ (due ++ more_served raw b) ≡ flat_map served (cond t (lines ++ raw ∷ []) lines) ++ served (cond t [] (raw ++ b ∷ []))
@@ -148,7 +196,7 @@ in_lines room (at_port (stored b) ∷ h) c = in_lines room h c.1
 in_lines room (at_port (dropped b) ∷ h) c = absurd c.0
 in_lines room (at_port marked ∷ h) c = in_lines room h c.1
 in_lines room (at_port (raised b down) ∷ h) c =
-    on_raise b (polls_of h) (nat_eq (polls_of h) empty_polls) (line_raises_of h) (due_of h) (flat_map served (cut_of h) ++ served (raw_of h)) refl (few_polls room h c.1) c.0.next (in_lines room h c.1)
+    on_raise b (resumes_next h) (line_raises_of h) (due_of h) (flat_map served (cut_of h) ++ served (raw_of h)) c.0.next (in_lines room h c.1)
 in_lines room (at_port (got r) ∷ h) c = in_lines room h c.1
 in_lines room (at_port no_reply ∷ h) c = in_lines room h c.1
 in_lines room (at_port shut ∷ h) c = in_lines room h c.1
@@ -160,6 +208,7 @@ in_lines room (line_over ∷ h) c = in_lines room h c.1 ∙ sym (served_line (cu
 in_lines room (wrote n ∷ h) c = in_lines room h c.1
 in_lines room (gave_up ∷ h) c = in_lines room h c.1
 in_lines room (turned t ∷ h) c = in_lines room h c.1
+in_lines room (attends ∷ h) c = in_lines room h c.1
 
 -- the bytes that stood in a line are raised in order, and the rest is due
 pub in_order : (room : ℕ) (h : Journal) → Conducted room h → line_raises_of h ++ due_of h ≡ served_in (scanned_of h)
@@ -183,15 +232,15 @@ in_order room h c = in_lines room h c ∙ by_cut (cut_is room h c)
 count_on : (p : ℕ → Bool) (xs ys : List ℕ) → count_by p (xs ++ ys) ≡ count_by p xs + count_by p ys
 count_on p xs ys = sum_by-append (λ x. cond (p x) 1 0) xs ys
 
-resumed_by : (p : ℕ → Bool) (b polls resumes : ℕ) (t u : Bool) (all gone : List ℕ) → nat_eq polls empty_polls ≡ t → (polls ≡ empty_polls → b ≡ resume) → p resume ≡ u
+resumed_by : (p : ℕ → Bool) (b resumes : ℕ) (t u : Bool) (all gone : List ℕ) → (t ≡ true → b ≡ resume) → p resume ≡ u
     → count_by p all ≡ count_by p gone + cond u resumes 0 → count_by p (all ++ b ∷ []) ≡ count_by p (cond t gone (gone ++ b ∷ [])) + cond u (cond t (resumes + 1) resumes) 0
-resumed_by p b polls resumes true u all gone e is pass was =
-    count_on p all (b ∷ []) ∙ ap (λ c. count_by p all + count_by p (c ∷ [])) (is (is_enough polls e)) ∙ by_pass u pass was
+resumed_by p b resumes true u all gone is pass was =
+    count_on p all (b ∷ []) ∙ ap (λ c. count_by p all + count_by p (c ∷ [])) (is refl) ∙ by_pass u pass was
   where
     by_pass : (u : Bool) → p resume ≡ u → count_by p all ≡ count_by p gone + cond u resumes 0 → count_by p all + count_by p (resume ∷ []) ≡ count_by p gone + cond u (resumes + 1) 0
     by_pass true pass was = let one = ap (λ x. cond {A = ℕ} x 1 0) pass in omega arith
     by_pass false pass was = let one = ap (λ x. cond {A = ℕ} x 1 0) pass in omega arith
-resumed_by p b polls resumes false u all gone e is pass was = let a = count_on p all (b ∷ []) in let g = count_on p gone (b ∷ []) in omega arith
+resumed_by p b resumes false u all gone is pass was = let a = count_on p all (b ∷ []) in let g = count_on p gone (b ∷ []) in omega arith
 
 with_resumes : (room : ℕ) (p : ℕ → Bool) (h : Journal) → Conducted room h → count_by p (raises_of h) ≡ count_by p (line_raises_of h) + cond (p resume) (resumes_of h) 0
 with_resumes room p [] c = none (p resume)
@@ -203,7 +252,7 @@ with_resumes room p (at_port (stored b) ∷ h) c = with_resumes room p h c.1
 with_resumes room p (at_port (dropped b) ∷ h) c = absurd c.0
 with_resumes room p (at_port marked ∷ h) c = with_resumes room p h c.1
 with_resumes room p (at_port (raised b down) ∷ h) c =
-    resumed_by p b (polls_of h) (resumes_of h) (nat_eq (polls_of h) empty_polls) (p resume) (raises_of h) (line_raises_of h) refl c.0.resumes refl (with_resumes room p h c.1)
+    resumed_by p b (resumes_of h) (resumes_next h) (p resume) (raises_of h) (line_raises_of h) c.0.resumes refl (with_resumes room p h c.1)
 with_resumes room p (at_port (got r) ∷ h) c = with_resumes room p h c.1
 with_resumes room p (at_port no_reply ∷ h) c = with_resumes room p h c.1
 with_resumes room p (at_port shut ∷ h) c = with_resumes room p h c.1
@@ -215,6 +264,7 @@ with_resumes room p (line_over ∷ h) c = with_resumes room p h c.1
 with_resumes room p (wrote n ∷ h) c = with_resumes room p h c.1
 with_resumes room p (gave_up ∷ h) c = with_resumes room p h c.1
 with_resumes room p (turned t ∷ h) c = with_resumes room p h c.1
+with_resumes room p (attends ∷ h) c = with_resumes room p h c.1
 
 pub raised_is : (room : ℕ) (h : Journal) → Conducted room h → AreRaised (scanned_of h) (raises_of h) (due_of h) (resumes_of h)
 raised_is room h c p =
@@ -244,7 +294,7 @@ calm_is room (at_port (dropped b) ∷ h) c = absurd c.0
 calm_is room (at_port marked ∷ h) c = calm_is room h c.1
 calm_is room (at_port (raised b down) ∷ h) c = elim (calm_is room h c.1) [
   | inl free ↦ inl free
-  | inr none ↦ inr (still_none (resumes_next (port_log h)) (due_of h) none)
+  | inr none ↦ inr (still_none (resumes_next h) (due_of h) none)
 ]
 calm_is room (at_port (got r) ∷ h) c = calm_is room h c.1
 calm_is room (at_port no_reply ∷ h) c = calm_is room h c.1
@@ -257,6 +307,7 @@ calm_is room (line_over ∷ h) c = inr c.0.none_due
 calm_is room (wrote n ∷ h) c = calm_is room h c.1
 calm_is room (gave_up ∷ h) c = calm_is room h c.1
 calm_is room (turned t ∷ h) c = calm_is room h c.1
+calm_is room (attends ∷ h) c = calm_is room h c.1
 
 pub none_due_first : (room : ℕ) (b : ℕ) (h : Journal) → Conducted room h → MayStore room b h → due_of h ≡ []
 none_due_first room b h c may = elim (calm_is room h c) [
@@ -269,7 +320,7 @@ none_due_shut room [] c e calm = absurd cc
 none_due_shut room (at_port (stored b) ∷ h) c e calm = none_due_shut room h c.1 e calm
 none_due_shut room (at_port (dropped b) ∷ h) c e calm = absurd c.0
 none_due_shut room (at_port marked ∷ h) c e calm = none_due_shut room h c.1 e calm
-none_due_shut room (at_port (raised b down) ∷ h) c e calm = still_none (resumes_next (port_log h)) (due_of h) (none_due_shut room h c.1 e calm)
+none_due_shut room (at_port (raised b down) ∷ h) c e calm = still_none (resumes_next h) (due_of h) (none_due_shut room h c.1 e calm)
 none_due_shut room (at_port (got r) ∷ h) c e calm = none_due_shut room h c.1 e (calm_before (got_of h) r calm)
 none_due_shut room (at_port no_reply ∷ h) c e calm = none_due_shut room h c.1 e calm
 none_due_shut room (at_port shut ∷ h) c e calm = calm_one h calm c.0.all_raised
@@ -281,6 +332,7 @@ none_due_shut room (line_over ∷ h) c e calm = open_link h c.0.going e
 none_due_shut room (wrote n ∷ h) c e calm = none_due_shut room h c.1 e calm
 none_due_shut room (gave_up ∷ h) c e calm = none_due_shut room h c.1 e calm
 none_due_shut room (turned t ∷ h) c e calm = none_due_shut room h c.1 e calm
+none_due_shut room (attends ∷ h) c e calm = none_due_shut room h c.1 e calm
 
 resumes_only : waits_for_lines resume ≡ true → ⊥
 resumes_only e = cc
@@ -289,12 +341,12 @@ no_reset : is_reset resume ≡ true → ⊥
 no_reset e = cc
 
 -- a host that waits may raise no byte that is due: it is a `?` or a cancel, and a line before its own has no answer
-pub early_waiting : (room : ℕ) (b : ℕ) (h : Journal) → Conducted room h → has_limit h ≡ false → Waits room h → due_of h ≡ b ∷ drop 1 (due_of h) → (waits_for_lines b ≡ true → AreAnswered h) → (is_reset b ≡ true → resets_of h < length (marks_of h)) → ⊥
-early_waiting room b h c calm w next after behind = by_polls (nat_eq (polls_of h) empty_polls) refl
+pub early_waiting : (room : ℕ) (b : ℕ) (h : Journal) → Conducted room h → has_limit h ≡ false → Waits room h → due_of h ≡ b ∷ drop 1 (due_of h) → (is_attended h ≡ false → waits_for_lines b ≡ true → AreAnswered h) → (is_reset b ≡ true → resets_of h < length (marks_of h)) → ⊥
+early_waiting room b h c calm w next after behind = by_polls (resumes_next h) refl
   where
-    by_polls : (t : Bool) → nat_eq (polls_of h) empty_polls ≡ t → ⊥
-    by_polls true e = w.no_raise resume (record { resumes = λ n. refl; calm = λ fewer. calm; next = λ fewer. absurd (let n = is_enough (polls_of h) e in omega arith); after = λ q. absurd (resumes_only q); behind_mark = λ q. absurd (no_reset q) })
-    by_polls false e = w.no_raise b (record { resumes = λ n. absurd (let m = is_fewer (polls_of h) (few_polls room h c) e in omega arith); calm = λ fewer. calm; next = λ fewer. next; after = after; behind_mark = behind })
+    by_polls : (t : Bool) → resumes_next h ≡ t → ⊥
+    by_polls true e = w.no_raise resume (record { resumes = λ n. refl; calm = λ fewer. calm; next = λ fewer. absurd (let n = sym e ∙ fewer in cc); after = λ a q. absurd (resumes_only q); behind_mark = λ q. absurd (no_reset q) })
+    by_polls false e = w.no_raise b (record { resumes = λ n. absurd (let m = sym e ∙ n in cc); calm = λ fewer. calm; next = λ fewer. next; after = after; behind_mark = behind })
 
 -- ---- the reports that are asked for
 
@@ -330,8 +382,8 @@ few_queries room (at_port (stored b) ∷ h) c = few_queries room h c.1
 few_queries room (at_port (dropped b) ∷ h) c = absurd c.0
 few_queries room (at_port marked ∷ h) c = few_queries room h c.1
 few_queries room (at_port (raised b down) ∷ h) c =
-    asked_by b (queries_in (port_log h)) (length (scanned_of h)) (nat_eq (polls_of h) empty_polls) (nat_eq b query) (due_of h) refl
-    (λ e. c.0.resumes (is_enough (polls_of h) e)) (λ e. c.0.next (is_fewer (polls_of h) (few_polls room h c.1) e)) (few_queries room h c.1)
+    asked_by b (queries_in (port_log h)) (length (scanned_of h)) (resumes_next h) (nat_eq b query) (due_of h) refl
+    (λ e. c.0.resumes e) (λ e. c.0.next e) (few_queries room h c.1)
 few_queries room (at_port (got r) ∷ h) c = few_queries room h c.1
 few_queries room (at_port no_reply ∷ h) c = few_queries room h c.1
 few_queries room (at_port shut ∷ h) c = few_queries room h c.1
@@ -345,3 +397,4 @@ few_queries room (line_over ∷ h) c = few_queries room h c.1
 few_queries room (wrote n ∷ h) c = few_queries room h c.1
 few_queries room (gave_up ∷ h) c = few_queries room h c.1
 few_queries room (turned t ∷ h) c = few_queries room h c.1
+few_queries room (attends ∷ h) c = few_queries room h c.1

@@ -14,12 +14,12 @@ use Rattle.run_rules.specs.Reports.{is_query, asks_report, reports_behind, AreRe
 use Rattle.stream_host.specs.declared.line.Asking.{Asking}
 use Rattle.stream_host.specs.declared.line.Asking.TheVariants.{Nothing, Awaits, HasOne, AsksAgain}
 use Rattle.stream_host.specs.Jobs.{resume, sent_text, served}
-use Rattle.stream_host.specs.Steps.{asked_more, got_one, is_waiting, awaits_report, more_served, Journal, got_of, answered_of, port_log, latest_got, begins, raw_of, live_of, to_store, begun_of, due_of, asking_of, polls_of, empty_polls}
+use Rattle.stream_host.specs.Steps.{asked_more, got_one, is_waiting, awaits_report, more_served, Journal, got_of, answered_of, port_log, latest_got, begins, raw_of, live_of, to_store, begun_of, due_of, asking_of, resumes_next, is_attended}
 use Rattle.stream_host.specs.Steps.PortStep.{stored, dropped, marked, raised, got, no_reply, shut}
-use Rattle.stream_host.specs.Steps.Step.{at_port, read_some, read_end, read_failed, scanned, line_over, wrote, gave_up, turned}
+use Rattle.stream_host.specs.Steps.Step.{at_port, read_some, read_end, read_failed, scanned, line_over, wrote, gave_up, turned, attends}
 use Rattle.stream_host.specs.Conduct.{Conducted, MayRaise, MayScanNext, MayEndLine, waits_for_lines}
 use Rattle.stream_host.proofs.Sending.{counts_are, answers_push}
-use Rattle.stream_host.proofs.Raising.{served_nil, served_on, none_at_lf, few_polls, is_enough, is_fewer}
+use Rattle.stream_host.proofs.Raising.{served_nil, served_on, none_at_lf}
 use Rattle.stream_host.proofs.Epochs.{answered_live, begins_free, both_true}
 use Rattle.stream_host.proofs.Waiting.{IsFresh, IsBegun, begun_is, all_begun, few_fresh}
 
@@ -100,22 +100,22 @@ no_query b false due tired next none = by_or (nat_eq b query) (has_query (drop 1
     by_or true y e = absurd cc
     by_or false y e = (refl, e)
 
-raised_asked : (room : ℕ) (b : ℕ) (down : Bool) (h : Journal) → Conducted room h → MayRaise b h → AreAsked h → AreAsked (at_port (raised b down) ∷ h)
-raised_asked room b down h c may was = (
-  (λ some. on_raise b (nat_eq (polls_of h) empty_polls) (nat_eq b query) (asking_of h) (due_of h) (raw_of h) (length (live_of h)) (reports_in (length (live_of h)) (got_of h)) (answered_of h) refl tired next
-      (λ e. let f = may.after (ap waits_for_lines (is_same b e)) in omega arith) (was.0 some)),
-  (λ f. let w = was.1 f in let n = no_query b (nat_eq (polls_of h) empty_polls) (due_of h) tired next w.1 in (
-    on_raise b (nat_eq (polls_of h) empty_polls) (nat_eq b query) (asking_of h) (due_of h) f.line (length (begun_of h)) (reports_in (length (begun_of h)) (got_of h)) (answered_of h) refl tired next
+raised_asked : (room : ℕ) (b : ℕ) (down : Bool) (h : Journal) → Conducted room h → is_attended h ≡ false → MayRaise b h → AreAsked h → AreAsked (at_port (raised b down) ∷ h)
+raised_asked room b down h c alone may was = (
+  (λ some. on_raise b (resumes_next h) (nat_eq b query) (asking_of h) (due_of h) (raw_of h) (length (live_of h)) (reports_in (length (live_of h)) (got_of h)) (answered_of h) refl tired next
+      (λ e. let f = may.after alone (ap waits_for_lines (is_same b e)) in omega arith) (was.0 some)),
+  (λ f. let w = was.1 f in let n = no_query b (resumes_next h) (due_of h) tired next w.1 in (
+    on_raise b (resumes_next h) (nat_eq b query) (asking_of h) (due_of h) f.line (length (begun_of h)) (reports_in (length (begun_of h)) (got_of h)) (answered_of h) refl tired next
         (λ e. absurd (let g = sym n.0 ∙ e in cc)) w.0,
     n.1,
   )),
 )
   where
-    tired : nat_eq (polls_of h) empty_polls ≡ true → b ≡ resume
-    tired e = may.resumes (is_enough (polls_of h) e)
+    tired : resumes_next h ≡ true → b ≡ resume
+    tired e = may.resumes e
 
-    next : nat_eq (polls_of h) empty_polls ≡ false → due_of h ≡ b ∷ drop 1 (due_of h)
-    next e = may.next (is_fewer (polls_of h) (few_polls room h c) e)
+    next : resumes_next h ≡ false → due_of h ≡ b ∷ drop 1 (due_of h)
+    next e = may.next e
 
     is_same : (b : ℕ) → nat_eq b query ≡ true → b ≡ query
     is_same b e = grind (arith, nat_tests)
@@ -283,23 +283,24 @@ end_asked room h c may was = (
       )),
 )
 
-asked_is : (room : ℕ) (h : Journal) → Conducted room h → AreAsked h
-asked_is room [] c = ((λ some. absurd (let s : 0 < 0 = some in omega arith)), (λ f. absurd (let l = ap length f.one in omega arith)))
-asked_is room (at_port (stored b) ∷ h) c = ((asked_is room h c.1).0, (λ f. absurd (let l = ap length f.one in let m = length-append (live_of h) (f.line ∷ []) in omega arith)))
-asked_is room (at_port (dropped b) ∷ h) c = absurd c.0
-asked_is room (at_port marked ∷ h) c = asked_is room h c.1
-asked_is room (at_port (raised b down) ∷ h) c = raised_asked room b down h c.1 c.0 (asked_is room h c.1)
-asked_is room (at_port (got r) ∷ h) c = got_asked room r h c (asked_is room h c.1)
-asked_is room (at_port no_reply ∷ h) c = asked_is room h c.1
-asked_is room (at_port shut ∷ h) c = asked_is room h c.1
-asked_is room (read_some bytes ∷ h) c = asked_is room h c.1
-asked_is room (read_end ∷ h) c = asked_is room h c.1
-asked_is room (read_failed ∷ h) c = asked_is room h c.1
-asked_is room (scanned b ∷ h) c = scan_asked room b h c.1 c.0 (asked_is room h c.1)
-asked_is room (line_over ∷ h) c = end_asked room h c.1 c.0 (asked_is room h c.1)
-asked_is room (wrote n ∷ h) c = asked_is room h c.1
-asked_is room (gave_up ∷ h) c = asked_is room h c.1
-asked_is room (turned t ∷ h) c = asked_is room h c.1
+asked_is : (room : ℕ) (h : Journal) → Conducted room h → is_attended h ≡ false → AreAsked h
+asked_is room [] c alone = ((λ some. absurd (let s : 0 < 0 = some in omega arith)), (λ f. absurd (let l = ap length f.one in omega arith)))
+asked_is room (at_port (stored b) ∷ h) c alone = ((asked_is room h c.1 alone).0, (λ f. absurd (let l = ap length f.one in let m = length-append (live_of h) (f.line ∷ []) in omega arith)))
+asked_is room (at_port (dropped b) ∷ h) c alone = absurd c.0
+asked_is room (at_port marked ∷ h) c alone = asked_is room h c.1 alone
+asked_is room (at_port (raised b down) ∷ h) c alone = raised_asked room b down h c.1 alone c.0 (asked_is room h c.1 alone)
+asked_is room (at_port (got r) ∷ h) c alone = got_asked room r h c (asked_is room h c.1 alone)
+asked_is room (at_port no_reply ∷ h) c alone = asked_is room h c.1 alone
+asked_is room (at_port shut ∷ h) c alone = asked_is room h c.1 alone
+asked_is room (read_some bytes ∷ h) c alone = asked_is room h c.1 alone
+asked_is room (read_end ∷ h) c alone = asked_is room h c.1 alone
+asked_is room (read_failed ∷ h) c alone = asked_is room h c.1 alone
+asked_is room (scanned b ∷ h) c alone = scan_asked room b h c.1 c.0 (asked_is room h c.1 alone)
+asked_is room (line_over ∷ h) c alone = end_asked room h c.1 c.0 (asked_is room h c.1 alone)
+asked_is room (wrote n ∷ h) c alone = asked_is room h c.1 alone
+asked_is room (gave_up ∷ h) c alone = asked_is room h c.1 alone
+asked_is room (turned t ∷ h) c alone = asked_is room h c.1 alone
+asked_is room (attends ∷ h) c alone = absurd cc
 
 -- ---- each line that is begun has its report
 
@@ -343,30 +344,31 @@ begun_reported : (h : Journal) → IsBegun h → AreAsked h → awaits_report h 
 begun_reported h (inl e) asked none are = subst (λ (ls : List (List ℕ)). HaveReports ls (got_of h)) e are
 begun_reported h (inr f) asked none are = fresh_reported h f asked none are
 
-begun_have : (room : ℕ) (h : Journal) → Conducted room h → HaveReports (begun_of h) (got_of h)
+begun_have : (room : ℕ) (h : Journal) → Conducted room h → is_attended h ≡ false → HaveReports (begun_of h) (got_of h)
 unfolding HaveReports
-begun_have room [] c = λ k inside asked. absurd (let s : k < 0 = inside in omega arith)
-begun_have room (at_port (stored b) ∷ h) c = begun_reported h (begun_is room h c.1) (asked_is room h c.1) c.0.reported (begun_have room h c.1)
-begun_have room (at_port (dropped b) ∷ h) c = absurd c.0
-begun_have room (at_port marked ∷ h) c = begun_have room h c.1
-begun_have room (at_port (raised b down) ∷ h) c = begun_have room h c.1
-begun_have room (at_port (got r) ∷ h) c = by_begins (begins r (port_log h)) (more_reports (begun_of h) r (got_of h) (begun_have room h c.1))
+begun_have room [] c alone = λ k inside asked. absurd (let s : k < 0 = inside in omega arith)
+begun_have room (at_port (stored b) ∷ h) c alone = begun_reported h (begun_is room h c.1) (asked_is room h c.1 alone) c.0.reported (begun_have room h c.1 alone)
+begun_have room (at_port (dropped b) ∷ h) c alone = absurd c.0
+begun_have room (at_port marked ∷ h) c alone = begun_have room h c.1 alone
+begun_have room (at_port (raised b down) ∷ h) c alone = begun_have room h c.1 alone
+begun_have room (at_port (got r) ∷ h) c alone = by_begins (begins r (port_log h)) (more_reports (begun_of h) r (got_of h) (begun_have room h c.1 alone))
   where
     by_begins : (t : Bool) → HaveReports (begun_of h) (got_of h ++ r ∷ []) → HaveReports (cond t (take (answered_of h) (begun_of h)) (begun_of h)) (got_of h ++ r ∷ [])
     by_begins true are = λ k inside asked.
         let l = length-take (answered_of h) (begun_of h) in
         are k (omega arith) (ap asks (sym (get_or-take (answered_of h) (begun_of h) k [] (omega arith))) ∙ asked)
     by_begins false are = are
-begun_have room (at_port no_reply ∷ h) c = begun_have room h c.1
-begun_have room (at_port shut ∷ h) c = begun_have room h c.1
-begun_have room (read_some bytes ∷ h) c = begun_have room h c.1
-begun_have room (read_end ∷ h) c = begun_have room h c.1
-begun_have room (read_failed ∷ h) c = begun_have room h c.1
-begun_have room (scanned b ∷ h) c = begun_have room h c.1
-begun_have room (line_over ∷ h) c = begun_have room h c.1
-begun_have room (wrote n ∷ h) c = begun_have room h c.1
-begun_have room (gave_up ∷ h) c = begun_have room h c.1
-begun_have room (turned t ∷ h) c = begun_have room h c.1
+begun_have room (at_port no_reply ∷ h) c alone = begun_have room h c.1 alone
+begun_have room (at_port shut ∷ h) c alone = begun_have room h c.1 alone
+begun_have room (read_some bytes ∷ h) c alone = begun_have room h c.1 alone
+begun_have room (read_end ∷ h) c alone = begun_have room h c.1 alone
+begun_have room (read_failed ∷ h) c alone = begun_have room h c.1 alone
+begun_have room (scanned b ∷ h) c alone = begun_have room h c.1 alone
+begun_have room (line_over ∷ h) c alone = begun_have room h c.1 alone
+begun_have room (wrote n ∷ h) c alone = begun_have room h c.1 alone
+begun_have room (gave_up ∷ h) c alone = begun_have room h c.1 alone
+begun_have room (turned t ∷ h) c alone = begun_have room h c.1 alone
+begun_have room (attends ∷ h) c alone = absurd cc
 
 -- a `?` outside comments is raised
 asks_is : (line : List ℕ) → asks line ≡ asks_report line
@@ -374,14 +376,14 @@ unfolding asks
 asks_is line = refl
 
 -- each line that asks for a report and has its answer has a report behind the answers to the lines before it
-pub reported_is : (room : ℕ) (h : Journal) → Conducted room h → AreReported (live_of h) (got_of h)
+pub reported_is : (room : ℕ) (h : Journal) → Conducted room h → is_attended h ≡ false → AreReported (live_of h) (got_of h)
 unfolding HaveReports reports_in
-reported_is room h c k inside wants = by_begun (begun_is room h c)
+reported_is room h c alone k inside wants = by_begun (begun_is room h c)
   where
     by_begun : IsBegun h → 0 < reports_in k (got_of h)
     by_begun (inl e) =
         let few = (counts_are room h c).1 in let l = ap length e in
-        begun_have room h c k (omega arith) (ap (λ (ls : List (List ℕ)). asks (get_or ls k [])) e ∙ asks_is (get_or (live_of h) k []) ∙ wants)
+        begun_have room h c alone k (omega arith) (ap (λ (ls : List (List ℕ)). asks (get_or ls k [])) e ∙ asks_is (get_or (live_of h) k []) ∙ wants)
     by_begun (inr f) =
         let few = few_fresh room h c f in let l : k < length (begun_of h) = omega arith in
-        begun_have room h c k l (ap asks (sym (ap (λ (ls : List (List ℕ)). get_or ls k []) f.one ∙ get_or_append_left (begun_of h) (f.line ∷ []) [] k l)) ∙ asks_is (get_or (live_of h) k []) ∙ wants)
+        begun_have room h c alone k l (ap asks (sym (ap (λ (ls : List (List ℕ)). get_or ls k []) f.one ∙ get_or_append_left (begun_of h) (f.line ∷ []) [] k l)) ∙ asks_is (get_or (live_of h) k []) ∙ wants)

@@ -24,7 +24,7 @@ j1 = turned Did ∷ at_port (got Banner) ∷ j0
 
 c1 : Conducted receive_room j1
 unfolding cut_within reply_text
-c1 = (record { once = omega arith; polls = omega arith }, (record { poll = record { going = refl; rested = omega arith }; lines = record { greeted = start ∷ []; are = record { each = refl; stored = (refl, tt) }; few = omega arith } }, c0))
+c1 = (record { once = omega arith; polls = omega arith }, (record { poll = record { going = refl; rested = refl }; lines = record { greeted = start ∷ []; are = record { each = refl; stored = (refl, tt) }; few = omega arith } }, c0))
 
 abbrev j2 : Journal
 j2 = turned Did ∷ wrote (length (text_of j1)) ∷ j1
@@ -87,21 +87,21 @@ j10 = turned Did ∷ at_port (raised 24 true) ∷ j9
 
 c10 : Conducted receive_room j10
 unfolding cut_within reply_text
-c10 = (record { once = omega arith; polls = omega arith }, (record { resumes = λ e. absurd (omega arith); calm = λ few. refl; next = λ few. refl; after = λ e. absurd cc; behind_mark = λ e. omega arith }, c9))
+c10 = (record { once = omega arith; polls = omega arith }, (record { resumes = λ e. absurd cc; calm = λ few. refl; next = λ few. refl; after = λ a e. absurd cc; behind_mark = λ e. omega arith }, c9))
 
 abbrev j11 : Journal
 j11 = turned (Wait Answer) ∷ at_port no_reply ∷ j10
 
 c11 : Conducted receive_room j11
 unfolding cut_within reply_text
-c11 = ((record { once = omega arith; polls = omega arith }, record { poll = refl; no_read = λ m. absurd (let e = m.epoch in cc); no_scan = λ b m. absurd (let e = m.epoch in cc); no_line = λ m. absurd (let e = m.epoch in cc); no_mark = λ m. absurd (let e = m.next in cc); no_raise = λ b m. absurd (let e = m.next (omega arith) in cc); no_store = λ b m. absurd (let e = m.epoch in cc); no_close = λ m. absurd (let e = m.epoch in cc); written = inr (omega arith) }), (record { going = refl; rested = omega arith }, c10))
+c11 = ((record { once = omega arith; polls = omega arith }, record { poll = refl; no_read = λ m. absurd (let e = m.epoch in cc); no_scan = λ b m. absurd (let e = m.epoch in cc); no_line = λ m. absurd (let e = m.epoch in cc); no_mark = λ m. absurd (let e = m.next in cc); no_raise = λ b m. absurd (let e = m.next refl in cc); no_store = λ b m. absurd (let e = m.epoch in cc); no_close = λ m. absurd (let e = m.epoch in cc); written = inr (omega arith) }), (record { going = refl; rested = refl }, c10))
 
 abbrev j12 : Journal
 j12 = turned Did ∷ at_port (got Banner) ∷ j11
 
 c12 : Conducted receive_room j12
 unfolding cut_within reply_text
-c12 = (record { once = omega arith; polls = omega arith }, (record { poll = record { going = refl; rested = omega arith }; lines = record { greeted = (1, 2) ∷ start ∷ []; are = record { each = refl; stored = ((omega arith, inl refl), (refl, tt)) }; few = omega arith } }, c11))
+c12 = (record { once = omega arith; polls = omega arith }, (record { poll = record { going = refl; rested = refl }; lines = record { greeted = (1, 2) ∷ start ∷ []; are = record { each = refl; stored = ((omega arith, inl refl), (refl, tt)) }; few = omega arith } }, c11))
 
 abbrev j13 : Journal
 j13 = turned Did ∷ wrote (length (text_of j12) - length (text_of j1)) ∷ j12
@@ -143,7 +143,7 @@ j18 = turned Did ∷ at_port (got Ok) ∷ j17
 
 c18 : Conducted receive_room j18
 unfolding cut_within reply_text
-c18 = (record { once = omega arith; polls = omega arith }, (record { poll = record { going = refl; rested = omega arith }; lines = record { greeted = (1, 2) ∷ start ∷ []; are = record { each = refl; stored = ((omega arith, inl refl), (refl, tt)) }; few = omega arith } }, c17))
+c18 = (record { once = omega arith; polls = omega arith }, (record { poll = record { going = refl; rested = refl }; lines = record { greeted = (1, 2) ∷ start ∷ []; are = record { each = refl; stored = ((omega arith, inl refl), (refl, tt)) }; few = omega arith } }, c17))
 
 both_cut : cut_of j18 ≡ (65 ∷ []) ∷ (24 ∷ 66 ∷ []) ∷ []
 both_cut = refl

@@ -1,18 +1,20 @@
 -- A journal that is conducted and finished is a whole run of the host.
-use Rattle.std.proofs.Common.{◌≡◌, ◌≢◌, ℕ, inl, inr, Bool, true, false, not, ◌&&◌, ◌||◌, List, [], length, drop, refl, sym, ap, ◌∙◌, arith, subst, Some, None}
+use Rattle.std.proofs.Common.{◌≡◌, ◌≢◌, ℕ, inl, inr, Bool, true, false, not, ◌&&◌, ◌||◌, List, [], ◌∷◌, ◌++◌, length, drop, refl, sym, ap, ◌∙◌, arith, subst, Some, None}
 use Rattle.std.proofs.lemmas.List.{nil_from_length, length-drop}
 use Rattle.std.proofs.KnownBytes.{Appends-nil}
-use Rattle.std.specs.List.{count_by}
+use Rattle.std.specs.List.{count_by, list_any}
 use Rattle.std.specs.declared.option.Option.{Option}
 use Rattle.std.specs.Io.KnownBytes.{Consumes}
 use Rattle.outside.specs.Causes.{SourceState, SinkState}
 use Rattle.outside.specs.Writing.{Wrote, Took}
+use Rattle.outside.specs.declared.Turn.{Turn}
 use Rattle.stream_host.specs.declared.Reading.{Reading}
 use Rattle.stream_host.specs.declared.Reading.TheVariants.{Ended, Failed, Large, Stopped}
 use Rattle.stream_host.specs.declared.host.Host.{Host}
-use Rattle.stream_host.specs.Steps.{Journal, stored_of, got_of, is_shut, read_of, reading_of, scanned_of, cut_of, live_of, forgotten_of, marks_of, has_limit, stop_of, banners_of, to_store, due_of, raises_of, resumes_of, job_stop_of, text_of, written_of, has_given_up, has_bye, awaits_banner}
+use Rattle.stream_host.specs.Steps.{Journal, stored_of, got_of, is_shut, read_of, reading_of, scanned_of, cut_of, live_of, forgotten_of, marks_of, has_limit, stop_of, banners_of, to_store, due_of, raises_of, resumes_of, job_stop_of, text_of, written_of, has_given_up, has_bye, awaits_banner, is_attended, beginning, port_log}
+use Rattle.stream_host.specs.Steps.Step.{turned, attends}
 use Rattle.stream_host.specs.Conduct.{Conducted, HasSentAll, HasWritten}
-use Rattle.stream_host.specs.Hosts.{HostFits, HostRests, TellsJob, TellsText}
+use Rattle.stream_host.specs.Hosts.{HostFits, HostTurned, HostRests, TellsJob, TellsText, IsBetween, ends_turn}
 use Rattle.stream_host.specs.Links.{banners_in}
 use Rattle.stream_host.specs.Jobs.{is_reset, lacks_banner}
 use Rattle.stream_host.specs.Ran.{AreRaised, is_sent_out, is_out, HostRan, HostRuns, HasFinished, TellsConsole, end_of, is_failed}
@@ -85,7 +87,7 @@ out_is room h c out = by_sent (is_sent_out (is_shut h) (got_of h)) refl out
 
 -- what it has scanned is what its journal says
 pub has_run_of : (room : ℕ) (h : Journal) (job_was job_is : SourceState) (console_was console_is : SinkState) → Conducted room h → HasFinished h → TellsJob h job_was job_is → TellsConsole h console_was console_is
-    → (ran : HostRan room job_was job_is console_was console_is (stored_of h) (marks_of h) (is_shut h) (raises_of h) (got_of h) (end_of h)) × (ran.scanned ≡ scanned_of h)
+    → (ran : HostRan (is_attended h) room job_was job_is console_was console_is (stored_of h) (marks_of h) (is_shut h) (raises_of h) (got_of h) (end_of h)) × (ran.scanned ≡ scanned_of h)
 has_run_of room h job_was job_is console_was console_is c finished job console = (
   record {
     read = read_of h;
@@ -141,7 +143,7 @@ unfolding has_run_of
 ran_forgotten room h job_was job_is console_was console_is c finished job console = refl
 
 pub runs_so_far : (room : ℕ) (h : Journal) (job_was job_is : SourceState) (console_was console_is : SinkState) → Conducted room h → TellsJob h job_was job_is → TellsConsole h console_was console_is
-    → HostRuns room job_was job_is console_was console_is (stored_of h) (marks_of h) (raises_of h) (got_of h)
+    → HostRuns (is_attended h) room job_was job_is console_was console_is (stored_of h) (marks_of h) (raises_of h) (got_of h)
 runs_so_far room h job_was job_is console_was console_is c job console = record {
   read = read_of h;
   reading = reading_of h;
@@ -169,7 +171,7 @@ runs_so_far room h job_was job_is console_was console_is c job console = record 
 
 -- by what it has scanned, and the lines that it has cut
 pub runs_of : (room : ℕ) (h : Journal) (job_was job_is : SourceState) (console_was console_is : SinkState) → Conducted room h → TellsJob h job_was job_is → TellsConsole h console_was console_is
-    → (runs : HostRuns room job_was job_is console_was console_is (stored_of h) (marks_of h) (raises_of h) (got_of h)) × (runs.scanned ≡ scanned_of h) × (runs.lines ≡ cut_of h)
+    → (runs : HostRuns (is_attended h) room job_was job_is console_was console_is (stored_of h) (marks_of h) (raises_of h) (got_of h)) × (runs.scanned ≡ scanned_of h) × (runs.lines ≡ cut_of h)
 unfolding runs_so_far
 runs_of room h job_was job_is console_was console_is c job console = (runs_so_far room h job_was job_is console_was console_is c job console, refl, refl)
 
@@ -197,15 +199,26 @@ nothing_taken None = tt
 nothing_taken (Some bytes) = refl
 
 -- nothing is told before anything is done
-pub tells_nothing : (job : SourceState) → TellsJob [] job job
-tells_nothing job = record { taken = nothing_taken job.left; at_end = λ e. absurd cc; later = omega arith; cause = λ e. absurd cc; same = λ e. refl }
+pub tells_nothing : (attended : Bool) (job : SourceState) → TellsJob (beginning attended) job job
+tells_nothing true job = record { taken = nothing_taken job.left; at_end = λ e. absurd cc; later = omega arith; cause = λ e. absurd cc; same = λ e. refl }
+tells_nothing false job = record { taken = nothing_taken job.left; at_end = λ e. absurd cc; later = omega arith; cause = λ e. absurd cc; same = λ e. refl }
 
-pub shows_nothing : (console : SinkState) → TellsConsole [] console console
-shows_nothing console = record { front = []; back = []; whole = refl; held = Appends-nil console.held; all = λ e. refl; same = λ e. refl; later = omega arith; cause = λ e. absurd cc }
+pub shows_nothing : (attended : Bool) (console : SinkState) → TellsConsole (beginning attended) console console
+shows_nothing true console = record { front = []; back = []; whole = refl; held = Appends-nil console.held; all = λ e. refl; same = λ e. refl; later = omega arith; cause = λ e. absurd cc }
+shows_nothing false console = record { front = []; back = []; whole = refl; held = Appends-nil console.held; all = λ e. refl; same = λ e. refl; later = omega arith; cause = λ e. absurd cc }
+
+-- nor was a port called
+pub logs_nothing : (attended : Bool) → port_log (beginning attended) ≡ []
+logs_nothing true = refl
+logs_nothing false = refl
+
+pub between_nothing : (attended : Bool) → IsBetween (beginning attended)
+between_nothing true = refl
+between_nothing false = refl
 
 -- nor is anything waiting in the text of a host that has done nothing
-pub new_shows_nothing : {room : ℕ} (host : Host) (now : SinkState) → HostFits room host [] → TellsText host.text [] now now
-new_shows_nothing {room} host now f = let failed = f.text_is.failed_is in record {
+pub new_shows_nothing : {room : ℕ} (attended : Bool) (host : Host) (now : SinkState) → HostFits room host (beginning attended) → TellsText host.text (beginning attended) now now
+new_shows_nothing {room} true host now f = let failed = f.text_is.failed_is in record {
   front = [];
   back = [];
   whole = refl;
@@ -215,3 +228,35 @@ new_shows_nothing {room} host now f = let failed = f.text_is.failed_is in record
   later = omega arith;
   cause = λ e. absurd cc;
 }
+new_shows_nothing {room} false host now f = let failed = f.text_is.failed_is in record {
+  front = [];
+  back = [];
+  whole = refl;
+  held = Appends-nil now.held;
+  all = λ e. sym (f.text_is.waits e);
+  same = λ e. refl;
+  later = omega arith;
+  cause = λ e. absurd cc;
+}
+
+-- ---- a host whose sender stands by is one behind each turn, too
+
+same_attended : (steps h : Journal) → list_any ends_turn steps ≡ false → is_attended (steps ++ h) ≡ is_attended h
+same_attended [] h e = refl
+same_attended (turned t ∷ steps) h e = absurd cc
+same_attended (attends ∷ steps) h e = absurd cc
+same_attended (_ ∷ steps) h e = same_attended steps h e
+
+pub turned_attended : (t : Turn) (s u : Host) (h next : Journal) → HostTurned t s u h next → is_attended next ≡ is_attended h
+turned_attended t s u h next w = ap is_attended w.are ∙ same_attended w.steps h w.inner
+
+pub stays_attended : {room : ℕ} (t : Turn) (s u : Host) (h next : Journal) → HostFits room s h → HostFits room u next → HostTurned t s u h next → u.attended ≡ s.attended
+stays_attended {room} t s u h next f g w = g.attended_is ∙ turned_attended t s u h next w ∙ sym f.attended_is
+
+-- and one that has done nothing says it itself
+pub attended_own : (attended : Bool) → is_attended (beginning attended) ≡ attended
+attended_own true = refl
+attended_own false = refl
+
+pub fits_own : {room : ℕ} (attended : Bool) (host : Host) → HostFits room host (beginning attended) → (host.attended ≡ attended) × HostFits room host (beginning host.attended)
+fits_own {room} attended host f = let own = f.attended_is ∙ attended_own attended in (own, subst (λ a. HostFits room host (beginning a)) (sym own) f)

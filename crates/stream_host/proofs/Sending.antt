@@ -18,7 +18,7 @@ use Rattle.status_report.specs.Answering.{is_answer, answers_in}
 use Rattle.stream_host.specs.Jobs.{sent_text, is_long, ends_sending, lines_to_send, ScansFront, MayLeave, MayScan, long_line, stop_by, IsSentSoFar, IsSent}
 use Rattle.stream_host.specs.Steps.{Journal, stored_of, got_of, answered_of, errors_of, begins, live_of, port_log, over_of, read_of, reading_of, scanned_of, unscanned_of, raw_of, cut_of, to_store, begun_of, has_limit, stop_at, job_stop_of, or_alarm, stop_of}
 use Rattle.stream_host.specs.Steps.PortStep.{stored, dropped, marked, raised, got, no_reply, shut}
-use Rattle.stream_host.specs.Steps.Step.{at_port, read_some, read_end, read_failed, scanned, line_over, wrote, gave_up, turned}
+use Rattle.stream_host.specs.Steps.Step.{at_port, read_some, read_end, read_failed, scanned, line_over, wrote, gave_up, turned, attends}
 use Rattle.stream_host.specs.Conduct.{Conducted, HasSentAll, HasNoMore}
 use Rattle.stream_host.proofs.Pieces.{none_ends, sent_front, front_on, front_ends, sends_on, sends_none, no_whole, few_cut, few_whole}
 use Rattle.stream_host.proofs.Texts.{none_long}
@@ -235,6 +235,7 @@ sum_is room (line_over ∷ h) c = sum_is room h c.1
 sum_is room (wrote n ∷ h) c = sum_is room h c.1
 sum_is room (gave_up ∷ h) c = sum_is room h c.1
 sum_is room (turned t ∷ h) c = sum_is room h c.1
+sum_is room (attends ∷ h) c = sum_is room h c.1
 
 errors_below : (rs : List Reply) → errors_among rs ≤ answers_in rs
 errors_below [] = omega arith

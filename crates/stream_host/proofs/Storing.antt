@@ -72,6 +72,7 @@ pub stored_byte : {room : ℕ} (s : Host) (m : SentLine) (b : ℕ) (h : Journal)
 stored_byte {room} s m b h f whole may stores next = record {
   sized = f.sized;
   room_is = f.room_is;
+  attended_is = f.attended_is;
   conducted = (may, f.conducted);
   job_is = f.job_is;
   line_is = line_stored s.line m b (raw_of h) (to_store h) whole stores (f.line_is.storing whole) next;
@@ -82,6 +83,7 @@ stored_byte {room} s m b h f whole may stores next = record {
   resets_are = f.resets_are;
   polls_are = f.polls_are;
   held_is = f.held_is;
+  resumed_is = f.resumed_is;
   greeted_is = f.greeted_is;
   alarm_is = f.alarm_is;
   pause_is = f.pause_is;

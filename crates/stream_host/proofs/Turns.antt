@@ -13,7 +13,7 @@ use Rattle.status_report.specs.declared.Reply.{Reply}
 use Rattle.text_writer.specs.Writers.{Writing, is_due, with_all_asked}
 use Rattle.stream_host.specs.declared.host.Host.{Host}
 use Rattle.stream_host.specs.Jobs.{is_reset}
-use Rattle.stream_host.specs.Steps.{Step, Journal, awaits_banner, has_limit, is_shut, has_bye, to_store, due_of, awaits_report, text_of, written_of, this_turn}
+use Rattle.stream_host.specs.Steps.{Step, Journal, awaits_banner, has_limit, is_shut, has_bye, to_store, due_of, awaits_report, text_of, written_of, this_turn, is_attended}
 use Rattle.stream_host.specs.Steps.PortStep.{stored, marked, raised, got, no_reply, shut}
 use Rattle.stream_host.specs.Steps.Step.{at_port, turned}
 use Rattle.stream_host.specs.Conduct.{AreAnswered, waits_for_lines, HasWritten, IsOneTurn, MayShut, publishing, polling, moving}
@@ -121,7 +121,7 @@ some_left xs n ys is within none =
     let a = ap length (sym is ∙ none) in let b = length-drop n (ys ++ 10 ∷ []) in let d = length-append ys (10 ∷ []) in absurd (omega arith)
 
 -- a byte that is due waits for the answers to the lines before its own
-pub waits_early : {room : ℕ} (s : Host) (b : ℕ) (h : Journal) → HostFits room s h → s.alarm ≡ false → HasPolled h → HasShown s.text → s.line.due ≡ Some b → ((waits_for_lines b ≡ true → AreAnswered h) → ⊥) → HostWorked room (Wait Answer) s s h h
+pub waits_early : {room : ℕ} (s : Host) (b : ℕ) (h : Journal) → HostFits room s h → s.alarm ≡ false → HasPolled h → HasShown s.text → s.line.due ≡ Some b → ((is_attended h ≡ false → waits_for_lines b ≡ true → AreAnswered h) → ⊥) → HostWorked room (Wait Answer) s s h h
 waits_early {room} s b h f calm polled shown is early =
     let due = due_next s b h f is in
     let busy : due_of h ≡ [] → ⊥ = (λ e. absurd (let g = sym due ∙ e in cc)) in
@@ -137,8 +137,8 @@ waits_early {room} s b h f calm polled shown is early =
           no_read = λ m. busy m.none_due;
           no_scan = λ d m. busy m.none_due;
           no_line = λ m. busy m.none_due;
-          no_mark = λ m. early (λ q. absurd (let x = same_first 0x18 b (drop 1 (due_of h)) (sym m.next ∙ due) in let g = ap waits_for_lines x ∙ q in cc));
-          no_raise = λ d m. early (subst (λ x. waits_for_lines x ≡ true → AreAnswered h) (same_first d b (drop 1 (due_of h)) (sym (m.next f.polls_are.few) ∙ due)) m.after);
+          no_mark = λ m. early (λ a q. absurd (let x = same_first 0x18 b (drop 1 (due_of h)) (sym m.next ∙ due) in let g = ap waits_for_lines x ∙ q in cc));
+          no_raise = λ d m. early (subst (λ x. is_attended h ≡ false → waits_for_lines x ≡ true → AreAnswered h) (same_first d b (drop 1 (due_of h)) (sym (m.next f.polls_are.rested) ∙ due)) m.after);
           no_store = λ d m. busy (none_due_first room d h f.conducted m);
           no_close = λ m. busy (calm_one h (calm_now s h f calm) m.all_raised);
           written = has_written s h f shown;
@@ -220,7 +220,7 @@ waits_at_alarm {room} s h f polled shown alarm no_shut =
           no_scan = λ b m. loud m.calm;
           no_line = λ m. loud m.calm;
           no_mark = λ m. loud m.calm;
-          no_raise = λ b m. loud (m.calm f.polls_are.few);
+          no_raise = λ b m. loud (m.calm f.polls_are.rested);
           no_store = λ b m. loud m.calm;
           no_close = no_shut;
           written = has_written s h f shown;
@@ -284,6 +284,7 @@ pub all_asked : {room : ℕ} (s : Host) (h : Journal) → HostFits room s h → 
 all_asked {room} s h f = record {
   sized = f.sized;
   room_is = f.room_is;
+  attended_is = f.attended_is;
   conducted = f.conducted;
   job_is = f.job_is;
   line_is = f.line_is;
@@ -294,6 +295,7 @@ all_asked {room} s h f = record {
   resets_are = f.resets_are;
   polls_are = f.polls_are;
   held_is = f.held_is;
+  resumed_is = f.resumed_is;
   greeted_is = f.greeted_is;
   alarm_is = f.alarm_is;
   pause_is = f.pause_is;
@@ -349,6 +351,7 @@ ends {room} t s u h next w = (
   record {
     sized = w.fits.sized;
     room_is = w.fits.room_is;
+    attended_is = w.fits.attended_is;
     conducted = (w.may, w.fits.conducted);
     job_is = w.fits.job_is;
     line_is = w.fits.line_is;
@@ -359,6 +362,7 @@ ends {room} t s u h next w = (
     resets_are = w.fits.resets_are;
     polls_are = w.fits.polls_are;
     held_is = w.fits.held_is;
+    resumed_is = w.fits.resumed_is;
     greeted_is = w.fits.greeted_is;
     alarm_is = w.fits.alarm_is;
     pause_is = w.fits.pause_is;

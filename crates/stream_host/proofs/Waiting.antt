@@ -12,7 +12,7 @@ use Rattle.status_report.specs.Answering.{lfs_in}
 use Rattle.stream_host.specs.Jobs.{is_reset, sent_text, ends_sending, MayHaveRead}
 use Rattle.stream_host.specs.Steps.{Journal, stored_of, has_limit, is_shut, is_greeted, answered_of, port_log, begins, awaits_banner, live_of, marks_of, resets_of, read_of, reading_of, scanned_of, unscanned_of, raw_of, to_store, begun_of, due_of, asking_of, is_waiting, is_asking, awaits_report, awaits_any_report}
 use Rattle.stream_host.specs.Steps.PortStep.{stored, dropped, marked, raised, got, no_reply, shut}
-use Rattle.stream_host.specs.Steps.Step.{at_port, read_some, read_end, read_failed, scanned, line_over, wrote, gave_up, turned}
+use Rattle.stream_host.specs.Steps.Step.{at_port, read_some, read_end, read_failed, scanned, line_over, wrote, gave_up, turned, attends}
 use Rattle.stream_host.specs.Conduct.{AwaitsSome, Conducted, HasNoMore, IsSettled, Waits}
 use Rattle.stream_host.proofs.Pieces.{IsSendable}
 use Rattle.stream_host.proofs.Keeping.{read_is, linked_push, few_scanned, reading_fits}
@@ -75,6 +75,7 @@ begun_is room (line_over ∷ h) c = begin_by (live_of h) (begun_of h) (raw_of h)
 begun_is room (wrote n ∷ h) c = begun_is room h c.1
 begun_is room (gave_up ∷ h) c = begun_is room h c.1
 begun_is room (turned t ∷ h) c = begun_is room h c.1
+begun_is room (attends ∷ h) c = begun_is room h c.1
 
 -- ---- a line that may not be stored yet
 
@@ -196,7 +197,7 @@ early room h c calm free b next w =
     let begun = ap (λ (ls : List (List ℕ)). length (drop (answered_of h) ls)) (all_begun h free (begun_is room h c)) in
     let l = length-drop (answered_of h) (live_of h) in
     let few = (counts_are room h c).1 in
-    let more : answered_of h ≢ length (live_of h) = (λ e. early_waiting room b h c calm w next (λ q. e) (behind_mark room h c calm b next w)) in
+    let more : answered_of h ≢ length (live_of h) = (λ e. early_waiting room b h c calm w next (λ a q. e) (behind_mark room h c calm b next w)) in
     by_less (answered_of h) (length (live_of h)) (length (drop (answered_of h) (begun_of h))) more few (begun ∙ l)
   where
     by_less : (m n k : ℕ) → m ≢ n → m ≤ n → k ≡ n - m → 0 < k

@@ -12,9 +12,9 @@ use Rattle.stream_host.specs.declared.Reading.TheVariants.{Ended, Failed, Large,
 use Rattle.stream_host.specs.Links.{on_link}
 use Rattle.stream_host.specs.Jobs.{resume, cancel, is_reset, ends_sending}
 use Rattle.stream_host.specs.Ports.{AnswersLines}
-use Rattle.stream_host.specs.Steps.{PortStep, Step, Journal, port_log, has_limit, is_shut, has_bye, is_greeted, answered_of, marks_of, resets_of, awaits_banner, reading_of, scanned_of, unscanned_of, raw_of, live_of, unanswered_of, begun_of, to_store, due_of, awaits_report, awaits_any_report, polls_of, empty_polls, held_polls, holds_of, pause_of, text_of, written_of, has_given_up, this_turn}
+use Rattle.stream_host.specs.Steps.{PortStep, Step, Journal, port_log, has_limit, is_shut, has_bye, is_greeted, answered_of, marks_of, resets_of, awaits_banner, reading_of, scanned_of, unscanned_of, raw_of, live_of, unanswered_of, begun_of, to_store, due_of, awaits_report, awaits_any_report, is_attended, polls_of, held_polls, long_polls, resumes_next, holds_of, has_resumed, pause_of, text_of, written_of, has_given_up, this_turn}
 use Rattle.stream_host.specs.Steps.PortStep.{stored, dropped, marked, raised, got, no_reply, shut}
-use Rattle.stream_host.specs.Steps.Step.{at_port, read_some, read_end, read_failed, scanned, line_over, wrote, gave_up, turned}
+use Rattle.stream_host.specs.Steps.Step.{at_port, read_some, read_end, read_failed, scanned, line_over, wrote, gave_up, turned, attends}
 
 -- all that was got is written, but behind a write that failed
 abbrev pub HasWritten : Journal → Type 0
@@ -25,7 +25,7 @@ abbrev pub AreAnswered : Journal → Type 0
 AreAnswered h = answered_of h ≡ length (live_of h)
 
 -- A realtime byte that is raised only once the lines of the epoch before its own are answered: a `?`, which asks for a report
--- behind them, and the cancel of a jog, so that their jogs have begun when the board takes it.
+-- behind them, and the cancel of a jog, so that their jogs have begun when the board takes it. In an attended run none waits.
 abbrev pub waits_for_lines : ℕ → Bool
 waits_for_lines b = nat_eq b query || nat_eq b cancel
 
@@ -43,6 +43,13 @@ pub record SeemsHeld (h : Journal) : Type 0 where
   pub held : may_be_held h ≡ true
   pub polls : held_polls ≤ polls_of h
 
+-- In an attended run the machine may be held though that is not seen: a `~` was raised that may have come too early, and so many polls
+-- in a row have found no reply, more than before.
+pub record SeemsStill (h : Journal) : Type 0 where
+  pub attended : is_attended h ≡ true
+  pub resumed : has_resumed h ≡ true
+  pub polls : long_polls ≤ polls_of h
+
 -- the banner was got, or the board says nothing: so many polls in a row have found no reply
 abbrev pub IsGreeted : Journal → Type 0
 IsGreeted h = (is_greeted h ≡ true) ⊎ (held_polls ≤ polls_of h)
@@ -52,7 +59,7 @@ IsGreeted h = (is_greeted h ≡ true) ⊎ (held_polls ≤ polls_of h)
 pub record IsSettled (h : Journal) : Type 0 where
   pub greeted : IsGreeted h
   pub reported : awaits_any_report h ≡ false
-  pub answered : AreAnswered h ⊎ SeemsHeld h
+  pub answered : AreAnswered h ⊎ (SeemsHeld h ⊎ SeemsStill h)
 
 -- The job is read on: all that was read is scanned, raised and stored, nothing is awaited but of a machine that seems held,
 -- all that was got is shown, no end of the reading was met, the sending has not ended in the line that is being scanned, no
@@ -102,12 +109,12 @@ pub record MayMark (h : Journal) : Type 0 where
 
 -- A realtime byte is raised: a resume where so many polls have found no reply, else the next that is due; that is a `?` or the
 -- cancel of a jog only once each line of the epoch before its own is answered, and a reset only behind its mark. Behind an alarm
--- no byte of the job is raised.
+-- no byte of the job is raised. In an attended run the host resumes only once its link is closed, and a `?` and a cancel wait for nothing.
 pub record MayRaise (b : ℕ) (h : Journal) : Type 0 where
-  pub resumes : polls_of h ≡ empty_polls → b ≡ resume
-  pub calm : polls_of h < empty_polls → has_limit h ≡ false
-  pub next : polls_of h < empty_polls → due_of h ≡ b ∷ drop 1 (due_of h)
-  pub after : waits_for_lines b ≡ true → AreAnswered h
+  pub resumes : resumes_next h ≡ true → b ≡ resume
+  pub calm : resumes_next h ≡ false → has_limit h ≡ false
+  pub next : resumes_next h ≡ false → due_of h ≡ b ∷ drop 1 (due_of h)
+  pub after : is_attended h ≡ false → waits_for_lines b ≡ true → AreAnswered h
   pub behind_mark : is_reset b ≡ true → resets_of h < length (marks_of h)
 
 -- The next byte of the line in hand is stored: the lines that have no answer, this one among them, take no more bytes than the
@@ -143,7 +150,7 @@ pub record MayShut (h : Journal) : Type 0 where
 -- a reply is looked for: Bye was not got, and no resume is to be raised
 pub record MayPoll (h : Journal) : Type 0 where
   pub going : has_bye h ≡ false
-  pub rested : polls_of h < empty_polls
+  pub rested : resumes_next h ≡ false
 
 -- a reply is taken; since the last Banner of a mark no more of them are answers than lines were stored behind that mark, as the
 -- port promises
@@ -194,6 +201,7 @@ moving line_over = false
 moving (wrote n) = true
 moving gave_up = false
 moving (turned t) = false
+moving attends = false
 
 -- a reply is looked for
 abbrev pub polling : Step → Bool
@@ -247,6 +255,7 @@ MayStep room line_over h = MayEndLine h
 MayStep room (wrote n) h = MayWrite n h
 MayStep room gave_up h = MayGiveUp h
 MayStep room (turned t) h = MayTurn room t h
+MayStep room attends h = h ≡ []
 
 -- each step of a journal might come when it came, where the link has room for so many bytes
 abbrev pub Conducted : ℕ → Journal → Type 0

@@ -23,8 +23,8 @@ use Rattle.run_rules.specs.Told.{errors_among}
 use Rattle.status_report.specs.Answering.{answers_in, is_banner, is_bye}
 use Rattle.std.specs.declared.option.Option.{Option}
 use Rattle.stream_host.specs.Jobs.{is_long, sent_text}
-use Rattle.stream_host.specs.Steps.{Step, Journal, port_log, got_of, has_limit, is_shut, has_bye, read_of, reading_of, scanned_of, unscanned_of, raw_of, cut_of, live_of, banners_of, resets_of, marks_of, to_store, due_of, asking_of, polls_of, empty_polls, holds_of, pause_of, is_greeted, text_of, written_of, has_given_up, this_turn}
-use Rattle.stream_host.specs.Steps.Step.{turned}
+use Rattle.stream_host.specs.Steps.{Step, Journal, port_log, got_of, has_limit, is_shut, has_bye, read_of, reading_of, scanned_of, unscanned_of, raw_of, cut_of, live_of, banners_of, resets_of, marks_of, to_store, due_of, asking_of, is_attended, polls_of, long_polls, resumes_next, holds_of, has_resumed, pause_of, is_greeted, text_of, written_of, has_given_up, this_turn}
+use Rattle.stream_host.specs.Steps.Step.{turned, attends}
 use Rattle.serial_ring.specs.Lists.{IsRoom}
 use Rattle.stream_host.specs.Conduct.{Conducted, MayTurn, publishing, polling, moving, found_none}
 
@@ -122,10 +122,10 @@ pub record KeepsLine (l : SentLine) (raw left : List ℕ) : Type 0 where
 abbrev pub KeepsDue : Option ℕ → List ℕ → Type 0
 KeepsDue l due = option_to_list l ≡ due
 
--- the polls in a row that found no reply: one more may be made
-pub record KeepsPolls (count polls : ℕ) : Type 0 where
-  pub polls_are : count ≡ polls
-  pub few : polls < empty_polls
+-- the polls in a row that found no reply, as far as their number tells more; one more may be made, since no resume is to be raised
+pub record KeepsPolls (count polls : ℕ) (resumes : Bool) : Type 0 where
+  pub polls_are : count ≡ cond (nat_lt polls long_polls) polls long_polls
+  pub rested : resumes ≡ false
 
 -- the counts, by the lines that are not forgotten, and the replies
 pub record KeepsCounts (c : Counts) (live : List (List ℕ)) (got : List Reply) : Type 0 where
@@ -156,6 +156,7 @@ HasNone left raw = (left ≡ []) × (raw ≡ [])
 pub record HostFits (room : ℕ) (host : Host) (h : Journal) : Type 0 where
   pub sized : IsRoom room
   pub room_is : host.room ≡ room
+  pub attended_is : host.attended ≡ is_attended h
   pub conducted : Conducted room h
   pub job_is : KeepsJob host.job (unscanned_of h) (reading_of h) (length (scanned_of h))
   pub line_is : KeepsLine host.line (raw_of h) (to_store h)
@@ -164,8 +165,9 @@ pub record HostFits (room : ℕ) (host : Host) (h : Journal) : Type 0 where
   pub counts_are : KeepsCounts host.counts (live_of h) (got_of h)
   pub all_are : host.counts.all ≡ length (cut_of h)
   pub resets_are : KeepsResets host.resets (resets_of h) (banners_of h) (length (marks_of h))
-  pub polls_are : KeepsPolls host.polls (polls_of h)
+  pub polls_are : KeepsPolls host.polls (polls_of h) (resumes_next h)
   pub held_is : host.held ≡ holds_of h
+  pub resumed_is : host.resumed ≡ has_resumed h
   pub pause_is : host.counts.pause_at ≡ pause_of h
   pub greeted_is : host.greeted ≡ is_greeted h
   pub alarm_is : host.alarm ≡ has_limit h
@@ -190,9 +192,10 @@ pub record HasPolled (h : Journal) : Type 0 where
   pub once : count_by polling (this_turn h) ≤ 1
   pub quiet : NothingPublished h
 
--- a step ends a turn
+-- a step ends a turn, or stands before all of them
 abbrev pub ends_turn : Step → Bool
 ends_turn (turned t) = true
+ends_turn attends = true
 ends_turn _ = false
 
 -- the number of a host, which falls where a turn does something and moves nothing

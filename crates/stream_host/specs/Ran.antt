@@ -83,9 +83,9 @@ pub record AreMarks (marks scanned : List ℕ) : Type 0 where
 -- else an alarm, at the first line that is neither answered nor forgotten. Where the link is closed
 -- and no alarm was got, all that is sent of the job is raised and stored; so is all that was cut and scanned where the Banner of a
 -- reset is lacking; and the lines that live and have no answer fit on the link then, each with its LF. Each line that asks for
--- a report and is answered has one, behind the answers to the lines before it. The console has the text of the replies, all of it
--- where no write failed. The source's count of faults rose where a read failed, and is as before where none did.
-pub record HostRan (room : ℕ) (job_was job_is : SourceState) (console_was console_is : SinkState) (stored marks : List ℕ) (shut : Bool) (raised : List ℕ) (got : List Reply) (end : HostEnd) : Type 0 where
+-- a report and is answered has one, behind the answers to the lines before it, but in an attended run. The console has the text of the
+-- replies, all of it where no write failed. The source's count of faults rose where a read failed, and is as before where none did.
+pub record HostRan (attended : Bool) (room : ℕ) (job_was job_is : SourceState) (console_was console_is : SinkState) (stored marks : List ℕ) (shut : Bool) (raised : List ℕ) (got : List Reply) (end : HostEnd) : Type 0 where
   pub read : List ℕ
   pub reading : Reading
   pub scanned : List ℕ
@@ -115,7 +115,7 @@ pub record HostRan (room : ℕ) (job_was job_is : SourceState) (console_was cons
   pub link : is_out shut raised got ≡ true → stored ≡ on_link lines
   pub few : is_out shut raised got ≡ true → length (on_link (drop end.answered live)) ≤ room
   pub raises : is_out shut raised got ≡ true → AreRaised scanned raised [] resumes
-  pub reported : AreReported live got
+  pub reported : attended ≡ false → AreReported live got
   pub bye : list_any is_bye got ≡ true
   pub console : Took console_was console_is end.console_failed (replies_text got)
   pub answered : end.answered ≡ answers_in got
@@ -126,7 +126,7 @@ pub record HostRan (room : ℕ) (job_was job_is : SourceState) (console_was cons
 
 -- A host runs: it has read a job so far, raised its realtime bytes but for those that are due, and stored a front of its lines,
 -- and marks at their borders. The console has a front of the replies' text.
-pub record HostRuns (room : ℕ) (job_was job_is : SourceState) (console_was console_is : SinkState) (stored marks raised : List ℕ) (got : List Reply) : Type 0 where
+pub record HostRuns (attended : Bool) (room : ℕ) (job_was job_is : SourceState) (console_was console_is : SinkState) (stored marks raised : List ℕ) (got : List Reply) : Type 0 where
   pub read : List ℕ
   pub reading : Reading
   pub scanned : List ℕ
@@ -145,7 +145,7 @@ pub record HostRuns (room : ℕ) (job_was job_is : SourceState) (console_was con
   pub due : List ℕ
   pub resumes : ℕ
   pub raises : AreRaised scanned raised due resumes
-  pub reported : AreReported live got
+  pub reported : attended ≡ false → AreReported live got
   pub failed : Bool
   pub waiting : List ℕ
   pub console : Wrote console_was console_is failed waiting (replies_text got)

@@ -1,5 +1,5 @@
 -- What a host has done, the latest first: at its port, and by itself.
-use Rattle.std.specs.Prelude.{ℕ, ◌+◌, Bool, true, false, ◌&&◌, cond, List, [], ◌∷◌, ◌++◌, length, take, drop, nat_eq, nat_lt}
+use Rattle.std.specs.Prelude.{ℕ, ◌+◌, Bool, true, false, not, ◌&&◌, ◌||◌, cond, List, [], ◌∷◌, ◌++◌, length, take, drop, nat_eq, nat_lt}
 use Rattle.std.specs.List.{count_by, list_any}
 use Rattle.run_rules.specs.Readings.{largest_job}
 use Rattle.run_rules.specs.Told.{replies_text, errors_among}
@@ -51,6 +51,8 @@ pub data Step : Type 0 where
   -- a write failed
   gave_up : Step
   turned : Turn → Step
+  -- the sender stands by: nothing is done before it
+  attends : Step
 
 -- all steps, the latest first
 abbrev pub Journal : Type 0
@@ -61,6 +63,17 @@ abbrev pub port_log : Journal → HostLog
 port_log [] = []
 port_log (at_port e ∷ h) = e ∷ port_log h
 port_log (_ ∷ h) = port_log h
+
+-- the sender stands by, as the first step says
+abbrev pub is_attended : Journal → Bool
+is_attended [] = false
+is_attended (attends ∷ h) = true
+is_attended (_ ∷ h) = is_attended h
+
+-- what a host has done that is new
+abbrev pub beginning : (attended : Bool) → Journal
+beginning true = attends ∷ []
+beginning false = []
 
 -- ---- projections of the port's log
 
@@ -166,17 +179,32 @@ empty_polls = 4096
 abbrev pub held_polls : ℕ
 held_polls = 2048
 
--- the polls that found no reply since the last that found one, or that the host answered with a resume
-abbrev pub polls_in : HostLog → ℕ
-polls_in [] = 0
-polls_in (raised b down ∷ h) = cond (nat_eq (polls_in h) empty_polls) 0 (polls_in h)
-polls_in (got r ∷ h) = 0
-polls_in (no_reply ∷ h) = polls_in h + 1
-polls_in (_ ∷ h) = polls_in h
+-- so many are enough for an attended host to read on where a `~` may have come too early
+abbrev pub long_polls : ℕ
+long_polls = 32768
+
+-- A host resumes the machine by itself, behind so many polls: one whose sender stands by does so only once its link is closed, since
+-- the sender has gone then.
+abbrev pub resumes_behind : (attended closed : Bool) → ℕ → Bool
+resumes_behind attended closed polls = (not attended || closed) && nat_eq polls empty_polls
+
+abbrev pub polls_at : PortStep → (attended closed : Bool) → ℕ → ℕ
+polls_at (raised b down) attended closed polls = cond (resumes_behind attended closed polls) 0 polls
+polls_at (got r) attended closed polls = 0
+polls_at no_reply attended closed polls = polls + 1
+polls_at shut attended closed polls = cond attended 0 polls
+polls_at e attended closed polls = polls
+
+-- The polls that found no reply since the last that found one, or that the host answered with a resume; in an attended run those
+-- behind the closing of the link are counted anew.
+abbrev pub polls_of : Journal → ℕ
+polls_of [] = 0
+polls_of (at_port e ∷ h) = polls_at e (is_attended h) (is_shut h) (polls_of h)
+polls_of (_ ∷ h) = polls_of h
 
 -- what is raised next is a resume of the host's own
-abbrev pub resumes_next : HostLog → Bool
-resumes_next h = nat_eq (polls_in h) empty_polls
+abbrev pub resumes_next : Journal → Bool
+resumes_next h = resumes_behind (is_attended h) (is_shut h) (polls_of h)
 
 -- the bytes that were raised
 abbrev pub bytes_raised_in : HostLog → List ℕ
@@ -185,16 +213,16 @@ bytes_raised_in (raised b down ∷ h) = bytes_raised_in h ++ b ∷ []
 bytes_raised_in (_ ∷ h) = bytes_raised_in h
 
 -- those among them that stood in a line
-abbrev pub line_raises_in : HostLog → List ℕ
-line_raises_in [] = []
-line_raises_in (raised b down ∷ h) = cond (resumes_next h) (line_raises_in h) (line_raises_in h ++ b ∷ [])
-line_raises_in (_ ∷ h) = line_raises_in h
+abbrev pub line_raises_of : Journal → List ℕ
+line_raises_of [] = []
+line_raises_of (at_port (raised b down) ∷ h) = cond (resumes_next h) (line_raises_of h) (line_raises_of h ++ b ∷ [])
+line_raises_of (_ ∷ h) = line_raises_of h
 
 -- the number of the others
-abbrev pub resumes_in : HostLog → ℕ
-resumes_in [] = 0
-resumes_in (raised b down ∷ h) = cond (resumes_next h) (resumes_in h + 1) (resumes_in h)
-resumes_in (_ ∷ h) = resumes_in h
+abbrev pub resumes_of : Journal → ℕ
+resumes_of [] = 0
+resumes_of (at_port (raised b down) ∷ h) = cond (resumes_next h) (resumes_of h + 1) (resumes_of h)
+resumes_of (_ ∷ h) = resumes_of h
 
 -- a `!` was raised, and no `~` since, nor did an epoch begin
 abbrev pub holds_in : HostLog → Bool
@@ -203,26 +231,27 @@ holds_in (raised b down ∷ h) = held_after b (holds_in h)
 holds_in (got r ∷ h) = cond (begins r h) false (holds_in h)
 holds_in (_ ∷ h) = holds_in h
 
+-- a `~` was raised, and no epoch began since
+abbrev pub resumed_in : HostLog → Bool
+resumed_in [] = false
+resumed_in (raised b down ∷ h) = nat_eq b resume || resumed_in h
+resumed_in (got r ∷ h) = cond (begins r h) false (resumed_in h)
+resumed_in (_ ∷ h) = resumed_in h
+
 -- all polls that found no reply
 abbrev pub all_empty_in : HostLog → ℕ
 all_empty_in [] = 0
 all_empty_in (no_reply ∷ h) = all_empty_in h + 1
 all_empty_in (_ ∷ h) = all_empty_in h
 
-abbrev pub polls_of : Journal → ℕ
-polls_of h = polls_in (port_log h)
-
 abbrev pub holds_of : Journal → Bool
 holds_of h = holds_in (port_log h)
 
+abbrev pub has_resumed : Journal → Bool
+has_resumed h = resumed_in (port_log h)
+
 abbrev pub raises_of : Journal → List ℕ
 raises_of h = bytes_raised_in (port_log h)
-
-abbrev pub line_raises_of : Journal → List ℕ
-line_raises_of h = line_raises_in (port_log h)
-
-abbrev pub resumes_of : Journal → ℕ
-resumes_of h = resumes_in (port_log h)
 
 -- ---- what was read and scanned
 
@@ -331,7 +360,7 @@ due_at e resumes bytes = bytes
 -- the bytes that are scanned and still to be raised
 abbrev pub due_of : Journal → List ℕ
 due_of [] = []
-due_of (at_port e ∷ h) = due_at e (resumes_next (port_log h)) (due_of h)
+due_of (at_port e ∷ h) = due_at e (resumes_next h) (due_of h)
 due_of (scanned b ∷ h) = due_of h ++ more_served (raw_of h) b
 due_of (_ ∷ h) = due_of h
 
@@ -446,3 +475,4 @@ this_turn (line_over ∷ h) = line_over ∷ this_turn h
 this_turn (wrote n ∷ h) = wrote n ∷ this_turn h
 this_turn (gave_up ∷ h) = gave_up ∷ this_turn h
 this_turn (turned t ∷ h) = []
+this_turn (attends ∷ h) = []

@@ -6,13 +6,13 @@ ghost use Rattle.outside.specs.declared.Turn.TheVariants.{Did};
 ghost use Rattle.text_writer.specs.Writers.{is_due};
 ghost use Rattle.stream_host.specs.Ports.{AnswersLines};
 ghost use Rattle.run_rules.specs.Work.{is_limit};
-ghost use Rattle.stream_host.specs.Steps.{Journal, port_log, got_of, live_of, awaits_report};
+ghost use Rattle.stream_host.specs.Steps.{Journal, port_log, got_of, live_of, awaits_report, is_attended, beginning};
 ghost use Rattle.stream_host.specs.Holding.{pauses};
-ghost use Rattle.stream_host.specs.Steps.PortStep.{stored, marked, raised, got, no_reply, shut};
+ghost use Rattle.stream_host.specs.Steps.PortStep.{stored, marked, raised, got, shut};
 ghost use Rattle.stream_host.specs.Steps.Step.{at_port, scanned, turned};
 ghost use Rattle.status_report.specs.Answering.{answers_in, is_bye};
-ghost use Rattle.stream_host.specs.Jobs.{resume, is_reset, sent_text};
-ghost use Rattle.stream_host.specs.Conduct.{AreAnswered, waits_for_lines, may_be_held, IsGreeted, IsSettled, MayShut};
+ghost use Rattle.stream_host.specs.Jobs.{is_reset, sent_text};
+ghost use Rattle.stream_host.specs.Conduct.{AreAnswered, waits_for_lines, IsSettled, MayShut};
 ghost use Rattle.stream_host.specs.Hosts.{HostFits, HostWorked, HostTurned, HostTellsOn, HasPolled, IsBetween, DidAlone, MayScanOn, MayReadOn, HasRoom, HasShown, HostRests, HasLine, IsSummed, lengths, with_banner, begins_by, awaits_by, KeepsLine, KeepsCounts, is_over, unread, shown};
 ghost use Rattle.outside.specs.Causes.{SourceState, SinkState};
 
@@ -20,9 +20,10 @@ use crate::Reading;
 use crate::counts::Counts;
 use crate::line::{Asking, SentLine};
 use crate::pause::has_pause;
+use crate::polls::polls_behind_end;
 use crate::ports::HostPort;
 use crate::reader::{Gave, LARGEST_JOB, Reader};
-use crate::realtime::{RESUME, is_held_after, pause_after, waits_for_lines};
+use crate::realtime::{is_held_after, is_resumed_after, pause_after, waits_for_lines};
 use crate::resets::Resets;
 use crate::shown::put_text;
 use outside::{On, Sink, Source, Turn};
@@ -30,20 +31,16 @@ use serial_ring::Stored;
 use status_report::Reply;
 use text_writer::TextWriter;
 
-/// So many polls in a row that find no reply are enough to resume the machine.
-const EMPTY_POLLS: u16 = 4096;
-
 /// The number of the alarm that ends the run: a line is beyond the limits.
 const SOFT_LIMIT: u8 = 2;
-
-/// Half as many are enough to read on where the machine may be held, or the board has said nothing yet.
-const HELD_POLLS: u16 = 2048;
 
 /// Reads a job, raises its realtime bytes, sends its lines by counting characters, and shows the replies.
 #[derive(Drop)]
 pub struct Host {
     /// So many bytes on the link at most are of lines that have no answer.
     pub(crate) room: u8,
+    /// The sender stands by.
+    pub(crate) attended: bool,
     pub(crate) job: Reader,
     pub(crate) line: SentLine,
     pub(crate) asking: Asking,
@@ -53,6 +50,8 @@ pub struct Host {
     pub(crate) resets: Resets,
     /// A `!` was raised, and no `~` since, nor did an epoch begin.
     pub(crate) held: bool,
+    /// A `~` was raised, and no epoch began since.
+    pub(crate) resumed: bool,
     pub(crate) greeted: bool,
     /// An alarm was got that ends the run.
     pub(crate) alarm: bool,
@@ -62,13 +61,15 @@ pub struct Host {
 
 impl Host {
     /// A host that has done nothing, at a link that has room for `room` bytes, at least 128: so that the longest line that is sent,
-    /// 127 bytes and its LF, has its place there.
-    pub fn new(room: u8) -> Host
+    /// 127 bytes and its LF, has its place there. Its sender stands by or not: then it raises each realtime byte as it scans it, and
+    /// resumes the machine by itself only once the link is closed.
+    pub fn new(room: u8, attended: bool) -> Host
         requires { 128 ≤ room }
-        ensures { HostFits room result [] }
+        ensures { HostFits room result (beginning attended) }
     {
         Host {
             room,
+            attended,
             job: Reader::new(),
             line: SentLine::new(),
             asking: Asking::Nothing,
@@ -77,6 +78,7 @@ impl Host {
             polls: 0,
             resets: Resets::new(),
             held: false,
+            resumed: false,
             greeted: false,
             alarm: false,
             shut: false,
@@ -129,13 +131,14 @@ impl Host {
         requires few { self.old.resets.banners + 1 < 2 ^ 32 }
         ensures resets { self.new.resets ≡ with_banner self.old.resets reply.now }
         ensures begun { begins_by self.old.resets reply.now ≡ true → (lengths self.new.counts.unanswered ≡ []) × IsSummed self.new.counts.unanswered
-            × (self.new ≡ record self.old { resets = self.new.resets; held = false; counts = record self.old.counts { unanswered = self.new.counts.unanswered; lines = self.old.counts.answered; pause_at = 0 } }) }
+            × (self.new ≡ record self.old { resets = self.new.resets; held = false; resumed = false; counts = record self.old.counts { unanswered = self.new.counts.unanswered; lines = self.old.counts.answered; pause_at = 0 } }) }
         ensures none { begins_by self.old.resets reply.now ≡ false → self.new ≡ record self.old { resets = self.new.resets } }
         ensures text { self.new.text ≡ self.old.text }
     {
         if self.resets.told(reply) {
             self.counts.forget();
             self.held = false;
+            self.resumed = false;
         }
     }
 
@@ -231,10 +234,13 @@ impl Host {
     }
 
     /// Whether a byte that is due is not raised yet: a `?` or a cancel waits until each line of the epoch before its own is
-    /// answered.
+    /// answered, unless the sender stands by.
     fn is_early(&self, byte: u8) -> bool
-        ensures { (room : ℕ) (h : Journal) → HostFits room self.now h → (result ≡ false) ↔ (waits_for_lines byte ≡ true → AreAnswered h) }
+        ensures { (room : ℕ) (h : Journal) → HostFits room self.now h → (result ≡ false) ↔ (is_attended h ≡ false → waits_for_lines byte ≡ true → AreAnswered h) }
     {
+        if self.attended {
+            return false;
+        }
         waits_for_lines(byte) && self.counts.answered < self.counts.lines
     }
 
@@ -265,7 +271,7 @@ impl Host {
         requires due { self.old.line.due ≡ Some byte }
         requires calm { self.old.alarm ≡ false }
         requires behind_mark { is_reset byte ≡ true → self.old.resets.marked ≡ true }
-        requires after { (room : ℕ) (h : Journal) → HostFits room self.old h → waits_for_lines byte ≡ true → AreAnswered h }
+        requires after { (room : ℕ) (h : Journal) → HostFits room self.old h → is_attended h ≡ false → waits_for_lines byte ≡ true → AreAnswered h }
         requires stands { (rest : P.Rest) × (h : Journal) × P.stands port.old rest (port_log h) × HostFits P.room self.old h }
         ensures raised { (rest : P.Rest) (h : Journal) → P.stands port.old rest (port_log h) → HostFits P.room self.old h → (down : Bool) × P.stands port.new rest (raised byte down ∷ port_log h)
             × HostFits P.room self.new (at_port (raised byte down) ∷ h) }
@@ -276,27 +282,8 @@ impl Host {
         self.resets.raise(byte);
         self.asking = self.asking.raised(byte);
         self.held = is_held_after(byte, self.held);
+        self.resumed = is_resumed_after(byte, self.resumed);
         self.counts.pause_at = pause_after(byte, self.counts.pause_at);
-    }
-
-    /// A poll found no reply. Where so many have, the machine is resumed. Answers whether it is.
-    fn count_poll<P: HostPort>(&mut self, port: &mut P) -> bool
-        requires going { self.old.bye ≡ false }
-        requires stands { (rest : P.Rest) × (h : Journal) × P.stands port.old rest (no_reply ∷ port_log h) × HostFits P.room self.old h }
-        ensures resumed { result ≡ true → (rest : P.Rest) (h : Journal) → P.stands port.old rest (no_reply ∷ port_log h) → HostFits P.room self.old h
-            → (down : Bool) × P.stands port.new rest (raised resume down ∷ no_reply ∷ port_log h) × HostFits P.room self.new (at_port (raised resume down) ∷ at_port no_reply ∷ h) }
-        ensures counted { result ≡ false → (port.new ≡ port.old) × ((room : ℕ) (h : Journal) → HostFits room self.old h → HostFits room self.new (at_port no_reply ∷ h)) }
-        ensures text { self.new.text ≡ self.old.text }
-    {
-        self.polls += 1;
-        if self.polls < EMPTY_POLLS {
-            return false;
-        }
-        self.polls = 0;
-        port.raise(RESUME);
-        self.held = false;
-        self.counts.pause_at = 0;
-        true
     }
 
     /// Stores the next byte of the line in hand.
@@ -318,7 +305,7 @@ impl Host {
         }
     }
 
-    /// Closes the link.
+    /// Closes the link. A sender that stood by is gone then, and polls are counted anew.
     fn close<P: HostPort>(&mut self, port: &mut P)
         requires going { self.old.shut ≡ false }
         requires may { (room : ℕ) (h : Journal) → HostFits room self.old h → MayShut h }
@@ -329,37 +316,7 @@ impl Host {
     {
         port.close();
         self.shut = true;
-    }
-
-    /// Whether the first banner is awaited: nothing was got, and the board may still tell it.
-    fn awaits_greeting(&self) -> bool
-        ensures { (room : ℕ) (h : Journal) → HostFits room self.now h → (result ≡ false) ↔ IsGreeted h }
-    {
-        !self.greeted && self.polls < HELD_POLLS
-    }
-
-    /// Whether the machine may be held: a `!` was raised and no `~` since, or a line that has no answer asks for a pause, and
-    /// no `~` was raised since it was scanned.
-    fn may_be_held(&self) -> bool
-        ensures { (room : ℕ) (h : Journal) → HostFits room self.now h → result ≡ may_be_held h }
-    {
-        self.held || self.counts.answered < self.counts.pause_at
-    }
-
-    /// Whether nothing is awaited, or only the answers of a machine that seems held.
-    fn is_settled(&self) -> bool
-        ensures { (room : ℕ) (h : Journal) → HostFits room self.now h → (result ≡ true) ↔ IsSettled h }
-    {
-        if self.awaits_greeting() {
-            return false;
-        }
-        if self.asking.is_open() {
-            return false;
-        }
-        if self.counts.answered == self.counts.lines {
-            return true;
-        }
-        self.may_be_held() && self.polls >= HELD_POLLS
+        self.polls = polls_behind_end(self.attended, self.polls);
     }
 
     /// Whether the piece and the line in hand let the job be read on.
@@ -546,15 +503,16 @@ impl Host {
     }
 
     /// Takes a turn: writes text that is due, takes a reply, resumes the machine where 4,096 polls in a row have found
-    /// none, or takes one step of sending; at most one thing is published. Where a poll found no reply, and the rules
-    /// allow nothing else, it answers `Wait(Answer)`. It is done once Bye was got and all text is written or the
-    /// console has failed; from then on nothing changes.
+    /// none (if its sender stands by, only once the link is closed), or takes one step of sending; at most one thing is
+    /// published. Where a poll found no reply, and the rules allow nothing else, it answers `Wait(Answer)`. It is done once
+    /// Bye was got and all text is written or the console has failed; from then on nothing changes.
     ///
     /// A read may wait for whoever writes the job, and what the board gives meanwhile is not shown. So the job is read on
     /// only once each line that was sent has its answer and no report is awaited. Without a hold the board answers each
     /// whole line sooner or later, so the host goes on. A machine that is held may answer nothing before it is resumed, and
     /// the resume may be what is to be read next: where the machine may be held, the job is read on once 2,048 polls in a
-    /// row have found no reply. At the end of the job nothing is awaited before the link is closed.
+    /// row have found no reply. In an attended run a `~` may have come too early, and the host ends no hold: so there, behind a
+    /// `~`, 32,768 such polls are enough too. At the end of the job nothing is awaited before the link is closed.
     ///
     /// The rules of the host are those of its journal: whatever it has done before, it goes on as they allow.
     pub fn turn<P: HostPort, So: Source, Co: Sink>(

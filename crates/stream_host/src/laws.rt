@@ -11,7 +11,7 @@ ghost use Rattle.status_report.specs.Answering.{lfs_in, answers_in};
 ghost use Rattle.stream_host.specs.Jobs.{is_reset, sent_text, marks_behind, served_in, ends_sending, lines_read, lines_to_send, stop_by, IsSent, IsSentSoFar};
 ghost use Rattle.stream_host.specs.declared.Reading.{Reading};
 ghost use Rattle.std.specs.List.{AllByRecursion};
-ghost use Rattle.stream_host.specs.Steps.{Journal, stored_of, got_of, is_shut, answered_of, errors_of, live_of, unanswered_of, forgotten_of, over_of, marks_of, resets_of, banners_of, awaits_banner, read_of, reading_of, scanned_of, cut_of, to_store, begun_of, due_of, has_limit, job_stop_of, or_alarm, stop_of, port_log, raises_of, line_raises_of, resumes_of, polls_of, all_empty_in, empty_polls};
+ghost use Rattle.stream_host.specs.Steps.{Journal, stored_of, got_of, is_shut, answered_of, errors_of, live_of, unanswered_of, forgotten_of, over_of, marks_of, resets_of, banners_of, awaits_banner, read_of, reading_of, scanned_of, cut_of, to_store, begun_of, due_of, has_limit, job_stop_of, or_alarm, stop_of, port_log, is_attended, beginning, raises_of, line_raises_of, resumes_of, polls_of, all_empty_in, empty_polls};
 ghost use Rattle.stream_host.specs.Steps.Step.{at_port};
 ghost use Rattle.stream_host.specs.Steps.PortStep.{marked, raised};
 ghost use Rattle.run_rules.specs.Reports.{AreReported};
@@ -49,14 +49,18 @@ pub fn hosts_keep_to_their_count()
 /// stands in may be stored. What else is raised are its own resumes. Before each of them 4,096 polls in a row found no
 /// reply, and no more. A `?` and the cancel of a jog are raised once each line before their own is answered, and each line
 /// that asks for a report and has its answer has a report, behind the answers to the lines before it.
+///
+/// In an attended run no byte waits for answers, nothing is said of where reports stand, and nothing is resumed while the link is
+/// open, however many polls find no reply.
 pub fn hosts_raise_what_they_scan()
     ensures raised { (room : ℕ) (h : Journal) → Conducted room h → AreRaised (scanned_of h) (raises_of h) (due_of h) (resumes_of h) }
     ensures in_order { (room : ℕ) (h : Journal) → Conducted room h → line_raises_of h ++ due_of h ≡ served_in (scanned_of h) }
     ensures first { (room : ℕ) (b : ℕ) (h : Journal) → Conducted room h → MayStore room b h → due_of h ≡ [] }
     ensures closed { (room : ℕ) (h : Journal) → Conducted room h → is_shut h ≡ true → has_limit h ≡ false → due_of h ≡ [] }
-    ensures after { (room : ℕ) (b : ℕ) (h : Journal) (down : Bool) → waits_for_lines b ≡ true → Conducted room (at_port (raised b down) ∷ h) → answers_in (got_now h) ≡ length (lines_now h) }
-    ensures reported { (room : ℕ) (h : Journal) → Conducted room h → AreReported (live_of h) (got_of h) }
-    ensures tired { (room : ℕ) (h : Journal) → Conducted room h → polls_of h ≤ empty_polls }
+    ensures after { (room : ℕ) (b : ℕ) (h : Journal) (down : Bool) → is_attended h ≡ false → waits_for_lines b ≡ true → Conducted room (at_port (raised b down) ∷ h) → answers_in (got_now h) ≡ length (lines_now h) }
+    ensures reported { (room : ℕ) (h : Journal) → Conducted room h → is_attended h ≡ false → AreReported (live_of h) (got_of h) }
+    ensures tired { (room : ℕ) (h : Journal) → Conducted room h → (is_attended h ≡ false) ⊎ (is_shut h ≡ true) → polls_of h ≤ empty_polls }
+    ensures alone { (room : ℕ) (h : Journal) → Conducted room h → is_attended h ≡ true → is_shut h ≡ false → resumes_of h ≡ 0 }
     ensures rested { (room : ℕ) (h : Journal) → Conducted room h → empty_polls * resumes_of h + polls_of h ≤ all_empty_in (port_log h) }
 {}
 
@@ -114,11 +118,11 @@ pub fn links_carry_lines()
 pub fn hosts_have_run()
     ensures so_far { (room : ℕ) (h : Journal) (job_was job_is : SourceState) (console_was console_is : SinkState) →
         Conducted room h → TellsJob h job_was job_is → TellsConsole h console_was console_is →
-        HostRuns room job_was job_is console_was console_is (stored_of h) (marks_of h) (raises_of h) (got_of h) }
+        HostRuns (is_attended h) room job_was job_is console_was console_is (stored_of h) (marks_of h) (raises_of h) (got_of h) }
     ensures whole { (room : ℕ) (h : Journal) (job_was job_is : SourceState) (console_was console_is : SinkState) →
         Conducted room h → HasFinished h → TellsJob h job_was job_is → TellsConsole h console_was console_is →
-        (ran : HostRan room job_was job_is console_was console_is (stored_of h) (marks_of h) (is_shut h) (raises_of h) (got_of h) (end_of h)) × (ran.scanned ≡ scanned_of h) }
+        (ran : HostRan (is_attended h) room job_was job_is console_was console_is (stored_of h) (marks_of h) (is_shut h) (raises_of h) (got_of h) (end_of h)) × (ran.scanned ≡ scanned_of h) }
     ensures finished { (room : ℕ) (host : Host) (h : Journal) → HostFits room host h → HostRests host → HasFinished h }
     ensures console { (room : ℕ) (host : Host) (h : Journal) (was is : SinkState) → HostFits room host h → TellsText host.text h was is → TellsConsole h was is }
-    ensures beginning { (job : SourceState) (console : SinkState) → TellsJob [] job job × TellsConsole [] console console }
+    ensures beginning { (attended : Bool) (job : SourceState) (console : SinkState) → TellsJob (beginning attended) job job × TellsConsole (beginning attended) console console }
 {}

@@ -6,6 +6,7 @@ mod host;
 mod laws;
 mod line;
 mod pause;
+mod polls;
 mod ports;
 mod reader;
 mod realtime;

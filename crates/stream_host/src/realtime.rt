@@ -1,6 +1,6 @@
 //! What the realtime bytes of a job come to.
 
-ghost use Rattle.std.specs.Prelude.{◌≡◌, cond, nat_eq};
+ghost use Rattle.std.specs.Prelude.{◌≡◌, ◌||◌, cond, nat_eq};
 ghost use Rattle.stream_host.specs.Conduct.{waits_for_lines};
 ghost use Rattle.stream_host.specs.Holding.{held_after};
 ghost use Rattle.stream_host.specs.Jobs.{resume};
@@ -33,6 +33,13 @@ pub(crate) fn is_held_after(byte: u8, held: bool) -> bool
         RESUME => false,
         _ => held,
     }
+}
+
+/// Whether a `~` was raised, behind a realtime byte.
+pub(crate) fn is_resumed_after(byte: u8, resumed: bool) -> bool
+    ensures { result ≡ (nat_eq byte resume || resumed) }
+{
+    byte == RESUME || resumed
 }
 
 /// The number of the last line that asks for a pause, behind a realtime byte: a `~` ends all pauses before it.

@@ -14,4 +14,4 @@ pub returns-clause-console : goal.returns-clause-console
 returns-clause-console c = λ room host h was is fits tells. console_by host h was is fits tells
 
 pub returns-clause-beginning : goal.returns-clause-beginning
-returns-clause-beginning c = λ job console. (tells_nothing job, shows_nothing console)
+returns-clause-beginning c = λ attended job console. (tells_nothing attended job, shows_nothing attended console)

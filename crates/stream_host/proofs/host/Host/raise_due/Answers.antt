@@ -1,5 +1,6 @@
-use Rattle.std.proofs.Common.{◌≡◌, true, ◌∷◌, refl, ap, Some, ◌∙◌}
+use Rattle.std.proofs.Common.{◌≡◌, true, false, ◌∷◌, refl, ap, Some, ◌∙◌}
 use Rattle.stream_host.specs.Conduct.{AreAnswered, waits_for_lines}
+use Rattle.stream_host.specs.Steps.{is_attended}
 use Rattle.stream_host.specs.Steps.PortStep.{marked, raised}
 use Rattle.stream_host.specs.Steps.Step.{at_port}
 use Rattle.stream_host.proofs.Turns.{did_at_port, few_marked_now, few_raised_now, tells_marked, tells_raised, tells_same, waits_early, wants, wants_none, did_goes_on, waits_on, not_both}
@@ -7,7 +8,7 @@ use Rattle.stream_host.proofs.host.Host.raise_due.Goals as goal
 
 pub returns-then-is_early-clause-goes_on : goal.returns-then-is_early-clause-goes_on
 returns-then-is_early-clause-goes_on g c = λ rest h stands f polled.
-    let early : (waits_for_lines c.args.byte ≡ true → AreAnswered h) → ⊥ = (λ after. not_both _ ((c.is_early.ensures _ h f).1 after) c.if-is_early.true) in
+    let early : (is_attended h ≡ false → waits_for_lines c.args.byte ≡ true → AreAnswered h) → ⊥ = (λ after. not_both _ ((c.is_early.ensures _ h f).1 after) c.if-is_early.true) in
     (h, stands, waits_early c.args.self.now c.args.byte h f c.requires.calm polled c.requires.shown c.requires.due early, λ job console. tells_same c.args.self.now h job console)
 
 pub returns-then-is_early-clause-going : goal.returns-then-is_early-clause-going
