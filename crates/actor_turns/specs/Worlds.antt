@@ -5,7 +5,7 @@ use Rattle.outside.specs.declared.Actor.TheVariants as actors
 use Rattle.outside.specs.declared.Turn.{Turn}
 use Rattle.step_line.specs.declared.Record.{Record as AnyRecord}
 use Rattle.stream_host.specs.declared.host.Host.{Host}
-use Rattle.stream_host.specs.Steps.{Journal as HostJournal, port_log as host_log, stored_of, marks_of, got_of}
+use Rattle.stream_host.specs.Steps.{Journal as HostJournal, port_log as host_log, beginning, stored_of, marks_of, got_of}
 use Rattle.stream_host.specs.Raises.{raises_in}
 use Rattle.stream_host.specs.Hosts.{HostFits, HostTurned, HostRests, TellsJob, TellsText}
 use Rattle.stream_host.specs.Hosts.{IsBetween as IsBetweenOfHost}
@@ -70,9 +70,9 @@ pub record History : Type 0 where
   pub takes : Log
   pub stepping : Stepping
 
--- nothing was done, with a pulse of this kind
-abbrev pub no_history : Stepping → History
-no_history stepping = record { host = []; board = goes [] []; pulse = []; puts = []; takes = []; stepping = stepping }
+-- nothing was done, with a host that is attended or not, and a pulse of this kind
+abbrev pub no_history : (attended : Bool) → Stepping → History
+no_history attended stepping = record { host = beginning attended; board = goes [] []; pulse = []; puts = []; takes = []; stepping = stepping }
 
 -- how many subticks the pulse has handed out
 abbrev pub pins_in : History → ℕ
@@ -214,22 +214,22 @@ abbrev pub end_after : {N : ℕ} → Seen N → History → RunEnd
 end_after w hist = run_end (end_of hist.host) w.recorder.writer.failed
 
 -- A whole run of the job on one thread, at a link that has room for so many bytes, with a plan of so many blocks: each line that was
--- scanned has at most as many reports among the replies as it has `?`, by the lists of that run.
-pub record HasRunAlone (room blocks : ℕ) (form : Form) (was now : Devices) (end : RunEnd) : Type 0 where
-  pub run : HasRun room blocks form was now end
-  pub reports : ReportsPerLine (lines_of run.scanned) run.replies
+-- scanned has at most as many reports among the replies as it has `?`, by the lists of that run. Of an attended run that is not said.
+pub record HasRunAlone (attended : Bool) (room blocks : ℕ) (form : Form) (was now : Devices) (end : RunEnd) : Type 0 where
+  pub run : HasRun attended room blocks form was now end
+  pub reports : attended ≡ false → ReportsPerLine (lines_of run.scanned) run.replies
 
 -- That, by a pulse of this kind, which has handed out so many subticks in all. Where no reset ends an epoch, they are those of the heads
 -- of the records.
-pub record HasRunCounted (room blocks : ℕ) (form : Form) (was now : Devices) (end : RunEnd) (stepping : Stepping) (pins : ℕ) : Type 0 where
-  pub alone : HasRunAlone room blocks form was now end
+pub record HasRunCounted (attended : Bool) (room blocks : ℕ) (form : Form) (was now : Devices) (end : RunEnd) (stepping : Stepping) (pins : ℕ) : Type 0 where
+  pub alone : HasRunAlone attended room blocks form was now end
   pub counted : length alone.run.epochs ≡ 1 → pins ≡ pins_by_heads stepping alone.run.records
 
 -- ---- its reports, line by line
 
 -- What was read of the job since a moment, and scanned, and the replies whose text the console was given, as far as it does not
--- wait: each line that was scanned has at most as many reports among them as it has `?`.
-pub record CountsReports (was now : Devices) : Type 0 where
+-- wait: each line that was scanned has at most as many reports among them as it has `?`. Of an attended run that is not said.
+pub record CountsReports (attended : Bool) (was now : Devices) : Type 0 where
   pub read : List ℕ
   pub reading : Reading
   pub scanned : List ℕ
@@ -241,4 +241,4 @@ pub record CountsReports (was now : Devices) : Type 0 where
   pub failed : Bool
   pub waiting : List ℕ
   pub console : Wrote was.console now.console failed waiting (replies_text replies)
-  pub reports : ReportsPerLine (lines_of scanned) replies
+  pub reports : attended ≡ false → ReportsPerLine (lines_of scanned) replies

@@ -26,9 +26,9 @@ pub struct CountedEnd {
 fn end_of<const RX: usize, const N: usize>(world: World<RX, N>) -> CountedEnd
     ensures tells { (hist : History) → Holds world.entry hist → result.end ≡ end_after world.entry hist }
     ensures pins { (hist : History) → Holds world.entry hist → result.pins ≡ pins_in hist }
-    ensures whole { (form : Form) (was now : Devices) (hist : History) → Stands form was now world.entry hist → AreDone world.entry → HasRun RX (N - 1) form was now result.end }
-    ensures alone { (form : Form) (was now : Devices) (hist : History) → Stands form was now world.entry hist → AreDone world.entry → HasRunAlone RX (N - 1) form was now result.end }
-    ensures counted { (form : Form) (was now : Devices) (hist : History) → Stands form was now world.entry hist → AreDone world.entry → HasRunCounted RX (N - 1) form was now result.end hist.stepping result.pins }
+    ensures whole { (form : Form) (was now : Devices) (hist : History) → Stands form was now world.entry hist → AreDone world.entry → HasRun world.entry.host.attended RX (N - 1) form was now result.end }
+    ensures alone { (form : Form) (was now : Devices) (hist : History) → Stands form was now world.entry hist → AreDone world.entry → HasRunAlone world.entry.host.attended RX (N - 1) form was now result.end }
+    ensures counted { (form : Form) (was now : Devices) (hist : History) → Stands form was now world.entry hist → AreDone world.entry → HasRunCounted world.entry.host.attended RX (N - 1) form was now result.end hist.stepping result.pins }
 {
     CountedEnd {
         end: world.end(),
@@ -36,14 +36,15 @@ fn end_of<const RX: usize, const N: usize>(world: World<RX, N>) -> CountedEnd
     }
 }
 
-/// Runs a job on this thread, in the order of turns that a seed gives, with steps of a form and a pulse of a kind, over a link of `RX`
-/// bytes and a plan of `N` - 1 blocks. Answers how the run ends, and how many subticks were handed out. All room is taken before the
-/// first turn; where there is none, no device is touched.
+/// Runs a job on this thread, in the order of turns that a seed gives, with steps of a form and a pulse of a kind, for a sender that
+/// stands by or not, over a link of `RX` bytes and a plan of `N` - 1 blocks. Answers how the run ends, and how many subticks were handed
+/// out. All room is taken before the first turn; where there is none, no device is touched.
 pub fn count_in_lockstep<R: Wait, So: Source, Co: Sink, St: Sink, const RX: usize, const N: usize>(
     rt: &R,
     alloc: Global,
     form: Form,
     stepping: Stepping,
+    attended: bool,
     seed: u64,
     job: &mut So,
     console: &mut Co,
@@ -51,11 +52,11 @@ pub fn count_in_lockstep<R: Wait, So: Source, Co: Sink, St: Sink, const RX: usiz
 ) -> Result<CountedEnd, OutOfMemory>
     requires room { IsRoom RX }
     requires slots { (2 ≤ N) × (N ≤ 64) }
-    ensures run { IfOk result (λ counted. HasRun RX (N - 1) form (devices (So.state job.old) (Co.state console.old) (St.state steps.old)) (devices (So.state job.new) (Co.state console.new) (St.state steps.new)) counted.end) }
-    ensures order { IfOk result (λ counted. IsCountedRun RX N form stepping seed (devices (So.state job.old) (Co.state console.old) (St.state steps.old)) (devices (So.state job.new) (Co.state console.new) (St.state steps.new)) counted.end counted.pins) }
+    ensures run { IfOk result (λ counted. HasRun attended RX (N - 1) form (devices (So.state job.old) (Co.state console.old) (St.state steps.old)) (devices (So.state job.new) (Co.state console.new) (St.state steps.new)) counted.end) }
+    ensures order { IfOk result (λ counted. IsCountedRun attended RX N form stepping seed (devices (So.state job.old) (Co.state console.old) (St.state steps.old)) (devices (So.state job.new) (Co.state console.new) (St.state steps.new)) counted.end counted.pins) }
     ensures untouched { OnErr result ((job.new ≡ job.old) × (console.new ≡ console.old) × (steps.new ≡ steps.old)) }
 {
-    let mut world = World::<RX, N>::stepping(alloc, form, stepping)?;
+    let mut world = World::<RX, N>::stepping(alloc, form, stepping, attended)?;
     run_lockstep(rt, &mut world, seed, job, console, steps);
     Ok(end_of(world))
 }
@@ -66,6 +67,7 @@ pub fn run_in_lockstep<R: Wait, So: Source, Co: Sink, St: Sink, const RX: usize,
     alloc: Global,
     form: Form,
     stepping: Stepping,
+    attended: bool,
     seed: u64,
     job: &mut So,
     console: &mut Co,
@@ -73,34 +75,36 @@ pub fn run_in_lockstep<R: Wait, So: Source, Co: Sink, St: Sink, const RX: usize,
 ) -> Result<RunEnd, OutOfMemory>
     requires room { IsRoom RX }
     requires slots { (2 ≤ N) × (N ≤ 64) }
-    ensures run { IfOk result (λ end. HasRun RX (N - 1) form (devices (So.state job.old) (Co.state console.old) (St.state steps.old)) (devices (So.state job.new) (Co.state console.new) (St.state steps.new)) end) }
-    ensures order { IfOk result (λ end. IsLockstepRun RX N form stepping seed (devices (So.state job.old) (Co.state console.old) (St.state steps.old)) (devices (So.state job.new) (Co.state console.new) (St.state steps.new)) end) }
+    ensures run { IfOk result (λ end. HasRun attended RX (N - 1) form (devices (So.state job.old) (Co.state console.old) (St.state steps.old)) (devices (So.state job.new) (Co.state console.new) (St.state steps.new)) end) }
+    ensures order { IfOk result (λ end. IsLockstepRun attended RX N form stepping seed (devices (So.state job.old) (Co.state console.old) (St.state steps.old)) (devices (So.state job.new) (Co.state console.new) (St.state steps.new)) end) }
     ensures untouched { OnErr result ((job.new ≡ job.old) × (console.new ≡ console.old) × (steps.new ≡ steps.old)) }
 {
     let counted = count_in_lockstep::<_, _, _, _, RX, N>(
-        rt, alloc, form, stepping, seed, job, console, steps,
+        rt, alloc, form, stepping, attended, seed, job, console, steps,
     )?;
     Ok(counted.end)
 }
 
 /// Runs a job on this thread at its pace, host and board first, the motion where both wait, with steps of a form
-/// and a pulse of a kind. Answers how the run ends. All room is taken before the first turn; where there is none, no device is touched.
+/// and a pulse of a kind, for a sender that stands by or not. Answers how the run ends. All room is taken before the first turn; where
+/// there is none, no device is touched.
 pub fn run_at_a_pace<R: Wait, So: Source, Co: Sink, St: Sink, const RX: usize, const N: usize>(
     rt: &R,
     alloc: Global,
     form: Form,
     stepping: Stepping,
+    attended: bool,
     job: &mut So,
     console: &mut Co,
     steps: &mut St,
 ) -> Result<RunEnd, OutOfMemory>
     requires room { IsRoom RX }
     requires slots { (2 ≤ N) × (N ≤ 64) }
-    ensures run { IfOk result (λ end. HasRun RX (N - 1) form (devices (So.state job.old) (Co.state console.old) (St.state steps.old)) (devices (So.state job.new) (Co.state console.new) (St.state steps.new)) end) }
-    ensures order { IfOk result (λ end. IsPacedRun RX N form stepping (devices (So.state job.old) (Co.state console.old) (St.state steps.old)) (devices (So.state job.new) (Co.state console.new) (St.state steps.new)) end) }
+    ensures run { IfOk result (λ end. HasRun attended RX (N - 1) form (devices (So.state job.old) (Co.state console.old) (St.state steps.old)) (devices (So.state job.new) (Co.state console.new) (St.state steps.new)) end) }
+    ensures order { IfOk result (λ end. IsPacedRun attended RX N form stepping (devices (So.state job.old) (Co.state console.old) (St.state steps.old)) (devices (So.state job.new) (Co.state console.new) (St.state steps.new)) end) }
     ensures untouched { OnErr result ((job.new ≡ job.old) × (console.new ≡ console.old) × (steps.new ≡ steps.old)) }
 {
-    let mut world = World::<RX, N>::stepping(alloc, form, stepping)?;
+    let mut world = World::<RX, N>::stepping(alloc, form, stepping, attended)?;
     run_paced(rt, &mut world, job, console, steps);
     Ok(end_of(world).end)
 }

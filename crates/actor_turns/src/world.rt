@@ -1,7 +1,7 @@
 //! The actors of a run, and the lists between them.
 
 ghost use Rattle.serial_ring.specs.Lists.{IsRoom};
-ghost use Rattle.std.specs.Prelude.{◌≡◌, ◌≢◌, ◌↔◌, ◌<◌, ◌≤◌, ◌-◌, true, [], IfOk};
+ghost use Rattle.std.specs.Prelude.{◌≡◌, ◌≢◌, ◌↔◌, ◌<◌, ◌≤◌, ◌-◌, true, false, IfOk};
 ghost use Rattle.outside.specs.Causes.{SourceState, SinkState};
 ghost use Rattle.stream_host.specs.Hosts.{HostRests};
 ghost use Rattle.controller.specs.Boards.{BoardRests};
@@ -53,35 +53,36 @@ impl<const RX: usize, const N: usize> World<RX, N> {
     pub fn new(alloc: Global, form: Form) -> Result<World<RX, N>, OutOfMemory>
         requires room { IsRoom RX }
         requires slots { (2 ≤ N) × (N ≤ 64) }
-        ensures fresh { IfOk result (λ world. (now : Devices) → Stands form now now world (no_history Events)) }
+        ensures fresh { IfOk result (λ world. (now : Devices) → Stands form now now world (no_history false Events)) }
         ensures room { IfOk result (λ world. world.room ≡ RX) }
     {
-        World::stepping(alloc, form, Stepping::Events)
+        World::stepping(alloc, form, Stepping::Events, false)
     }
 
     /// Such a world whose pulse hands out the subticks of each event, so that slow axes step in between. All room is taken here.
     pub fn smooth(alloc: Global, form: Form) -> Result<World<RX, N>, OutOfMemory>
         requires room { IsRoom RX }
         requires slots { (2 ≤ N) × (N ≤ 64) }
-        ensures fresh { IfOk result (λ world. (now : Devices) → Stands form now now world (no_history Subticks)) }
+        ensures fresh { IfOk result (λ world. (now : Devices) → Stands form now now world (no_history false Subticks)) }
         ensures room { IfOk result (λ world. world.room ≡ RX) }
     {
-        World::stepping(alloc, form, Stepping::Subticks)
+        World::stepping(alloc, form, Stepping::Subticks, false)
     }
 
-    /// Such a world with a pulse of either kind.
+    /// Such a world with a pulse of either kind, whose sender stands by or not.
     pub(crate) fn stepping(
         alloc: Global,
         form: Form,
         stepping: Stepping,
+        attended: bool,
     ) -> Result<World<RX, N>, OutOfMemory>
         requires room { IsRoom RX }
         requires slots { (2 ≤ N) × (N ≤ 64) }
-        ensures fresh { IfOk result (λ world. (now : Devices) → Stands form now now world (no_history stepping)) }
+        ensures fresh { IfOk result (λ world. (now : Devices) → Stands form now now world (no_history attended stepping)) }
         ensures room { IfOk result (λ world. world.room ≡ RX) }
     {
         Ok(World {
-            host: Host::new(RX as u8),
+            host: Host::new(RX as u8, attended),
             board: Controller::new(),
             pulse: MotionPulse::new(stepping),
             recorder: Recorder::new(form),
@@ -222,12 +223,13 @@ impl<const RX: usize, const N: usize> World<RX, N> {
 
     /// How the run ends: why no more of the job was sent, what was answered, and which devices have failed. Where all four
     /// actors are done, a run of the job was done since the world was new, and this is its end; each line of it has at most as many
-    /// reports as it has `?`; and where no reset ends an epoch, the subticks that were handed out are those of the heads of its records.
+    /// reports as it has `?`, where the host is not attended; and where no reset ends an epoch, the subticks that were handed out are those
+    /// of the heads of its records.
     pub fn end(&self) -> RunEnd
         ensures tells { (hist : History) → Holds self.now hist → result ≡ end_after self.now hist }
-        ensures whole { (form : Form) (was now : Devices) (hist : History) → Stands form was now self.now hist → AreDone self.now → HasRun RX (N - 1) form was now result }
-        ensures alone { (form : Form) (was now : Devices) (hist : History) → Stands form was now self.now hist → AreDone self.now → HasRunAlone RX (N - 1) form was now result }
-        ensures counted { (form : Form) (was now : Devices) (hist : History) → Stands form was now self.now hist → AreDone self.now → HasRunCounted RX (N - 1) form was now result hist.stepping (pins_in hist) }
+        ensures whole { (form : Form) (was now : Devices) (hist : History) → Stands form was now self.now hist → AreDone self.now → HasRun self.now.host.attended RX (N - 1) form was now result }
+        ensures alone { (form : Form) (was now : Devices) (hist : History) → Stands form was now self.now hist → AreDone self.now → HasRunAlone self.now.host.attended RX (N - 1) form was now result }
+        ensures counted { (form : Form) (was now : Devices) (hist : History) → Stands form was now self.now hist → AreDone self.now → HasRunCounted self.now.host.attended RX (N - 1) form was now result hist.stepping (pins_in hist) }
     {
         worlds_run();
         RunEnd {

@@ -124,10 +124,10 @@ module _ (room blocks : ℕ) (h : HostDid) (b : BoardDid) (sent : List Sent) (bo
 
 -- ---- all of it
 
-abbrev pub texts_fit : (room blocks : ℕ) (job_was job_is : SourceState) (console_was console_is : SinkState) (end : HostEnd) (h : HostDid) (b : BoardDid) (p : PulseDid)
-    → (host : HasSent room job_was job_is console_was console_is h end) → BoardRan blocks b → PulseRan p → AreConnected room h b → ArePassed b p → BeginsWith b.answered h.got → without_reports h.got ≡ without_reports b.answered
+abbrev pub texts_fit : (attended : Bool) (room blocks : ℕ) (job_was job_is : SourceState) (console_was console_is : SinkState) (end : HostEnd) (h : HostDid) (b : BoardDid) (p : PulseDid)
+    → (host : HasSent attended room job_was job_is console_was console_is h end) → BoardRan blocks b → PulseRan p → AreConnected room h b → ArePassed b p → BeginsWith b.answered h.got → without_reports h.got ≡ without_reports b.answered
     → FitsTexts (sent_of host.ran.lines host.rest) (slows_in host.ran.scanned) (without_byes h.got) p.put
-texts_fit room blocks job_was job_is console_was console_is end h b p host board pulse connected passed begins same = record {
+texts_fit attended room blocks job_was job_is console_was console_is end h b p host board pulse connected passed begins same = record {
   first = board.first;
   opens = board.opens;
   course = board.course;

@@ -55,8 +55,8 @@ plain_no_byes (r ∷ rs) none = (none.0, plain_no_byes rs none.1)
 
 -- ---- a run
 
-module _ (room blocks : ℕ) (form : Form) (job_was job_is : SourceState) (was is : Sinks) (end : HostEnd) (steps_failed : Bool) (h : HostDid) (b : BoardDid) (p : PulseDid) (records : List Record)
-    (host : HasSent room job_was job_is was.console is.console h end) (board : BoardRan blocks b) (pulse : PulseRan p) (recorder : RecorderRan form was.steps is.steps records steps_failed)
+module _ (attended : Bool) (room blocks : ℕ) (form : Form) (job_was job_is : SourceState) (was is : Sinks) (end : HostEnd) (steps_failed : Bool) (h : HostDid) (b : BoardDid) (p : PulseDid) (records : List Record)
+    (host : HasSent attended room job_was job_is was.console is.console h end) (board : BoardRan blocks b) (pulse : PulseRan p) (recorder : RecorderRan form was.steps is.steps records steps_failed)
     (connected : AreConnected room h b) (passed : ArePassedSome b p) (some_replies : BeginsWith b.answered h.got) (some_records : BeginsWith p.put records) where
   told_none : NoByes (replies.Banner ∷ told_in board.course)
   told_none =
@@ -81,5 +81,5 @@ module _ (room blocks : ℕ) (form : Form) (job_was job_is : SourceState) (was i
   same_records =
       records_whole p.put records (all_ended (parts_of board.course) origin p.put (one_end board.course) (put_recorded blocks b p board pulse all_passed)) recorder.ended (as_front p.put records some_records)
 
-  pub run_ended : (run : IsRun room blocks form job_was job_is was is (run_end end steps_failed)) × (run.scanned ≡ host.ran.scanned) × (run.replies ≡ h.got) × (run.records ≡ p.put) × HasHaltedFor run.epochs p
-  run_ended = run_made room blocks form job_was job_is was is end steps_failed h b p records host board pulse recorder connected all_passed some_replies same_replies same_records
+  pub run_ended : (run : IsRun attended room blocks form job_was job_is was is (run_end end steps_failed)) × (run.scanned ≡ host.ran.scanned) × (run.replies ≡ h.got) × (run.records ≡ p.put) × HasHaltedFor run.epochs p
+  run_ended = run_made attended room blocks form job_was job_is was is end steps_failed h b p records host board pulse recorder connected all_passed some_replies same_replies same_records

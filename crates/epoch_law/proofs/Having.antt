@@ -11,7 +11,7 @@ use Rattle.step_line.specs.declared.Piece.TheVariants as pieces
 use Rattle.stream_host.specs.Conduct.{Conducted}
 use Rattle.stream_host.specs.Ran.{HasFinished, TellsConsole, end_of}
 use Rattle.stream_host.specs.Hosts.{TellsJob}
-use Rattle.stream_host.specs.Steps.{Journal, is_shut, has_limit, scanned_of, cut_of, raw_of, stored_of, marks_of}
+use Rattle.stream_host.specs.Steps.{Journal, is_shut, has_limit, is_attended, scanned_of, cut_of, raw_of, stored_of, marks_of}
 use Rattle.stream_host.proofs.Keeping.{IsCut, cut_is}
 use Rattle.stream_host.proofs.Running.{has_run_of, ran_lines, runs_of, ran_forgotten}
 use Rattle.epoch_links.specs.Pieces.{IsFrontOf}
@@ -56,7 +56,7 @@ sent_shut true true e = absurd cc
 sent_shut false limit e = absurd cc
 
 pub host_sent : (room : ℕ) (h : Journal) (job_was job_is : SourceState) (console_was console_is : SinkState) → Conducted room h → HasFinished h → TellsJob h job_was job_is → TellsConsole h console_was console_is
-    → (sent : HasSent room job_was job_is console_was console_is (host_did h) (end_of h)) × (sent.ran.scanned ≡ scanned_of h)
+    → (sent : HasSent (is_attended h) room job_was job_is console_was console_is (host_did h) (end_of h)) × (sent.ran.scanned ≡ scanned_of h)
 host_sent room h job_was job_is console_was console_is c finished job console =
     let ran = has_run_of room h job_was job_is console_was console_is c finished job console in
     let lines : ran.0.lines ≡ cut_of h = ran_lines room h job_was job_is console_was console_is c finished job console in (
@@ -77,7 +77,7 @@ host_sent room h job_was job_is console_was console_is c finished job console =
     )
 
 -- before it is done
-pub host_sends : (room : ℕ) (h : Journal) (job_was job_is : SourceState) (console_was console_is : SinkState) → Conducted room h → TellsJob h job_was job_is → TellsConsole h console_was console_is → Sending room job_was job_is console_was console_is (host_did h)
+pub host_sends : (room : ℕ) (h : Journal) (job_was job_is : SourceState) (console_was console_is : SinkState) → Conducted room h → TellsJob h job_was job_is → TellsConsole h console_was console_is → Sending (is_attended h) room job_was job_is console_was console_is (host_did h)
 host_sends room h job_was job_is console_was console_is c job console =
     let of_host = runs_of room h job_was job_is console_was console_is c job console in
     record {

@@ -39,8 +39,8 @@ use Rattle.epoch_law.proofs.Sending.{cancels_scanned, reports_scanned, epochs_sc
 errors_on : (rs ss : List Reply) → errors_among (rs ++ ss) ≡ errors_among rs + errors_among ss
 errors_on rs ss = sum_by-append (λ s. cond (is_error s) 1 0) rs ss
 
-module _ (room blocks : ℕ) (form : Form) (job_was job_is : SourceState) (was is : Sinks) (end : HostEnd) (steps_failed : Bool) (h : HostDid) (b : BoardDid) (p : PulseDid) (records : List Record)
-    (host : HasSent room job_was job_is was.console is.console h end) (board : BoardRan blocks b) (pulse : PulseRan p) (recorder : RecorderRan form was.steps is.steps records steps_failed)
+module _ (attended : Bool) (room blocks : ℕ) (form : Form) (job_was job_is : SourceState) (was is : Sinks) (end : HostEnd) (steps_failed : Bool) (h : HostDid) (b : BoardDid) (p : PulseDid) (records : List Record)
+    (host : HasSent attended room job_was job_is was.console is.console h end) (board : BoardRan blocks b) (pulse : PulseRan p) (recorder : RecorderRan form was.steps is.steps records steps_failed)
     (connected : AreConnected room h b) (passed : ArePassed b p) (begins : BeginsWith b.answered h.got) (same_replies : without_reports h.got ≡ without_reports b.answered) (same_records : records ≡ p.put) where
   abbrev sent : List Sent
   sent = sent_of host.ran.lines host.rest
@@ -66,7 +66,7 @@ module _ (room blocks : ℕ) (form : Form) (job_was job_is : SourceState) (was i
   errors : errors_among h.got ≡ errors_among (told_in board.course)
   errors = let a = errors_without h.got in let t = ap errors_among told in let o = errors_on (told_in board.course) (Bye ∷ []) in omega (arith, a, t, o)
 
-  abbrev sending : IsScannedAndSent room job_was job_is (run_end end steps_failed) host.ran.read host.ran.reading host.ran.scanned host.ran.lines host.rest h.got
+  abbrev sending : IsScannedAndSent attended room job_was job_is (run_end end steps_failed) host.ran.read host.ran.reading host.ran.scanned host.ran.lines host.rest h.got
   sending = record {
     taken = host.ran.taken;
     at_end = host.ran.at_end;
@@ -132,13 +132,13 @@ module _ (room blocks : ℕ) (form : Form) (job_was job_is : SourceState) (was i
   ending = record {
     lost = board.lost ∙ sym (connected.lost (banners_got h.got (told_in board.course) told ∙ ap (λ n. n + 1) board.greets)) ∙ sym host.forgotten;
     stop = host.ran.stop;
-    greeted = λ calm. each_greeted room job_was job_is was.console is.console h end host.ran (told_in board.course) (sent_out calm) told;
+    greeted = λ calm. each_greeted attended room job_was job_is was.console is.console h end host.ran (told_in board.course) (sent_out calm) told;
     failed = host.ran.failed;
     source = host.ran.source;
     source_same = host.ran.source_same;
   }
 
-  pub run_made : (run : IsRun room blocks form job_was job_is was is (run_end end steps_failed)) × (run.scanned ≡ host.ran.scanned) × (run.replies ≡ h.got) × (run.records ≡ p.put) × HasHaltedFor run.epochs p
+  pub run_made : (run : IsRun attended room blocks form job_was job_is was is (run_end end steps_failed)) × (run.scanned ≡ host.ran.scanned) × (run.replies ≡ h.got) × (run.records ≡ p.put) × HasHaltedFor run.epochs p
   run_made = (
     record {
       read = host.ran.read;
@@ -152,7 +152,7 @@ module _ (room blocks : ℕ) (form : Form) (job_was job_is : SourceState) (was i
       epochs = board.epochs;
       effects = board.effects;
       sending = sending;
-      fits = texts_fit room blocks job_was job_is was.console is.console end h b p host board pulse connected passed begins same_replies;
+      fits = texts_fit attended room blocks job_was job_is was.console is.console end h b p host board pulse connected passed begins same_replies;
       telling = telling;
       recording = recording;
       doing = doing;

@@ -1,5 +1,5 @@
 -- Four actors that run have done a run so far.
-use Rattle.std.proofs.Common.{◌⊎◌, inl, inr, ℕ, List, [], ◌∷◌, ◌++◌, length, refl, sym, subst, arith}
+use Rattle.std.proofs.Common.{◌⊎◌, inl, inr, ℕ, Bool, List, [], ◌∷◌, ◌++◌, length, refl, sym, subst, arith}
 use Rattle.flight.specs.Places.{origin}
 use Rattle.outside.specs.Causes.{SourceState}
 use Rattle.run_law.specs.Runs.{Sinks, slows_in}
@@ -34,8 +34,8 @@ use Rattle.epoch_law.proofs.Causing.{causes_with_more, drops_with_more}
 use Rattle.epoch_law.proofs.Sending.{cancels_scanned, reports_scanned, epochs_scanned, all_cancels, all_asked}
 use Rattle.epoch_law.proofs.SoFar.{texts_so_far}
 
-module _ (room blocks : ℕ) (form : Form) (job_was job_is : SourceState) (was is : Sinks) (h : HostDid) (b : BoardDid) (p : PulseDid) (taken : List Record)
-    (host : Sending room job_was job_is was.console is.console h) (board : BoardRuns blocks (length (ticks_among p.put)) b) (pulse : PulseRuns p) (recorder : RecorderRuns form was.steps is.steps taken)
+module _ (attended : Bool) (room blocks : ℕ) (form : Form) (job_was job_is : SourceState) (was is : Sinks) (h : HostDid) (b : BoardDid) (p : PulseDid) (taken : List Record)
+    (host : Sending attended room job_was job_is was.console is.console h) (board : BoardRuns blocks (length (ticks_among p.put)) b) (pulse : PulseRuns p) (recorder : RecorderRuns form was.steps is.steps taken)
     (connected : AreConnected room h b) (passed : ArePassedSoFar (length (ticks_among p.put)) b p) (some_replies : BeginsWith b.answered h.got) (some_records : BeginsWith p.put taken) where
   abbrev sent : List Sent
   sent = sent_of host.runs.lines host.rest
@@ -58,9 +58,9 @@ module _ (room blocks : ℕ) (form : Form) (job_was job_is : SourceState) (was i
   put_are = by_pieces passed
 
   abbrev fits : FitsSoFar sent (slows_in host.runs.scanned) (without_byes h.got) put_are.made
-  fits = texts_so_far room blocks job_was job_is was.console is.console h b ticks put_are.made host board connected some_replies (made_so_far (parts_of board.course) origin epochs put_are.made board.run put_are.are)
+  fits = texts_so_far attended room blocks job_was job_is was.console is.console h b ticks put_are.made host board connected some_replies (made_so_far (parts_of board.course) origin epochs put_are.made board.run put_are.are)
 
-  sending : IsScannedSoFar room job_was job_is host.runs.read host.runs.reading host.runs.scanned host.runs.lines host.rest h.got
+  sending : IsScannedSoFar attended room job_was job_is host.runs.read host.runs.reading host.runs.scanned host.runs.lines host.rest h.got
   sending = record {
     taken = host.runs.taken;
     sent = subst (λ (stop : Stop). IsSentSoFar host.runs.read host.runs.reading host.runs.scanned host.runs.lines stop) host.runs.sent.cause host.runs.sent;
@@ -109,7 +109,7 @@ module _ (room blocks : ℕ) (form : Form) (job_was job_is : SourceState) (was i
         (drops_with_more room 0 (opening board.first) board.point (items_in b.taken) board.left more.rest board.course board.leads (board.drops room connected.few));
   }
 
-  pub runs_so_far : IsSoFar room blocks form job_was job_is was is
+  pub runs_so_far : IsSoFar attended room blocks form job_was job_is was is
   runs_so_far = record {
     read = host.runs.read;
     reading = host.runs.reading;

@@ -49,9 +49,9 @@ banners_got rs told is =
     omega (arith, plain, all, first, both)
 
 -- so each reset has one, behind the first
-pub each_greeted : (room : ℕ) (job_was job_is : SourceState) (console_was console_is : SinkState) (h : HostDid) (end : HostEnd) (ran : HostRan room job_was job_is console_was console_is h.stored h.marks h.shut h.raised h.got end) (told : List Reply)
+pub each_greeted : (attended : Bool) (room : ℕ) (job_was job_is : SourceState) (console_was console_is : SinkState) (h : HostDid) (end : HostEnd) (ran : HostRan attended room job_was job_is console_was console_is h.stored h.marks h.shut h.raised h.got end) (told : List Reply)
     → is_sent_out h.shut h.got ≡ true → without_reports h.got ≡ Banner ∷ (told ++ Bye ∷ []) → banners_in h.got ≡ resets_scanned ran.scanned + 1
-each_greeted room job_was job_is console_was console_is h end ran said out told =
+each_greeted attended room job_was job_is console_was console_is h end ran said out told =
     let ends = length-ended h.marks ran.ended (ran.all_ended out) in
     let marks = ap length (ran.all_marked out) in
     let long = length-reverse h.marks in

@@ -1,5 +1,5 @@
 -- What host and board have done so far fits the texts, where what is recorded is made of the course.
-use Rattle.std.proofs.Common.{◌≡◌, inl, inr, ℕ, not, List, [], ◌∷◌, ◌++◌, refl, sym, ap, ◌∙◌, subst, append_assoc, arith}
+use Rattle.std.proofs.Common.{◌≡◌, inl, inr, ℕ, Bool, not, List, [], ◌∷◌, ◌++◌, refl, sym, ap, ◌∙◌, subst, append_assoc, arith}
 use Rattle.std.proofs.lemmas.List.Elements.{filter-append}
 use Rattle.flight.specs.Places.{origin}
 use Rattle.outside.specs.Causes.{SourceState, SinkState}
@@ -46,10 +46,10 @@ got_begins answered got b begins =
 
 -- ---- the texts
 
-abbrev pub texts_so_far : (room blocks : ℕ) (job_was job_is : SourceState) (console_was console_is : SinkState) (h : HostDid) (b : BoardDid) (ticks : ℕ) (records : List Record)
-    → (host : Sending room job_was job_is console_was console_is h) → (board : BoardRuns blocks ticks b) → AreConnected room h b → BeginsWith b.answered h.got → AreMadeSoFar origin (parts_of board.course) records
+abbrev pub texts_so_far : (attended : Bool) (room blocks : ℕ) (job_was job_is : SourceState) (console_was console_is : SinkState) (h : HostDid) (b : BoardDid) (ticks : ℕ) (records : List Record)
+    → (host : Sending attended room job_was job_is console_was console_is h) → (board : BoardRuns blocks ticks b) → AreConnected room h b → BeginsWith b.answered h.got → AreMadeSoFar origin (parts_of board.course) records
     → FitsSoFar (sent_of host.runs.lines host.rest) (slows_in host.runs.scanned) (without_byes h.got) records
-texts_so_far room blocks job_was job_is console_was console_is h b ticks records host board connected front made =
+texts_so_far attended room blocks job_was job_is console_was console_is h b ticks records host board connected front made =
     let sent = sent_of host.runs.lines host.rest in
     let cut : EndAtMarks h.stored h.marks b.taken = cut_at_marks h.stored h.marks h.at_got (joined b.taken) b.at_answers b.loaded h.shut b.closed b.taken connected.link host.awaits board.ends in
     let begins : BeginsWith sent (items_in b.taken) = fronts sent h.stored h.marks h.at_got (joined b.taken) b.at_answers b.loaded h.shut b.closed b.taken host.front connected.link board.ends cut in

@@ -70,9 +70,9 @@ pub record Sends (lines : List (List ℕ)) (rest : List ℕ) (d : HostDid) : Typ
   pub greeted : is_sent_out d.shut d.got ≡ true → HasBanners d.marks d.at_got
   pub whole : is_sent_out d.shut d.got ≡ true → IsAllOf (sent_of lines rest) d.stored d.marks
 
--- A host has run over epochs.
-pub record HasSent (room : ℕ) (job_was job_is : SourceState) (console_was console_is : SinkState) (d : HostDid) (end : HostEnd) : Type 0 where
-  pub ran : HostRan room job_was job_is console_was console_is d.stored d.marks d.shut d.raised d.got end
+-- A host has run over epochs, attended or not.
+pub record HasSent (attended : Bool) (room : ℕ) (job_was job_is : SourceState) (console_was console_is : SinkState) (d : HostDid) (end : HostEnd) : Type 0 where
+  pub ran : HostRan attended room job_was job_is console_was console_is d.stored d.marks d.shut d.raised d.got end
   pub rest : List ℕ
   pub is_rest : IsRest ran.scanned ran.lines rest
   pub sends : Sends ran.lines rest d

@@ -1,5 +1,5 @@
 -- What a run of a job is over epochs, and how it ends, and not who has done it.
-use Rattle.std.specs.Prelude.{◌≡◌, ℕ, ◌+◌, ◌≤◌, true, false, List, [], ◌∷◌, ◌++◌, length, map, sum}
+use Rattle.std.specs.Prelude.{◌≡◌, ℕ, ◌+◌, ◌≤◌, Bool, true, false, List, [], ◌∷◌, ◌++◌, length, map, sum}
 use Rattle.std.specs.Io.KnownBytes.{Consumes, IsAtEnd}
 use Rattle.std.specs.List.{AllByRecursion, count_by, flat_map}
 use Rattle.flight.specs.Places.{origin}
@@ -49,8 +49,9 @@ use Rattle.epoch_law.specs.Ran.{IsRest, AreMade, lost_in}
 -- What was scanned and sent of the job: some of it was read, and some lines of it were sent, all that are to be sent if no alarm was told.
 -- A rest was scanned behind them. The lines and the replies are those of epochs, each but the first begun by a Banner: at the end of each
 -- the lines that have no answer are forgotten, which take no more bytes than the link has room for, each with its LF; the others live.
--- Each line that lives, asks for a report and is answered has one, behind the answers to the lines before it.
-pub record IsScannedAndSent (room : ℕ) (job_was job_is : SourceState) (end : RunEnd) (read : List ℕ) (reading : Reading) (scanned : List ℕ) (lines : List (List ℕ)) (rest : List ℕ) (replies : List Reply) : Type 0 where
+-- Each line that lives, asks for a report and is answered has one, behind the answers to the lines before it; of an attended run that is
+-- not said.
+pub record IsScannedAndSent (attended : Bool) (room : ℕ) (job_was job_is : SourceState) (end : RunEnd) (read : List ℕ) (reading : Reading) (scanned : List ℕ) (lines : List (List ℕ)) (rest : List ℕ) (replies : List Reply) : Type 0 where
   pub taken : Consumes job_was.left job_is.left read
   pub at_end : reading ≡ Ended → IsAtEnd job_is.left
   pub so_far : IsSentSoFar read reading scanned lines (stop_by reading scanned)
@@ -62,7 +63,7 @@ pub record IsScannedAndSent (room : ℕ) (job_was job_is : SourceState) (end : R
   pub ended : List host.Epoch
   pub now : host.Epoch
   pub epochs : host.AreEpochs room lines live replies ended now
-  pub reported : AreReported live replies
+  pub reported : attended ≡ false → AreReported live replies
 
 -- ---- the console
 
@@ -136,9 +137,10 @@ pub record HasEnded (job_was job_is : SourceState) (end : RunEnd) (reading : Rea
 
 -- ---- a run
 
--- A run of a job over epochs, at a link that has room for so many bytes, with a plan of so many blocks, and whose steps have a form, whatever failed: what was read, scanned and sent of it; the replies and records that
--- were made; that these texts fit, by one course; and beside this course how it was run, what words of flags have done, and how it ended.
-pub record IsRun (room blocks : ℕ) (form : Form) (job_was job_is : SourceState) (was is : Sinks) (end : RunEnd) : Type 0 where
+-- A run of a job over epochs, attended or not, at a link that has room for so many bytes, with a plan of so many blocks, and whose steps
+-- have a form, whatever failed: what was read, scanned and sent of it; the replies and records that were made; that these texts fit, by one
+-- course; and beside this course how it was run, what words of flags have done, and how it ended.
+pub record IsRun (attended : Bool) (room blocks : ℕ) (form : Form) (job_was job_is : SourceState) (was is : Sinks) (end : RunEnd) : Type 0 where
   pub read : List ℕ
   pub reading : Reading
   pub scanned : List ℕ
@@ -149,7 +151,7 @@ pub record IsRun (room blocks : ℕ) (form : Form) (job_was job_is : SourceState
   pub drives : List Driven
   pub epochs : List Epoch
   pub effects : List EpochEffects
-  pub sending : IsScannedAndSent room job_was job_is end read reading scanned lines rest replies
+  pub sending : IsScannedAndSent attended room job_was job_is end read reading scanned lines rest replies
   pub fits : FitsTexts (sent_of lines rest) (slows_in scanned) (without_byes replies) records
   pub telling : IsToldAndAnswered was is end fits.course fits.last replies
   pub recording : IsRunAndRecorded blocks form was is end fits.course drives epochs records

@@ -48,8 +48,8 @@ use Rattle.epoch_law.specs.Ran.{HostDid, BoardDid, PulseDid, IsRest, AreMade}
 use Rattle.epoch_law.specs.Runs.{HasEffects, HasCauses}
 
 -- A host runs over epochs: it has stored and marked a front of its lines and the resets that came of them and of a rest.
-pub record Sending (room : ℕ) (job_was job_is : SourceState) (console_was console_is : SinkState) (d : HostDid) : Type 0 where
-  pub runs : HostRuns room job_was job_is console_was console_is d.stored d.marks d.raised d.got
+pub record Sending (attended : Bool) (room : ℕ) (job_was job_is : SourceState) (console_was console_is : SinkState) (d : HostDid) : Type 0 where
+  pub runs : HostRuns attended room job_was job_is console_was console_is d.stored d.marks d.raised d.got
   pub rest : List ℕ
   pub is_rest : IsRest runs.scanned runs.lines rest
   pub front : IsFrontOf (sent_of runs.lines rest) d.stored d.marks
@@ -110,8 +110,9 @@ pub record PulseRuns (d : PulseDid) : Type 0 where
 
 -- What was scanned and sent of the job so far: some of it was read, and some lines of it were sent, and a rest was scanned behind them. The
 -- lines, and the replies that were got, are those of epochs, each but the first begun by a Banner, at whose end the lines that have no
--- answer are forgotten. Each line that lives, asks for a report and is answered has one, behind the answers to the lines before it.
-pub record IsScannedSoFar (room : ℕ) (job_was job_is : SourceState) (read : List ℕ) (reading : Reading) (scanned : List ℕ) (lines : List (List ℕ)) (rest : List ℕ) (got : List Reply) : Type 0 where
+-- answer are forgotten. Each line that lives, asks for a report and is answered has one, behind the answers to the lines before it; of an
+-- attended run that is not said.
+pub record IsScannedSoFar (attended : Bool) (room : ℕ) (job_was job_is : SourceState) (read : List ℕ) (reading : Reading) (scanned : List ℕ) (lines : List (List ℕ)) (rest : List ℕ) (got : List Reply) : Type 0 where
   pub taken : Consumes job_was.left job_is.left read
   pub sent : IsSentSoFar read reading scanned lines (stop_by reading scanned)
   pub is_rest : IsRest scanned lines rest
@@ -119,7 +120,7 @@ pub record IsScannedSoFar (room : ℕ) (job_was job_is : SourceState) (read : Li
   pub ended : List host.Epoch
   pub now : host.Epoch
   pub epochs : host.AreEpochs room lines live got ended now
-  pub reported : AreReported live got
+  pub reported : attended ≡ false → AreReported live got
 
 -- What was told so far: the board has answered a front of the banner, what the course tells, and Bye, with reports among that; a front of
 -- what it answered was got, and a front of its text is on the console.
@@ -147,7 +148,7 @@ pub record IsRecordedSoFar (blocks : ℕ) (form : Form) (was is : Sinks) (course
 -- this course how it was told and run so far, what words of flags have done, and what caused cuts. One line at most of each epoch is begun
 -- and not answered, and reports are judged by the ticks that were made, which hold all of the lines up to the last answered one that settles
 -- (`doing`).
-pub record IsSoFar (room blocks : ℕ) (form : Form) (job_was job_is : SourceState) (was is : Sinks) : Type 0 where
+pub record IsSoFar (attended : Bool) (room blocks : ℕ) (form : Form) (job_was job_is : SourceState) (was is : Sinks) : Type 0 where
   pub read : List ℕ
   pub reading : Reading
   pub scanned : List ℕ
@@ -160,7 +161,7 @@ pub record IsSoFar (room blocks : ℕ) (form : Form) (job_was job_is : SourceSta
   pub drives : List Driven
   pub epochs : List Epoch
   pub effects : List EpochEffects
-  pub sending : IsScannedSoFar room job_was job_is read reading scanned lines rest got
+  pub sending : IsScannedSoFar attended room job_was job_is read reading scanned lines rest got
   pub number : ℕ
   pub put_are : IsPutSoFar number epochs put
   pub fits : FitsSoFar (sent_of lines rest) (slows_in scanned) (without_byes got) put_are.made

@@ -23,7 +23,7 @@ ghost use Rattle.stream_host.specs.Conduct.{Conducted as HostConducted};
 ghost use Rattle.stream_host.specs.Hosts.{TellsJob};
 ghost use Rattle.stream_host.specs.Ran.{HostEnd, HasFinished, TellsConsole, end_of};
 ghost use Rattle.stream_host.specs.Raises.{raises_in};
-ghost use Rattle.stream_host.specs.Steps.{Journal as HostJournal, HostLog, bytes_raised_in, scanned_of, raises_of};
+ghost use Rattle.stream_host.specs.Steps.{Journal as HostJournal, HostLog, is_attended, bytes_raised_in, scanned_of, raises_of};
 ghost use Rattle.board_rules.specs.Conduct.{IsFinished};
 ghost use Rattle.board_rules.specs.Ports.{BoardLog, known_in, sent_in};
 ghost use Rattle.board_rules.specs.Steps.{Journal};
@@ -44,8 +44,8 @@ ghost use Rattle.epoch_law.specs.SoFar.{Sending, BoardRuns, PulseRuns, IsSoFar};
 /// has answered, and the pulse has got or dropped what the board has published, the texts fit: the lines and resets that came of the job,
 /// the replies got, without Bye, and the records put. The bytes scanned that may cut jogs are `!` and 0x85 outside comments.
 pub fn actors_make_texts_that_fit()
-    ensures { (room blocks : ℕ) (job_was job_is : SourceState) (console_was console_is : SinkState) (end : HostEnd) (h : HostDid) (b : BoardDid) (p : PulseDid) →
-        (host : HasSent room job_was job_is console_was console_is h end) → BoardRan blocks b → PulseRan p → AreConnected room h b → ArePassed b p → h.got ≡ b.answered →
+    ensures { (attended : Bool) (room blocks : ℕ) (job_was job_is : SourceState) (console_was console_is : SinkState) (end : HostEnd) (h : HostDid) (b : BoardDid) (p : PulseDid) →
+        (host : HasSent attended room job_was job_is console_was console_is h end) → BoardRan blocks b → PulseRan p → AreConnected room h b → ArePassed b p → h.got ≡ b.answered →
         FitsTexts (sent_of host.ran.lines host.rest) (slows_in host.ran.scanned) (without_byes h.got) p.put }
 {}
 
@@ -53,18 +53,18 @@ pub fn actors_make_texts_that_fit()
 /// scanned is what the host has scanned, the replies are those that it got, and the records are those that the pulse has put, which has
 /// halted where the epochs of the run end.
 pub fn actors_make_a_run()
-    ensures { (room blocks : ℕ) (form : Form) (job_was job_is : SourceState) (was is : Sinks) (end : HostEnd) (steps_failed : Bool) (h : HostDid) (b : BoardDid) (p : PulseDid) (records : List AnyRecord) →
-        (host : HasSent room job_was job_is was.console is.console h end) → BoardRan blocks b → PulseRan p → RecorderRan form was.steps is.steps records steps_failed →
+    ensures { (attended : Bool) (room blocks : ℕ) (form : Form) (job_was job_is : SourceState) (was is : Sinks) (end : HostEnd) (steps_failed : Bool) (h : HostDid) (b : BoardDid) (p : PulseDid) (records : List AnyRecord) →
+        (host : HasSent attended room job_was job_is was.console is.console h end) → BoardRan blocks b → PulseRan p → RecorderRan form was.steps is.steps records steps_failed →
         AreConnected room h b → ArePassed b p → h.got ≡ b.answered → records ≡ p.put →
-        (run : IsRun room blocks form job_was job_is was is (run_end end steps_failed)) × (run.scanned ≡ host.ran.scanned) × (run.replies ≡ h.got) × (run.records ≡ p.put) × HasHaltedFor run.epochs p }
+        (run : IsRun attended room blocks form job_was job_is was is (run_end end steps_failed)) × (run.scanned ≡ host.ran.scanned) × (run.replies ≡ h.got) × (run.records ≡ p.put) × HasHaltedFor run.epochs p }
 {}
 
 /// For that it is enough that each has got a front of what the other gave: nothing waits behind Bye but reports, nor behind the end.
 pub fn actors_that_end_make_a_run()
-    ensures { (room blocks : ℕ) (form : Form) (job_was job_is : SourceState) (was is : Sinks) (end : HostEnd) (steps_failed : Bool) (h : HostDid) (b : BoardDid) (p : PulseDid) (records : List AnyRecord) →
-        (host : HasSent room job_was job_is was.console is.console h end) → BoardRan blocks b → PulseRan p → RecorderRan form was.steps is.steps records steps_failed →
+    ensures { (attended : Bool) (room blocks : ℕ) (form : Form) (job_was job_is : SourceState) (was is : Sinks) (end : HostEnd) (steps_failed : Bool) (h : HostDid) (b : BoardDid) (p : PulseDid) (records : List AnyRecord) →
+        (host : HasSent attended room job_was job_is was.console is.console h end) → BoardRan blocks b → PulseRan p → RecorderRan form was.steps is.steps records steps_failed →
         AreConnected room h b → ArePassedSome b p → BeginsWith b.answered h.got → BeginsWith p.put records →
-        (run : IsRun room blocks form job_was job_is was is (run_end end steps_failed)) × (run.scanned ≡ host.ran.scanned) × (run.replies ≡ h.got) × (run.records ≡ p.put) × HasHaltedFor run.epochs p }
+        (run : IsRun attended room blocks form job_was job_is was is (run_end end steps_failed)) × (run.scanned ≡ host.ran.scanned) × (run.replies ≡ h.got) × (run.records ≡ p.put) × HasHaltedFor run.epochs p }
 {}
 
 /// The two ends of a link that are linked are connected, if what was taken of words of flags was raised: what each reset drops is few.
@@ -92,21 +92,21 @@ pub fn pulses_have_run()
 /// A host that keeps to its rules, has got Bye, and has written all or met a write that failed, has run over epochs.
 pub fn hosts_have_sent()
     ensures { (room : ℕ) (h : HostJournal) (job_was job_is : SourceState) (console_was console_is : SinkState) → HostConducted room h → HasFinished h → TellsJob h job_was job_is → TellsConsole h console_was console_is →
-        (sent : HasSent room job_was job_is console_was console_is (host_did h) (end_of h)) × (sent.ran.scanned ≡ scanned_of h) }
+        (sent : HasSent (is_attended h) room job_was job_is console_was console_is (host_did h) (end_of h)) × (sent.ran.scanned ≡ scanned_of h) }
 {}
 
 /// Before it is done, a host that keeps to its rules is sending over epochs.
 pub fn hosts_are_sending()
     ensures { (room : ℕ) (h : HostJournal) (job_was job_is : SourceState) (console_was console_is : SinkState) → HostConducted room h → TellsJob h job_was job_is → TellsConsole h console_was console_is →
-        Sending room job_was job_is console_was console_is (host_did h) }
+        Sending (is_attended h) room job_was job_is console_was console_is (host_did h) }
 {}
 
 /// Before they end, a host, a board, a pulse and a recorder have done a run so far, if each has got a front of what the other gave; the pulse
 /// may have halted once more than the board has seen.
 pub fn actors_make_a_run_so_far()
-    ensures { (room blocks : ℕ) (form : Form) (job_was job_is : SourceState) (was is : Sinks) (h : HostDid) (b : BoardDid) (p : PulseDid) (records : List AnyRecord) →
-        Sending room job_was job_is was.console is.console h → BoardRuns blocks (length (ticks_among p.put)) b → PulseRuns p → RecorderRuns form was.steps is.steps records →
-        AreConnected room h b → ArePassedSoFar (length (ticks_among p.put)) b p → BeginsWith b.answered h.got → BeginsWith p.put records → IsSoFar room blocks form job_was job_is was is }
+    ensures { (attended : Bool) (room blocks : ℕ) (form : Form) (job_was job_is : SourceState) (was is : Sinks) (h : HostDid) (b : BoardDid) (p : PulseDid) (records : List AnyRecord) →
+        Sending attended room job_was job_is was.console is.console h → BoardRuns blocks (length (ticks_among p.put)) b → PulseRuns p → RecorderRuns form was.steps is.steps records →
+        AreConnected room h b → ArePassedSoFar (length (ticks_among p.put)) b p → BeginsWith b.answered h.got → BeginsWith p.put records → IsSoFar attended room blocks form job_was job_is was is }
 {}
 
 /// A board that keeps to its rules over epochs runs, at any time. So many ticks are put in all, at least those that it knows of, and no

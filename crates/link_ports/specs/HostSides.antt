@@ -3,7 +3,7 @@ use Rattle.std.specs.Prelude.{◌≡◌, ℕ, []}
 use Rattle.outside.specs.Causes.{SourceState, SinkState}
 use Rattle.serial_ring.specs.Ends.{link_of_host}
 use Rattle.realtime_flags.specs.Ends.{raised_in}
-use Rattle.stream_host.specs.Steps.{Journal as HostJournal, port_log as host_log}
+use Rattle.stream_host.specs.Steps.{Journal as HostJournal, port_log as host_log, beginning}
 use Rattle.stream_host.specs.Hosts.{HostFits, HostRests, TellsJob, TellsText}
 use Rattle.stream_host.specs.Hosts.{IsBetween as IsBetweenOfHost}
 use Rattle.link_ports.specs.Standing.{HostLogs, HostSees}
@@ -13,12 +13,13 @@ use Rattle.link_ports.specs.declared.thread.HostSide.{HostSide}
 pub record HostIsNew {room : ℕ} (side : HostSide room) : Type 0 where
   pub did : HostLogs side.link []
   pub sees : HostSees side.link []
-  pub fits : HostFits room side.host []
+  pub fits : HostFits room side.host (beginning side.host.attended)
 
 -- The host has done this by its rules, at ends that are of the tables that they were of: what its ends stored, raised and got
 -- is what its journal says, the job gave what it read, and the console took what it wrote.
 pub record HostRunsAt {room : ℕ} (job_was job_is : SourceState) (console_was console_is : SinkState) (was is : HostSide room) : Type 0 where
   pub journal : HostJournal
+  pub attended : is.host.attended ≡ was.host.attended
   pub link : link_of_host is.link.end ≡ link_of_host was.link.end
   pub flags : raised_in is.link.flags ≡ raised_in was.link.flags
   pub did : HostLogs is.link (host_log journal)

@@ -14,11 +14,11 @@ use Rattle.run_rules.specs.Reports.{is_query}
 use Rattle.run_rules.proofs.Cutting.{lines_are, some_bytes}
 use Rattle.stream_host.specs.Jobs.{resume, is_reset, served}
 use Rattle.stream_host.specs.Epochs.{lines_now, got_now}
-use Rattle.stream_host.specs.Steps.{Journal, port_log, latest_got, begins, stored_of, marks_of, resets_of, banners_of, awaits_banner, scanned_of, raw_of, cut_of, live_of, to_store, due_of, more_served, polls_of, empty_polls}
+use Rattle.stream_host.specs.Steps.{Journal, port_log, latest_got, begins, stored_of, marks_of, resets_of, banners_of, awaits_banner, scanned_of, raw_of, cut_of, live_of, to_store, due_of, more_served, is_attended, resumes_next}
 use Rattle.stream_host.specs.Steps.PortStep.{dropped, marked, raised, got}
-use Rattle.stream_host.specs.Steps.Step.{at_port, scanned, line_over}
+use Rattle.stream_host.specs.Steps.Step.{at_port, scanned, line_over, attends}
 use Rattle.stream_host.specs.Conduct.{Conducted, MayMark, MayRaise, MayScanNext, waits_for_lines}
-use Rattle.stream_host.proofs.Raising.{served_nil, served_on, none_at_lf, few_polls, is_enough, is_fewer, one_more}
+use Rattle.stream_host.proofs.Raising.{served_nil, served_on, none_at_lf, one_more}
 use Rattle.stream_host.proofs.Keeping.{IsCut, cut_is}
 use Rattle.stream_host.proofs.Links.{lfs_linked}
 use Rattle.stream_host.proofs.Raised.{IsMarked, banners_first, banners_low, free_by, marks_are, one_due, waiting_is}
@@ -31,11 +31,11 @@ use Rattle.list_ports.specs.Asked.{AsksBetween, epoch_behind, is_at, raised_behi
 
 -- it is next of those that are due
 query_next : (room : ℕ) (b : ℕ) (h : Journal) → Conducted room h → MayRaise b h → b ≡ query → due_of h ≡ b ∷ drop 1 (due_of h)
-query_next room b h c may q = by_polls (nat_eq (polls_of h) empty_polls) refl
+query_next room b h c may q = by_polls (resumes_next h) refl
   where
-    by_polls : (t : Bool) → nat_eq (polls_of h) empty_polls ≡ t → due_of h ≡ b ∷ drop 1 (due_of h)
-    by_polls true e = absurd (let r = may.resumes (is_enough (polls_of h) e) in omega arith)
-    by_polls false e = may.next (is_fewer (polls_of h) (few_polls room h c) e)
+    by_polls : (t : Bool) → resumes_next h ≡ t → due_of h ≡ b ∷ drop 1 (due_of h)
+    by_polls true e = absurd (let r = may.resumes e in omega arith)
+    by_polls false e = may.next e
 
 -- a mark without its Banner awaits it
 lacks_one : (marks resets banners : ℕ) → marks ≡ resets → 0 < marks → banners ≤ marks → (nat_lt 0 resets && nat_le banners resets) ≡ true
@@ -75,8 +75,8 @@ module _ (room : ℕ) (b : ℕ) (h : Journal) (c : Conducted room h) (may : MayR
   resets_begun (inl none) = let r = raised_all in let l = banners_low room h c in omega arith
   resets_begun (inr all) = let r = raised_all in omega arith
 
-  is_quiet : AwaitsNoReply (port_log h)
-  is_quiet = by_stands (epoch_is room h c).stands
+  is_quiet : is_attended h ≡ false → AwaitsNoReply (port_log h)
+  is_quiet alone = by_stands (epoch_is room h c).stands
     where
       by_stands : Stands (marks_of h) (banners_of h) (to_store h) (stored_of h) (epoch_is room h c).from → AwaitsNoReply (port_log h)
       by_stands (inr p) = absurd (not_pending p.0)
@@ -92,15 +92,16 @@ module _ (room : ℕ) (b : ℕ) (h : Journal) (c : Conducted room h) (may : MayR
               let long = length-drop (earlier_in (port_log h)) (live_of h) in
               let low = e.low in
               let split = answers_split (port_log h) in
-              let all = may.after (ap waits_for_lines q) in
+              let all = may.after alone (ap waits_for_lines q) in
               let here = ap (λ n. lfs_in (drop n (stored_of h))) at in omega arith
 
-pub asks_between : (room : ℕ) (h : Journal) → Conducted room h → AsksBetween (port_log h)
-asks_between room [] c = tt
-asks_between room (at_port (dropped b) ∷ h) c = absurd c.0
-asks_between room (at_port (raised b down) ∷ h) c = ((λ q. is_quiet room b h c.1 c.0 q), asks_between room h c.1)
-asks_between room (at_port _ ∷ h) c = asks_between room h c.1
-asks_between room (_ ∷ h) c = asks_between room h c.1
+pub asks_between : (room : ℕ) (h : Journal) → Conducted room h → is_attended h ≡ false → AsksBetween (port_log h)
+asks_between room [] c alone = tt
+asks_between room (at_port (dropped b) ∷ h) c alone = absurd c.0
+asks_between room (at_port (raised b down) ∷ h) c alone = ((λ q. is_quiet room b h c.1 c.0 q alone), asks_between room h c.1 alone)
+asks_between room (at_port _ ∷ h) c alone = asks_between room h c.1 alone
+asks_between room (attends ∷ h) c alone = absurd cc
+asks_between room (_ ∷ h) c alone = asks_between room h c.1 alone
 
 is_same : (m n : ℕ) → nat_eq m n ≡ true → m ≡ n
 is_same m n e = grind (arith, nat_tests)
@@ -294,7 +295,7 @@ resets_are : (room : ℕ) (h : Journal) → Conducted room h → resets_there (c
 resets_are room [] c = none_there
 resets_are room (at_port (dropped b) ∷ h) c = absurd c.0
 resets_are room (at_port (raised b down) ∷ h) c =
-    let d = due_by is_reset refl b (nat_eq (polls_of h) empty_polls) (due_of h) (λ e. c.0.resumes (is_enough (polls_of h) e)) (λ e. c.0.next (is_fewer (polls_of h) (few_polls room h c.1) e)) in
+    let d = due_by is_reset refl b (resumes_next h) (due_of h) (λ e. c.0.resumes e) (λ e. c.0.next e) in
     let o = one_reset (is_reset b) (resets_of h) in let i = resets_are room h c.1 in omega arith
 resets_are room (at_port _ ∷ h) c = resets_are room h c.1
 resets_are room (scanned b ∷ h) c = scanned_resets b h (nat_eq b 10) refl c.0.none_due (resets_are room h c.1)
@@ -330,7 +331,7 @@ placed_raised room b down h c may was = record {
 }
   where
     less : count_by is_reset (due_of h) ≡ cond (is_reset b) 1 0 + count_by is_reset (due_of (at_port (raised b down) ∷ h))
-    less = due_by is_reset refl b (nat_eq (polls_of h) empty_polls) (due_of h) (λ e. may.resumes (is_enough (polls_of h) e)) (λ e. may.next (is_fewer (polls_of h) (few_polls room h c) e))
+    less = due_by is_reset refl b (resumes_next h) (due_of h) (λ e. may.resumes e) (λ e. may.next e)
 
     by_reset : (t : Bool) → is_reset b ≡ t → count_by is_reset (due_of h) ≡ cond t 1 0 + count_by is_reset (due_of (at_port (raised b down) ∷ h))
         → (length (marks_of h) ≡ 0) ⊎ (banners_of h ≡ length (marks_of h) + 1) → (count_by is_reset (due_of (at_port (raised b down) ∷ h)) ≡ 0) ⊎ (length (marks_of h) ≡ cond t (resets_of h + 1) (resets_of h) + 1)
@@ -460,25 +461,25 @@ module _ (room : ℕ) (b : ℕ) (h : Journal) (c : Conducted room h) (may : MayR
   resets_same : epoch_behind (latest_got (port_log h)) ≡ resets_there (cut_of h) (raw_of h)
   resets_same = let r = resets_begun room b h c may q (steady room b h c may q) in let a = resets_are room h c in let n = no_reset_due in omega arith
 
-  lines_same : answers_behind_mark (latest_got (port_log h)) ≡ lines_there (cut_of h) (raw_of h)
-  lines_same =
+  lines_same : is_attended h ≡ false → answers_behind_mark (latest_got (port_log h)) ≡ lines_there (cut_of h) (raw_of h)
+  lines_same alone =
       let p = (placed_is room h c).steady (steady room b h c may q) (inl no_reset_due) in
-      let a = all_now room h c (may.after (ap waits_for_lines q)) in
+      let a = all_now room h c (may.after alone (ap waits_for_lines q)) in
       let n = now_answered h in omega arith
 
-  place_is : (e k : ℕ) → is_at e k (latest_got (port_log h)) ≡ (nat_eq (resets_there (cut_of h) (raw_of h)) e && nat_eq (lines_there (cut_of h) (raw_of h)) k)
-  place_is e k = λ i. nat_eq (resets_same i) e && nat_eq (lines_same i) k
+  place_is : is_attended h ≡ false → (e k : ℕ) → is_at e k (latest_got (port_log h)) ≡ (nat_eq (resets_there (cut_of h) (raw_of h)) e && nat_eq (lines_there (cut_of h) (raw_of h)) k)
+  place_is alone e k = λ i. nat_eq (resets_same i) e && nat_eq (lines_same alone i) k
 
 InLines : (e k : ℕ) → Journal → Type 0
 InLines e k h = AreIn e k (raised_behind e k (port_log h)) (due_of h) (cut_of h) (raw_of h)
 
-raised_in : (room : ℕ) (e k b : ℕ) (down : Bool) (h : Journal) → Conducted room h → MayRaise b h → InLines e k h → InLines e k (at_port (raised b down) ∷ h)
+raised_in : (room : ℕ) (e k b : ℕ) (down : Bool) (h : Journal) → Conducted room h → is_attended h ≡ false → MayRaise b h → InLines e k h → InLines e k (at_port (raised b down) ∷ h)
 unfolding InLines AreIn
-raised_in room e k b down h c may was =
+raised_in room e k b down h c alone may was =
     one_raised down (nat_eq b query) (is_at e k (latest_got (port_log h))) (nat_eq (resets_there (cut_of h) (raw_of h)) e && nat_eq (lines_there (cut_of h) (raw_of h)) k)
     (raised_behind e k (port_log h)) (count_by is_query (due_of h)) _ _
-    (due_by is_query refl b (nat_eq (polls_of h) empty_polls) (due_of h) (λ x. may.resumes (is_enough (polls_of h) x)) (λ x. may.next (is_fewer (polls_of h) (few_polls room h c) x)))
-    (λ t u. sym (place_is room b h c may (is_same b query t) e k) ∙ u) was
+    (due_by is_query refl b (resumes_next h) (due_of h) (λ x. may.resumes x) (λ x. may.next x))
+    (λ t u. sym (place_is room b h c may (is_same b query t) alone e k) ∙ u) was
 
 scanned_in : (e k b : ℕ) (h : Journal) (t : Bool) → nat_eq b 10 ≡ t → MayScanNext b h → InLines e k h
     → AreIn e k (raised_behind e k (port_log h)) (due_of h ++ more_served (raw_of h) b) (cond t (cut_of h ++ raw_of h ∷ []) (cut_of h)) (cond t [] (raw_of h ++ b ∷ []))
@@ -488,15 +489,16 @@ scanned_in e k b h true is may was =
     (ap (λ (d : List ℕ). d ++ more_served (raw_of h) b) may.none_due ∙ none_at_lf (raw_of h) b is) was
 scanned_in e k b h false is may was = byte_in e k (raised_behind e k (port_log h)) b (due_of h) (cut_of h) (raw_of h) may.none_due was
 
-in_lines : (room : ℕ) (e k : ℕ) (h : Journal) → Conducted room h → InLines e k h
+in_lines : (room : ℕ) (e k : ℕ) (h : Journal) → Conducted room h → is_attended h ≡ false → InLines e k h
 unfolding InLines
-in_lines room e k [] c = none_yet e k
-in_lines room e k (at_port (dropped b) ∷ h) c = absurd c.0
-in_lines room e k (at_port (raised b down) ∷ h) c = raised_in room e k b down h c.1 c.0 (in_lines room e k h c.1)
-in_lines room e k (at_port _ ∷ h) c = in_lines room e k h c.1
-in_lines room e k (scanned b ∷ h) c = scanned_in e k b h (nat_eq b 10) refl c.0 (in_lines room e k h c.1)
-in_lines room e k (line_over ∷ h) c = line_over_in e k (raised_behind e k (port_log h)) (due_of h) (due_of h) (cut_of h) (raw_of h) c.0.none_due c.0.none_due (in_lines room e k h c.1)
-in_lines room e k (_ ∷ h) c = in_lines room e k h c.1
+in_lines room e k [] c alone = none_yet e k
+in_lines room e k (at_port (dropped b) ∷ h) c alone = absurd c.0
+in_lines room e k (at_port (raised b down) ∷ h) c alone = raised_in room e k b down h c.1 alone c.0 (in_lines room e k h c.1 alone)
+in_lines room e k (at_port _ ∷ h) c alone = in_lines room e k h c.1 alone
+in_lines room e k (scanned b ∷ h) c alone = scanned_in e k b h (nat_eq b 10) refl c.0 (in_lines room e k h c.1 alone)
+in_lines room e k (line_over ∷ h) c alone = line_over_in e k (raised_behind e k (port_log h)) (due_of h) (due_of h) (cut_of h) (raw_of h) c.0.none_due c.0.none_due (in_lines room e k h c.1 alone)
+in_lines room e k (attends ∷ h) c alone = absurd cc
+in_lines room e k (_ ∷ h) c alone = in_lines room e k h c.1 alone
 
 -- ---- by what was scanned
 
@@ -511,6 +513,6 @@ line_is e k h (inr over) =
     ap (λ (raw : List ℕ). queries_in e k 0 0 (cut_of h ++ raw ∷ [])) over.none ∙ line_more e k (cut_of h) ∙ ap (queries_in e k 0 0) (sym over.whole)
 
 -- in epoch e, behind k answers of it, `?` was raised no more often than it stands there
-pub raised_in_lines : (room : ℕ) (h : Journal) → Conducted room h → (e k : ℕ) → raised_behind e k (port_log h) ≤ queries_in e k 0 0 (lines_of (scanned_of h))
+pub raised_in_lines : (room : ℕ) (h : Journal) → Conducted room h → is_attended h ≡ false → (e k : ℕ) → raised_behind e k (port_log h) ≤ queries_in e k 0 0 (lines_of (scanned_of h))
 unfolding InLines AreIn
-raised_in_lines room h c e k = let i = in_lines room e k h c in let l = line_is e k h (cut_is room h c) in omega arith
+raised_in_lines room h c alone e k = let i = in_lines room e k h c alone in let l = line_is e k h (cut_is room h c) in omega arith

@@ -81,10 +81,10 @@ one_part p last (l ∷ ls) (a_broken o ∷ ps) few g = none_broken (behind_broke
 
 -- how the demo is set up
 abbrev demo_setup : Setup
-demo_setup = record { room = receive_room; blocks = most_blocks; form = One }
+demo_setup = record { attended = false; room = receive_room; blocks = most_blocks; form = One }
 
 -- what a run of the generated job is
-pub record RunsWhole (n : ℕ) (job_was job_is : SourceState) (was is : Sinks) (end : RunEnd) (run : IsRun receive_room most_blocks One job_was job_is was is end) : Type 0 where
+pub record RunsWhole (n : ℕ) (job_was job_is : SourceState) (was is : Sinks) (end : RunEnd) (run : IsRun false receive_room most_blocks One job_was job_is was is end) : Type 0 where
   pub stop : end.stop ≡ stops.End
   pub errors : end.errors ≡ 0
   pub answered : end.answered ≡ n + 3
@@ -98,7 +98,7 @@ never_failed : (t : Bool) → (t ≡ true → 1 ≤ 0) → t ≡ false
 never_failed false rose = refl
 never_failed true rose = absurd (let low = rose refl in omega arith)
 
-pub runs_whole : (n : ℕ) (left : List ℕ) (was is : Sinks) (end : RunEnd) → 1 ≤ n → n ≤ 100000 → (run : IsRun receive_room most_blocks One (generated (job_text n)) (generated left) was is end)
+pub runs_whole : (n : ℕ) (left : List ℕ) (was is : Sinks) (end : RunEnd) → 1 ≤ n → n ≤ 100000 → (run : IsRun false receive_room most_blocks One (generated (job_text n)) (generated left) was is end)
     → RunsWhole n (generated (job_text n)) (generated left) was is end run
 runs_whole n left was is end some most run =
     let of = accepted n run.fits.first some most run.fits.opens in

@@ -319,7 +319,7 @@ none_behind : (whole front rest : List (List ℕ)) → whole ≡ front ++ rest �
 none_behind whole front rest is same =
     nil_from_length rest (let e = ap length is in let a = length-append front rest in let s = ap length same in omega (arith, e, a, s))
 
-pub complete : (setup : Setup) (job_was job_is : SourceState) (was is : Sinks) (end : RunEnd) (run : IsRun setup.room setup.blocks setup.form job_was job_is was is end) (job : IsAcceptedJob job_was)
+pub complete : (setup : Setup) (job_was job_is : SourceState) (was is : Sinks) (end : RunEnd) (run : IsRun setup.attended setup.room setup.blocks setup.form job_was job_is was is end) (job : IsAcceptedJob job_was)
     → end.source_failed ≡ false → IsComplete job.bytes run.read run.lines job.outcomes (lines_in run.fits.course) end
 complete setup job_was job_is was is end run job well =
     let front = read_front job_was.left job_is.left job.bytes run.read job.told run.sending.taken in

@@ -49,14 +49,14 @@ none_left text lines rest (inl is) all = by_length (nat_lt 0 (length rest)) refl
 none_left text lines rest (inr over) all = over.1
 
 -- all of it was read, and each of its lines sent
-pub record SentAll (setup : Setup) (job_was job_is : SourceState) (was is : Sinks) (end : RunEnd) (run : IsRun setup.room setup.blocks setup.form job_was job_is was is end) : Type 0 where
+pub record SentAll (setup : Setup) (job_was job_is : SourceState) (was is : Sinks) (end : RunEnd) (run : IsRun setup.attended setup.room setup.blocks setup.form job_was job_is was is end) : Type 0 where
   pub over : run.reading ≡ Ended
   pub few : length run.read ≤ largest_job
   pub lines : run.lines ≡ lines_of run.read
   pub all : run.read ≡ run.scanned
   pub rest : run.rest ≡ []
 
-pub sent_all : (setup : Setup) (job_was job_is : SourceState) (was is : Sinks) (end : RunEnd) (run : IsRun setup.room setup.blocks setup.form job_was job_is was is end) → end.source_failed ≡ false → end.stop ≡ stops.End
+pub sent_all : (setup : Setup) (job_was job_is : SourceState) (was is : Sinks) (end : RunEnd) (run : IsRun setup.attended setup.room setup.blocks setup.form job_was job_is was is end) → end.source_failed ≡ false → end.stop ≡ stops.End
     → SentAll setup job_was job_is was is end run
 sent_all setup job_was job_is was is end run well stop =
     let by = by_end setup job_was job_is was is end run stop in
@@ -90,7 +90,7 @@ errors_have_run zero = tt
 errors_have_run (suc n) = tt
 
 -- by what failed, and why no more of the job was sent
-by_cases : (setup : Setup) (job_was job_is : SourceState) (was is : Sinks) (end : RunEnd) (run : IsRun setup.room setup.blocks setup.form job_was job_is was is end) (steps_failed console_failed source_failed : Bool) (stop : Stop)
+by_cases : (setup : Setup) (job_was job_is : SourceState) (was is : Sinks) (end : RunEnd) (run : IsRun setup.attended setup.room setup.blocks setup.form job_was job_is was is end) (steps_failed console_failed source_failed : Bool) (stop : Stop)
     → end.steps_failed ≡ steps_failed → end.console_failed ≡ console_failed → end.source_failed ≡ source_failed → end.stop ≡ stop
     → HasCauses setup job_was job_is was is (cond steps_failed StepsFault (cond console_failed ConsoleFault (cond source_failed SourceFault (by_stop stop end.errors))))
 by_cases setup job_was job_is was is end run true cf nf stop es ec en et = record {

@@ -168,7 +168,7 @@ numbered first sent course answered lost one alarm each same =
 
 -- ---- the run
 
-pub halted_run : (setup : Setup) (job_was job_is : SourceState) (was is : Sinks) (end : RunEnd) (run : IsRun setup.room setup.blocks setup.form job_was job_is was is end) (k : ℕ)
+pub halted_run : (setup : Setup) (job_was job_is : SourceState) (was is : Sinks) (end : RunEnd) (run : IsRun setup.attended setup.room setup.blocks setup.form job_was job_is was is end) (k : ℕ)
     → end.steps_failed ≡ false → end.console_failed ≡ false → end.stop ≡ stops.Alarm k → IsAlarmedRun setup job_was job_is was is k
 halted_run setup job_was job_is was is end run k es ec et =
     let why = by_alarm setup job_was job_is was is end run k et in

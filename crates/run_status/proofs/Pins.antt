@@ -133,7 +133,7 @@ pub uncapped : (stepping : Stepping) (records : List Record) → subticks_of_hea
 uncapped Events records few = refl
 uncapped Subticks records few = omega (arith, few)
 
-module _ (n : ℕ) (most : n ≤ 100000) (job_was job_is : SourceState) (was is : Sinks) (end : RunEnd) (run : IsRun receive_room most_blocks One job_was job_is was is end)
+module _ (n : ℕ) (most : n ≤ 100000) (job_was job_is : SourceState) (was is : Sinks) (end : RunEnd) (run : IsRun false receive_room most_blocks One job_was job_is was is end)
     (whole : RunsWhole n job_was job_is was is end run) where
   are_run : AreRun (one_part (lines_in run.fits.course)) origin run.epochs
   are_run = subst (λ (ps : List Part). AreRun ps origin run.epochs) whole.uncut run.recording.run

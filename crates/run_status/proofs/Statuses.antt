@@ -46,7 +46,7 @@ as_ended Failed text small = refl
 as_ended Large text small = absurd (small refl)
 as_ended Stopped text small = refl
 
-sends : (setup : Setup) (job_was job_is : SourceState) (was is : Sinks) (end : RunEnd) (run : IsRun setup.room setup.blocks setup.form job_was job_is was is end) → IsScanned setup job_was job_is was is end run → end.source_failed ≡ false → (run.reading ≡ Large → ⊥)
+sends : (setup : Setup) (job_was job_is : SourceState) (was is : Sinks) (end : RunEnd) (run : IsRun setup.attended setup.room setup.blocks setup.form job_was job_is was is end) → IsScanned setup job_was job_is was is end run → end.source_failed ≡ false → (run.reading ≡ Large → ⊥)
     → SendsUpTo job_was job_is end.stop
 sends setup job_was job_is was is end run by well small =
     let few : length run.read ≤ largest_job = not_over run.reading (length run.read) small run.sending.so_far.fits in
@@ -80,7 +80,7 @@ whole_number zero = tt
 whole_number (suc n) = tt
 
 -- where no device failed, by why no more was sent
-by_why : (setup : Setup) (job_was job_is : SourceState) (was is : Sinks) (end : RunEnd) (run : IsRun setup.room setup.blocks setup.form job_was job_is was is end) (stop : Stop) → end.source_failed ≡ false → end.stop ≡ stop
+by_why : (setup : Setup) (job_was job_is : SourceState) (was is : Sinks) (end : RunEnd) (run : IsRun setup.attended setup.room setup.blocks setup.form job_was job_is was is end) (stop : Stop) → end.source_failed ≡ false → end.stop ≡ stop
     → IsFaultless job_was job_is was is → HasCauses setup job_was job_is was is (by_stop stop end.errors) → HasItsCause setup job_was job_is was is (by_stop stop end.errors)
 by_why setup job_was job_is was is end run stops.TooLarge en et well causes = (well, causes.large refl)
 by_why setup job_was job_is was is end run (stops.LongLine k) en et well causes =
@@ -93,7 +93,7 @@ by_why setup job_was job_is was is end run stops.End en et well causes =
     let small = not_large run.reading end.stop run.scanned (λ e. absurd (let f = sym et ∙ e in cc)) by.cause in
     by_number setup job_was job_is was is end.errors well (subst (SendsUpTo job_was job_is) et (sends setup job_was job_is was is end run by en small)) (causes.whole (whole_number end.errors))
 
-by_faults : (setup : Setup) (job_was job_is : SourceState) (was is : Sinks) (end : RunEnd) (run : IsRun setup.room setup.blocks setup.form job_was job_is was is end) (sf cf rf : Bool) (stop : Stop)
+by_faults : (setup : Setup) (job_was job_is : SourceState) (was is : Sinks) (end : RunEnd) (run : IsRun setup.attended setup.room setup.blocks setup.form job_was job_is was is end) (sf cf rf : Bool) (stop : Stop)
     → end.steps_failed ≡ sf → end.console_failed ≡ cf → end.source_failed ≡ rf → end.stop ≡ stop
     → HasCauses setup job_was job_is was is (cond sf StepsFault (cond cf ConsoleFault (cond rf SourceFault (by_stop stop end.errors))))
     → HasItsCause setup job_was job_is was is (cond sf StepsFault (cond cf ConsoleFault (cond rf SourceFault (by_stop stop end.errors))))

@@ -111,27 +111,27 @@ other_is false n (stops.Alarm k) told some other e = e
 
 -- ---- of a run
 
-pub by_end : (setup : Setup) (job_was job_is : SourceState) (was is : Sinks) (end : RunEnd) (run : IsRun setup.room setup.blocks setup.form job_was job_is was is end) → end.stop ≡ stops.End
+pub by_end : (setup : Setup) (job_was job_is : SourceState) (was is : Sinks) (end : RunEnd) (run : IsRun setup.attended setup.room setup.blocks setup.form job_was job_is was is end) → end.stop ≡ stops.End
     → IsByEnd (has_alarm run.replies) (stop_by run.reading run.scanned)
 by_end setup job_was job_is was is end run et = end_is (has_alarm run.replies) (end.answered + run.sending.forgotten) (stop_by run.reading run.scanned) (sym et ∙ run.ending.stop)
 
-pub by_alarm : (setup : Setup) (job_was job_is : SourceState) (was is : Sinks) (end : RunEnd) (run : IsRun setup.room setup.blocks setup.form job_was job_is was is end) (k : ℕ) → end.stop ≡ stops.Alarm k
+pub by_alarm : (setup : Setup) (job_was job_is : SourceState) (was is : Sinks) (end : RunEnd) (run : IsRun setup.attended setup.room setup.blocks setup.form job_was job_is was is end) (k : ℕ) → end.stop ≡ stops.Alarm k
     → IsByAlarm (has_alarm run.replies) (end.answered + run.sending.forgotten) k (stop_by run.reading run.scanned)
 by_alarm setup job_was job_is was is end run k et =
     alarm_is (has_alarm run.replies) (end.answered + run.sending.forgotten) k (stop_by run.reading run.scanned) (λ j e. never_alarm j run.reading run.scanned e) (sym et ∙ run.ending.stop)
 
-pub by_job : (setup : Setup) (job_was job_is : SourceState) (was is : Sinks) (end : RunEnd) (run : IsRun setup.room setup.blocks setup.form job_was job_is was is end) (told : Stop)
+pub by_job : (setup : Setup) (job_was job_is : SourceState) (was is : Sinks) (end : RunEnd) (run : IsRun setup.attended setup.room setup.blocks setup.form job_was job_is was is end) (told : Stop)
     → (told ≡ stops.End → ⊥) → ((k : ℕ) → told ≡ stops.Alarm k → ⊥) → end.stop ≡ told → told ≡ stop_by run.reading run.scanned
 by_job setup job_was job_is was is end run told some other et =
     other_is (has_alarm run.replies) (end.answered + run.sending.forgotten) (stop_by run.reading run.scanned) told some other (sym et ∙ run.ending.stop)
 
 -- The job was scanned up to where the sending ends, and that is why no more of it was sent.
-pub record IsScanned (setup : Setup) (job_was job_is : SourceState) (was is : Sinks) (end : RunEnd) (run : IsRun setup.room setup.blocks setup.form job_was job_is was is end) : Type 0 where
+pub record IsScanned (setup : Setup) (job_was job_is : SourceState) (was is : Sinks) (end : RunEnd) (run : IsRun setup.attended setup.room setup.blocks setup.form job_was job_is was is end) : Type 0 where
   pub scans : MayScan run.reading (job_of run.read) run.scanned
   pub cause : end.stop ≡ stop_by run.reading run.scanned
 
 -- at its end
-pub scanned_to_end : (setup : Setup) (job_was job_is : SourceState) (was is : Sinks) (end : RunEnd) (run : IsRun setup.room setup.blocks setup.form job_was job_is was is end) → end.stop ≡ stops.End → IsScanned setup job_was job_is was is end run
+pub scanned_to_end : (setup : Setup) (job_was job_is : SourceState) (was is : Sinks) (end : RunEnd) (run : IsRun setup.attended setup.room setup.blocks setup.form job_was job_is was is end) → end.stop ≡ stops.End → IsScanned setup job_was job_is was is end run
 scanned_to_end setup job_was job_is was is end run et =
     let sent = run.sending.sent (by_end setup job_was job_is was is end run et).none in
     record { scans = sent.scans; cause = sent.cause }
@@ -140,7 +140,7 @@ scanned_to_end setup job_was job_is was is end run et =
 long_is_whole : (r : Reading) (job text : List ℕ) → ScansFront job text → list_any is_long (lines_of text) ≡ true → MayScan r job text
 long_is_whole r job text scans some = record { scans = scans; whole = λ none. absurd (let e = sym some ∙ none in cc) }
 
-pub scanned_to_long : (setup : Setup) (job_was job_is : SourceState) (was is : Sinks) (end : RunEnd) (run : IsRun setup.room setup.blocks setup.form job_was job_is was is end) (k : ℕ) → end.stop ≡ stops.LongLine k
+pub scanned_to_long : (setup : Setup) (job_was job_is : SourceState) (was is : Sinks) (end : RunEnd) (run : IsRun setup.attended setup.room setup.blocks setup.form job_was job_is was is end) (k : ℕ) → end.stop ≡ stops.LongLine k
     → IsScanned setup job_was job_is was is end run
 scanned_to_long setup job_was job_is was is end run k et =
     let cause = by_job setup job_was job_is was is end run (stops.LongLine k) (λ e. cc) (λ j e. cc) et in

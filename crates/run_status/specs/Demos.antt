@@ -47,7 +47,7 @@ subticks_in Subticks records = subticks_of_heads records
 pub record IsDemo (n : ℕ) (stepping : Stepping) (console_was console_is steps_was steps_is : SinkState) (status : Status) : Type 0 where
   pub end : RunEnd
   pub left : List ℕ
-  pub run : IsRun receive_room most_blocks One (generated (job_text n)) (generated left)
+  pub run : IsRun false receive_room most_blocks One (generated (job_text n)) (generated left)
       (record { console = keeps_nothing; steps = steps_was }) (record { console = keeps_nothing; steps = steps_is }) end
   pub sent : run.lines ≡ job_lines n
   pub accepted : end.errors ≡ 0

@@ -49,7 +49,7 @@ status_of end =
 -- A run of the job, whatever failed, and its status.
 pub record EndsWith (setup : Setup) (job_was job_is : SourceState) (was is : Sinks) (status : Status) : Type 0 where
   pub end : RunEnd
-  pub run : IsRun setup.room setup.blocks setup.form job_was job_is was is end
+  pub run : IsRun setup.attended setup.room setup.blocks setup.form job_was job_is was is end
   pub status_is : status ≡ status_of end
 
 abbrev pub IsWhole : Status → Type 0
@@ -62,7 +62,7 @@ IsWhole _ = ⊥
 -- and records are, and by which course of the job, is what is so of each run.
 pub record IsWholeRun (setup : Setup) (job_was job_is : SourceState) (was is : Sinks) (status : Status) : Type 0 where
   pub end : RunEnd
-  pub run : IsRun setup.room setup.blocks setup.form job_was job_is was is end
+  pub run : IsRun setup.attended setup.room setup.blocks setup.form job_was job_is was is end
   pub at_end : IsAtEnd job_is.left
   pub few : length run.read ≤ largest_job
   pub scanned : run.scanned ≡ run.read
@@ -92,7 +92,7 @@ pub record EndsInAlarm (from : Point) (sent : List Sent) (course : List Passed) 
 -- is what is so of each run.
 pub record IsAlarmedRun (setup : Setup) (job_was job_is : SourceState) (was is : Sinks) (k : ℕ) : Type 0 where
   pub end : RunEnd
-  pub run : IsRun setup.room setup.blocks setup.form job_was job_is was is end
+  pub run : IsRun setup.attended setup.room setup.blocks setup.form job_was job_is was is end
   pub going : stop_by run.reading run.scanned ≡ stops.End
   pub alarm : EndsInAlarm (opening run.fits.first) (sent_of run.lines run.rest) run.fits.course
   pub number : k ≡ alarm.point.before.number

@@ -1,9 +1,10 @@
 -- How a run is set up.
-use Rattle.std.specs.Prelude.{ℕ}
+use Rattle.std.specs.Prelude.{ℕ, Bool}
 use Rattle.step_record.specs.declared.forms.Form.{Form}
 
--- for how many bytes its link has room, how many blocks its plan holds, and the form of its steps
+-- whether its sender stands by, for how many bytes its link has room, how many blocks its plan holds, and the form of its steps
 pub record Setup : Type 0 where
+  pub attended : Bool
   pub room : ℕ
   pub blocks : ℕ
   pub form : Form

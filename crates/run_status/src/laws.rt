@@ -32,6 +32,6 @@ pub fn faults_are_told()
 /// A run of a job whose lines are all accepted ends with no error, unless a read failed: all of the job is read and sent, and its
 /// lines become what they do if the machine is never found running.
 pub fn accepted_jobs_are_complete()
-    ensures { (setup : Setup) (job_was job_is : SourceState) (was is : Sinks) (end : AnyEnd) (run : IsRun setup.room setup.blocks setup.form job_was job_is was is end) (job : IsAcceptedJob job_was) →
+    ensures { (setup : Setup) (job_was job_is : SourceState) (was is : Sinks) (end : AnyEnd) (run : IsRun setup.attended setup.room setup.blocks setup.form job_was job_is was is end) (job : IsAcceptedJob job_was) →
         end.source_failed ≡ false → IsComplete job.bytes run.read run.lines job.outcomes (lines_in run.fits.course) end }
 {}

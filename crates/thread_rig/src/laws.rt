@@ -20,7 +20,7 @@ use stream_host::hosts_have_run;
 /// A rig whose actors ran until each was done, and whose ends agree, has done a whole run over epochs, in the form of its recorder,
 /// whatever the order in which the steps of its threads came.
 pub fn rigs_run()
-    ensures { (room slots : ℕ) (before after : Devices) (was is : Rig room slots) (end : RunEnd) → RigRan before after was is end → EndsAgree is → HasRun room (slots - 1) was.recorder.side.recorder.form before after end }
+    ensures { (room slots : ℕ) (before after : Devices) (was is : Rig room slots) (end : RunEnd) → RigRan before after was is end → EndsAgree is → HasRun was.host.side.host.attended room (slots - 1) was.recorder.side.recorder.form before after end }
 {
     hosts_have_run();
     hosts_have_sent();

@@ -1,7 +1,7 @@
 //! A run in four threads: the actors, each with its ends of what they share.
 
 ghost use Rattle.serial_ring.specs.Lists.{IsRoom};
-ghost use Rattle.std.specs.Prelude.{◌≡◌, ◌≤◌, IfOk};
+ghost use Rattle.std.specs.Prelude.{◌≡◌, ◌≤◌, false, IfOk};
 ghost use Rattle.stream_host.specs.Steps.{Journal};
 ghost use Rattle.stream_host.specs.Hosts.{HostFits};
 ghost use Rattle.stream_host.specs.Ran.{end_of};
@@ -51,8 +51,9 @@ impl<const RX: usize, const N: usize> Rig<RX, N> {
         ensures fresh { IfOk result (λ rig. IsNew rig) }
         ensures form { IfOk result (λ rig. rig.recorder.side.recorder.form ≡ form) }
         ensures stepping { IfOk result (λ rig. stepping_of rig.pulse.side.pulse ≡ Events) }
+        ensures attended { IfOk result (λ rig. rig.host.side.host.attended ≡ false) }
     {
-        Rig::stepping(alloc, form, Stepping::Events)
+        Rig::stepping(alloc, form, Stepping::Events, false)
     }
 
     /// Such a rig whose pulse hands out the subticks of each event, so that slow axes step in between. All room is taken here.
@@ -62,21 +63,24 @@ impl<const RX: usize, const N: usize> Rig<RX, N> {
         ensures fresh { IfOk result (λ rig. IsNew rig) }
         ensures form { IfOk result (λ rig. rig.recorder.side.recorder.form ≡ form) }
         ensures stepping { IfOk result (λ rig. stepping_of rig.pulse.side.pulse ≡ Subticks) }
+        ensures attended { IfOk result (λ rig. rig.host.side.host.attended ≡ false) }
     {
-        Rig::stepping(alloc, form, Stepping::Subticks)
+        Rig::stepping(alloc, form, Stepping::Subticks, false)
     }
 
-    /// Such a rig with a pulse of either kind.
+    /// Such a rig with a pulse of either kind, whose sender stands by or not.
     pub(crate) fn stepping(
         alloc: Global,
         form: Form,
         stepping: Stepping,
+        attended: bool,
     ) -> Result<Rig<RX, N>, OutOfMemory>
         requires room { IsRoom RX }
         requires slots { (2 ≤ N) × (N ≤ 64) }
         ensures fresh { IfOk result (λ rig. IsNew rig) }
         ensures form { IfOk result (λ rig. rig.recorder.side.recorder.form ≡ form) }
         ensures stepping { IfOk result (λ rig. stepping_of rig.pulse.side.pulse ≡ stepping) }
+        ensures attended { IfOk result (λ rig. rig.host.side.host.attended ≡ attended) }
     {
         let (host_end, board_end) = link::<RX>(alloc)?;
         let (raiser, taker) = flag_table(alloc)?;
@@ -84,7 +88,7 @@ impl<const RX: usize, const N: usize> Rig<RX, N> {
         let (records_out, records_in) = record_ring(alloc)?;
         Ok(Rig {
             host: Apart::new(HostSide {
-                host: Host::new(RX as u8),
+                host: Host::new(RX as u8, attended),
                 link: HostLink {
                     end: host_end,
                     flags: raiser,

@@ -14,9 +14,9 @@ use std::sync::Wait;
 use std::thread::Threads;
 use step_record::Form;
 
-/// Runs a job in four threads, one for each actor, with steps of a form and a pulse of a kind, over a link of `RX` bytes and a plan of
-/// `N` - 1 blocks, and answers how the run ends. Each turn is taken once the gate is passed. All room is taken before the first turn; where there is none,
-/// no device is touched.
+/// Runs a job in four threads, one for each actor, with steps of a form and a pulse of a kind, for a sender that stands by or not, over a
+/// link of `RX` bytes and a plan of `N` - 1 blocks, and answers how the run ends. Each turn is taken once the gate is passed. All room is
+/// taken before the first turn; where there is none, no device is touched.
 pub fn run_in_threads<
     R: Threads + Wait + Sync,
     So: Source + Send,
@@ -30,6 +30,7 @@ pub fn run_in_threads<
     alloc: Global,
     form: Form,
     stepping: Stepping,
+    attended: bool,
     job: &mut So,
     console: &mut Co,
     steps: &mut St,
@@ -37,10 +38,10 @@ pub fn run_in_threads<
 ) -> Result<RunEnd, OutOfMemory>
     requires room { IsRoom RX }
     requires slots { (2 ≤ N) × (N ≤ 64) }
-    ensures run { IfOk result (λ end. HasRun RX (N - 1) form (devices (So.state job.old) (Co.state console.old) (St.state steps.old)) (devices (So.state job.new) (Co.state console.new) (St.state steps.new)) end) }
+    ensures run { IfOk result (λ end. HasRun attended RX (N - 1) form (devices (So.state job.old) (Co.state console.old) (St.state steps.old)) (devices (So.state job.new) (Co.state console.new) (St.state steps.new)) end) }
     ensures untouched { OnErr result ((job.new ≡ job.old) × (console.new ≡ console.old) × (steps.new ≡ steps.old)) }
 {
-    let mut rig = Rig::<RX, N>::stepping(alloc, form, stepping)?;
+    let mut rig = Rig::<RX, N>::stepping(alloc, form, stepping, attended)?;
     let end = run_threads(rt, &mut rig, job, console, steps, gate);
     rig.join();
     rigs_run();

@@ -3,7 +3,7 @@ use Rattle.actor_turns.proofs.Reports.{world_reports}
 use Rattle.actor_turns.proofs.laws.worlds_count_reports.Goals as goal
 
 pub returns-clause-each : goal.returns-clause-each
-returns-clause-each c N w hist h = world_reports w hist h
+returns-clause-each c N w hist h alone = world_reports w hist h alone
 
 pub returns-clause-told : goal.returns-clause-told
 returns-clause-told c N form was now w hist st = record {
@@ -18,5 +18,5 @@ returns-clause-told c N form was now w hist st = record {
   failed = w.host.text.failed;
   waiting = w.host.text.waiting;
   console = st.console;
-  reports = world_reports w hist st.holds;
+  reports = λ alone. world_reports w hist st.holds alone;
 }

@@ -5,4 +5,4 @@ use Rattle.epoch_law.proofs.Fronts.{all_of}
 use Rattle.epoch_law.proofs.laws.actors_make_texts_that_fit.Goals as goal
 
 pub returns : goal.returns
-returns c = λ room blocks job_was job_is console_was console_is end h b p host board pulse connected passed same. texts_fit room blocks job_was job_is console_was console_is end h b p host board pulse connected passed (all_of b.answered h.got same) (ap without_reports same)
+returns c = λ attended room blocks job_was job_is console_was console_is end h b p host board pulse connected passed same. texts_fit attended room blocks job_was job_is console_was console_is end h b p host board pulse connected passed (all_of b.answered h.got same) (ap without_reports same)

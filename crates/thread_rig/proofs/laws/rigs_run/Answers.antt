@@ -2,7 +2,7 @@ use Rattle.std.proofs.Common.{◌++◌, ◌-◌, sym, ap, ◌∙◌, subst}
 use Rattle.realtime_flags.specs.Bits.{IsBalanced}
 use Rattle.realtime_flags.specs.Ends.{raises_by}
 use Rattle.stream_host.specs.Ran.{end_of}
-use Rattle.stream_host.specs.Steps.{port_log}
+use Rattle.stream_host.specs.Steps.{port_log, is_attended}
 use Rattle.board_rules.specs.Takes.{takes_in}
 use Rattle.board_epochs.specs.Epochs.{log_of}
 use Rattle.run_law.specs.Devices.{sinks}
@@ -30,7 +30,7 @@ returns c room slots before after was is end ran agree =
     let linked = c.ends_of_a_link_are_linked.ensures.ports host.journal board.epochs agreed in
     let raised = c.words_that_are_taken_were_raised.ensures agree.words (port_log host.journal) log balance in
     let connected = c.linked_ends_are_connected.ensures room host.journal (slots - 1) kept.0 board.epochs host.fits.conducted kept.2 linked.0 linked.1 raised in
-    let run = c.actors_that_end_make_a_run.ensures room (slots - 1) form before.job after.job (sinks before) (sinks after) (end_of host.journal) is.recorder.side.recorder.writer.failed
+    let run = c.actors_that_end_make_a_run.ensures (is_attended host.journal) room (slots - 1) form before.job after.job (sinks before) (sinks after) (end_of host.journal) is.recorder.side.recorder.writer.failed
     (host_did host.journal) (board_did board.epochs) (pulse_did pulse.got pulse.put) _
     (c.hosts_have_sent.ensures room host.journal before.job after.job before.console after.console host.fits.conducted (hosts.finished room is.host.side.host host.journal host.fits ran.host.done) host.job
     (hosts.console room is.host.side.host host.journal before.console after.console host.fits host.console)).0
@@ -41,4 +41,5 @@ returns c room slots before after was is end ran agree =
     (passed_some board.epochs pulse.got pulse.put _ _ _ _ board.did.pieces_are pulse.pieces agree.pieces (all_halts (slots - 1) kept.0 board.epochs kept.2 over))
     linked.1
     (record { rest = agree.untaken; is = sym pulse.records.1 ∙ (agree.records ∙ ap (λ z. z ++ agree.untaken) recorder.records.1) }) in
-    subst (λ e. HasRun room (slots - 1) form before after e) (sym (ran.tells host.journal host.fits)) run.0
+    let attended = sym host.fits.attended_is ∙ host.attended in
+    subst (λ a. HasRun a room (slots - 1) form before after end) attended (subst (λ e. HasRun (is_attended host.journal) room (slots - 1) form before after e) (sym (ran.tells host.journal host.fits)) run.0)

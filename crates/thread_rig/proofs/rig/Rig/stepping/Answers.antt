@@ -13,6 +13,7 @@ use Rattle.step_record.specs.Recording.{Recording, RecorderFits}
 use Rattle.motion_ports.proofs.Fresh.{nothing_got}
 use Rattle.motion_pulse.specs.Pulses.{stepping_of}
 use Rattle.stream_host.specs.Ports.{AreGreeted}
+use Rattle.stream_host.proofs.Running.{fits_own}
 use Rattle.thread_rig.specs.BoardSides.{BoardIsNew}
 use Rattle.thread_rig.proofs.rig.Rig.stepping.Goals as goal
 
@@ -45,7 +46,7 @@ returns-clause-fresh g c =
           moments_are = sym link.fresh_moments;
         };
         sees = record { room_looks = (link.idle_host.0, link.idle_host.1); reply_looks = link.idle_host.2; saw = tt };
-        fits = c.new.ensures;
+        fits = (fits_own c.args.attended c.new.result c.new.ensures).1;
       });
       board = subst BoardIsNew (sym board) (record {
         did = record {
@@ -67,3 +68,6 @@ returns-clause-form g c = ap (λ (s : RecorderSide). s.recorder.form) c.new-8.en
 
 pub returns-clause-stepping : goal.returns-clause-stepping
 returns-clause-stepping g c = ap (λ (s : PulseSide). stepping_of s.pulse) c.new-6.ensures ∙ c.new-5.ensures.stepping
+
+pub returns-clause-attended : goal.returns-clause-attended
+returns-clause-attended g c = ap (λ (s : HostSide g.row.RX). s.host.attended) c.new-2.ensures ∙ (fits_own c.args.attended c.new.result c.new.ensures).0
