@@ -40,9 +40,9 @@ ordered_stream = with_rule (with_rule (new_app (codes "stream")) (record (new_ru
   parser = Some (Unsigned 0 18446744073709551615);
 })) (flag_rule (codes "paced"))
 
--- it may also be given `--wide`, `--compact` and `--smooth`
+-- it may also be given `--wide`, `--compact`, `--smooth` and `--attended`
 abbrev pub stream_command : App
-stream_command = with_rule (with_rule (with_rule ordered_stream (flag_rule (codes "wide"))) (flag_rule (codes "compact"))) (flag_rule (codes "smooth"))
+stream_command = with_rule (with_rule (with_rule (with_rule ordered_stream (flag_rule (codes "wide"))) (flag_rule (codes "compact"))) (flag_rule (codes "smooth"))) (flag_rule (codes "attended"))
 
 -- what runs the generated job
 abbrev pub demo_name : Stepping → Text
@@ -104,7 +104,7 @@ stepping_by false = Events
 
 -- what was found for `stream`, if it has an order
 abbrev pub options_in : List Row → Option StreamOptions
-options_in found = option_map (λ order. record { order = order; buffers = buffers_by (has_flag (codes "wide") found); form = form_by (has_flag (codes "compact") found); stepping = stepping_by (has_flag (codes "smooth") found) }) (order_in found)
+options_in found = option_map (λ order. record { order = order; buffers = buffers_by (has_flag (codes "wide") found); form = form_by (has_flag (codes "compact") found); stepping = stepping_by (has_flag (codes "smooth") found); attended = has_flag (codes "attended") found }) (order_in found)
 
 -- the words enter `stream`, and give it two orders of turns
 abbrev pub AsksTwoOrders : List Text → Type 0

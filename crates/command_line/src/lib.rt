@@ -50,6 +50,8 @@ pub struct StreamOptions {
     pub form: Form,
     /// How the pulse steps the machine.
     pub stepping: Stepping,
+    /// The sender stands by: what it asks for waits for no answer, and nothing is resumed for it.
+    pub attended: bool,
 }
 
 /// What the words ask for.
@@ -112,7 +114,7 @@ fn ordered_stream<'a>(alloc: Global) -> Result<Command<'a>, AllocError>
         .arg(flag(alloc, "paced"))
 }
 
-/// `stream`, as clap takes it: `--wide`, `--compact` and `--smooth` are flags.
+/// `stream`, as clap takes it: `--wide`, `--compact`, `--smooth` and `--attended` are flags.
 fn stream_command<'a>(alloc: Global) -> Result<Command<'a>, AllocError>
     ensures shape { IfOk result (λ c. app_of c ≡ stream_command) }
     ensures local { IfOk result (λ c. (out-Command c).has_globals ≡ false) }
@@ -120,7 +122,8 @@ fn stream_command<'a>(alloc: Global) -> Result<Command<'a>, AllocError>
     ordered_stream(alloc)?
         .arg(flag(alloc, "wide"))?
         .arg(flag(alloc, "compact"))?
-        .arg(flag(alloc, "smooth"))
+        .arg(flag(alloc, "smooth"))?
+        .arg(flag(alloc, "attended"))
 }
 
 /// `demo` and `pins`, as clap takes them: a number of moves from 1 to 100,000 is required.
@@ -248,6 +251,7 @@ fn read_by_clap(alloc: Global, words: &[&str]) -> Result<Task, WordsFault>
             buffers: buffers_of(has_flag(given, "wide")),
             form: form_of(has_flag(given, "compact")),
             stepping: stepping_of(has_flag(given, "smooth")),
+            attended: has_flag(given, "attended"),
         }));
     }
     match given.get_one("moves") {
@@ -279,25 +283,25 @@ pub fn accepted_words()
     ensures begins { (words : List Text) → ¬ Refuses words → IsNamed words }
     ensures one { (words : List Text) (a b : Task) → Asks a words → Asks b words → a ≡ b }
     ensures some { (words : List Text) → ¬ Refuses words → (task : Task) × Asks task words }
-    ensures stream { Asks (Task.Stream (record { order = Order.Threads; buffers = Buffers.Standard; form = Form.One; stepping = Events })) (codes "stream" ∷ []) × (¬ Refuses (codes "stream" ∷ [])) }
+    ensures stream { Asks (Task.Stream (record { order = Order.Threads; buffers = Buffers.Standard; form = Form.One; stepping = Events; attended = false })) (codes "stream" ∷ []) × (¬ Refuses (codes "stream" ∷ [])) }
     ensures no_more { fault_of command_line (codes "stream" ∷ codes "--" ∷ []) ≡ [] }
-    ensures seed { Asks (Task.Stream (record { order = (Order.Lockstep 7); buffers = Buffers.Standard; form = Form.One; stepping = Events })) (codes "stream" ∷ codes "--lockstep" ∷ codes "7" ∷ [])
+    ensures seed { Asks (Task.Stream (record { order = (Order.Lockstep 7); buffers = Buffers.Standard; form = Form.One; stepping = Events; attended = false })) (codes "stream" ∷ codes "--lockstep" ∷ codes "7" ∷ [])
         × (¬ Refuses (codes "stream" ∷ codes "--lockstep" ∷ codes "7" ∷ [])) }
-    ensures largest_seed { Asks (Task.Stream (record { order = (Order.Lockstep 18446744073709551615); buffers = Buffers.Standard; form = Form.One; stepping = Events })) (codes "stream" ∷ codes "--lockstep=18446744073709551615" ∷ [])
+    ensures largest_seed { Asks (Task.Stream (record { order = (Order.Lockstep 18446744073709551615); buffers = Buffers.Standard; form = Form.One; stepping = Events; attended = false })) (codes "stream" ∷ codes "--lockstep=18446744073709551615" ∷ [])
         × (¬ Refuses (codes "stream" ∷ codes "--lockstep=18446744073709551615" ∷ [])) }
-    ensures paced { Asks (Task.Stream (record { order = Order.Paced; buffers = Buffers.Standard; form = Form.One; stepping = Events })) (codes "stream" ∷ codes "--paced" ∷ []) × (¬ Refuses (codes "stream" ∷ codes "--paced" ∷ [])) }
-    ensures compact { Asks (Task.Stream (record { order = Order.Threads; buffers = Buffers.Standard; form = Form.Two; stepping = Events })) (codes "stream" ∷ codes "--compact" ∷ []) × (¬ Refuses (codes "stream" ∷ codes "--compact" ∷ [])) }
-    ensures compact_by_seed { Asks (Task.Stream (record { order = (Order.Lockstep 7); buffers = Buffers.Standard; form = Form.Two; stepping = Events })) (codes "stream" ∷ codes "--compact" ∷ codes "--lockstep" ∷ codes "7" ∷ [])
+    ensures paced { Asks (Task.Stream (record { order = Order.Paced; buffers = Buffers.Standard; form = Form.One; stepping = Events; attended = false })) (codes "stream" ∷ codes "--paced" ∷ []) × (¬ Refuses (codes "stream" ∷ codes "--paced" ∷ [])) }
+    ensures compact { Asks (Task.Stream (record { order = Order.Threads; buffers = Buffers.Standard; form = Form.Two; stepping = Events; attended = false })) (codes "stream" ∷ codes "--compact" ∷ []) × (¬ Refuses (codes "stream" ∷ codes "--compact" ∷ [])) }
+    ensures compact_by_seed { Asks (Task.Stream (record { order = (Order.Lockstep 7); buffers = Buffers.Standard; form = Form.Two; stepping = Events; attended = false })) (codes "stream" ∷ codes "--compact" ∷ codes "--lockstep" ∷ codes "7" ∷ [])
         × (¬ Refuses (codes "stream" ∷ codes "--compact" ∷ codes "--lockstep" ∷ codes "7" ∷ [])) }
-    ensures seed_and_compact { Asks (Task.Stream (record { order = (Order.Lockstep 7); buffers = Buffers.Standard; form = Form.Two; stepping = Events })) (codes "stream" ∷ codes "--lockstep=7" ∷ codes "--compact" ∷ [])
+    ensures seed_and_compact { Asks (Task.Stream (record { order = (Order.Lockstep 7); buffers = Buffers.Standard; form = Form.Two; stepping = Events; attended = false })) (codes "stream" ∷ codes "--lockstep=7" ∷ codes "--compact" ∷ [])
         × (¬ Refuses (codes "stream" ∷ codes "--lockstep=7" ∷ codes "--compact" ∷ [])) }
-    ensures compact_and_paced { Asks (Task.Stream (record { order = Order.Paced; buffers = Buffers.Standard; form = Form.Two; stepping = Events })) (codes "stream" ∷ codes "--compact" ∷ codes "--paced" ∷ [])
+    ensures compact_and_paced { Asks (Task.Stream (record { order = Order.Paced; buffers = Buffers.Standard; form = Form.Two; stepping = Events; attended = false })) (codes "stream" ∷ codes "--compact" ∷ codes "--paced" ∷ [])
         × (¬ Refuses (codes "stream" ∷ codes "--compact" ∷ codes "--paced" ∷ [])) }
-    ensures wide { Asks (Task.Stream (record { order = Order.Threads; buffers = Buffers.Wide; form = Form.One; stepping = Events })) (codes "stream" ∷ codes "--wide" ∷ []) × (¬ Refuses (codes "stream" ∷ codes "--wide" ∷ [])) }
-    ensures wide_by_seed { Asks (Task.Stream (record { order = (Order.Lockstep 7); buffers = Buffers.Wide; form = Form.Two; stepping = Events })) (codes "stream" ∷ codes "--lockstep=7" ∷ codes "--wide" ∷ codes "--compact" ∷ [])
+    ensures wide { Asks (Task.Stream (record { order = Order.Threads; buffers = Buffers.Wide; form = Form.One; stepping = Events; attended = false })) (codes "stream" ∷ codes "--wide" ∷ []) × (¬ Refuses (codes "stream" ∷ codes "--wide" ∷ [])) }
+    ensures wide_by_seed { Asks (Task.Stream (record { order = (Order.Lockstep 7); buffers = Buffers.Wide; form = Form.Two; stepping = Events; attended = false })) (codes "stream" ∷ codes "--lockstep=7" ∷ codes "--wide" ∷ codes "--compact" ∷ [])
         × (¬ Refuses (codes "stream" ∷ codes "--lockstep=7" ∷ codes "--wide" ∷ codes "--compact" ∷ [])) }
-    ensures smooth { Asks (Task.Stream (record { order = Order.Threads; buffers = Buffers.Standard; form = Form.One; stepping = Subticks })) (codes "stream" ∷ codes "--smooth" ∷ []) × (¬ Refuses (codes "stream" ∷ codes "--smooth" ∷ [])) }
-    ensures smooth_by_seed { Asks (Task.Stream (record { order = (Order.Lockstep 7); buffers = Buffers.Wide; form = Form.Two; stepping = Subticks })) (codes "stream" ∷ codes "--smooth" ∷ codes "--lockstep=7" ∷ codes "--wide" ∷ codes "--compact" ∷ [])
+    ensures smooth { Asks (Task.Stream (record { order = Order.Threads; buffers = Buffers.Standard; form = Form.One; stepping = Subticks; attended = false })) (codes "stream" ∷ codes "--smooth" ∷ []) × (¬ Refuses (codes "stream" ∷ codes "--smooth" ∷ [])) }
+    ensures smooth_by_seed { Asks (Task.Stream (record { order = (Order.Lockstep 7); buffers = Buffers.Wide; form = Form.Two; stepping = Subticks; attended = false })) (codes "stream" ∷ codes "--smooth" ∷ codes "--lockstep=7" ∷ codes "--wide" ∷ codes "--compact" ∷ [])
         × (¬ Refuses (codes "stream" ∷ codes "--smooth" ∷ codes "--lockstep=7" ∷ codes "--wide" ∷ codes "--compact" ∷ [])) }
     ensures paced_by_seed { Refuses (codes "stream" ∷ codes "--paced" ∷ codes "--lockstep=7" ∷ []) }
     ensures seed_and_paced { Refuses (codes "stream" ∷ codes "--lockstep=7" ∷ codes "--paced" ∷ []) }

@@ -11,6 +11,7 @@ fn stream_of(order: Order, form: Form) -> Task {
         buffers: Buffers::Standard,
         form,
         stepping: Stepping::Events,
+        attended: false,
     })
 }
 
@@ -25,12 +26,14 @@ fn words_ask_for_a_task_or_are_refused(rt: HostRuntime) {
         buffers: Buffers::Wide,
         form: Form::Two,
         stepping: Stepping::Events,
+        attended: false,
     }));
     let smooth = Ok(Task::Stream(StreamOptions {
         order: Order::Paced,
         buffers: Buffers::Standard,
         form: Form::One,
         stepping: Stepping::Subticks,
+        attended: false,
     }));
     let refused = Err(WordsFault::Refused);
     let rows: [(&[&str], Result<Task, WordsFault>); 68] = [

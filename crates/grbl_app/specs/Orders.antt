@@ -1,5 +1,5 @@
 -- The order of turns that the words name.
-use Rattle.std.specs.Prelude.{◌≡◌, ℕ, ◌-◌, Bool, List}
+use Rattle.std.specs.Prelude.{◌≡◌, ℕ, ◌-◌, Bool, false, List}
 use Rattle.outside.specs.Causes.{SinkState}
 use Rattle.run_law.specs.declared.RunEnd.{RunEnd}
 use Rattle.epoch_law.specs.Devices.{Devices, devices, HasRun}
@@ -20,14 +20,14 @@ use Rattle.grbl_app.specs.Sizes.{room_of, slots_of}
 
 -- A run of a job over a link and a plan of these sizes, whose steps have this form, and whose turns came in this order: of a seed, or at
 -- a pace, with a pulse of this kind. Threads take them in any.
-abbrev pub GoesInOrder : (room slots : ℕ) → Form → Stepping → Order → Devices → Devices → RunEnd → Type 0
-GoesInOrder room slots form stepping Threads was now end = HasRun room (slots - 1) form was now end
-GoesInOrder room slots form stepping (Lockstep seed) was now end = IsLockstepRun room slots form stepping seed was now end
-GoesInOrder room slots form stepping Paced was now end = IsPacedRun room slots form stepping was now end
+abbrev pub GoesInOrder : (attended : Bool) (room slots : ℕ) → Form → Stepping → Order → Devices → Devices → RunEnd → Type 0
+GoesInOrder attended room slots form stepping Threads was now end = HasRun attended room (slots - 1) form was now end
+GoesInOrder attended room slots form stepping (Lockstep seed) was now end = IsLockstepRun attended room slots form stepping seed was now end
+GoesInOrder attended room slots form stepping Paced was now end = IsPacedRun attended room slots form stepping was now end
 
 -- as the options say
 abbrev pub GoesBy : (room slots : ℕ) → StreamOptions → Devices → Devices → RunEnd → Type 0
-GoesBy room slots options was now end = GoesInOrder room slots options.form options.stepping options.order was now end
+GoesBy room slots options was now end = GoesInOrder options.attended room slots options.form options.stepping options.order was now end
 
 -- that, by the options of a stream, and its status
 pub record EndsInOrder (options : StreamOptions) (was now : Devices) (status : Status) : Type 0 where
@@ -42,7 +42,7 @@ pub record IsOrderedDemo (n : ℕ) (stepping : Stepping) (console_was console_is
   pub end : RunEnd
   pub left : List ℕ
   pub subticks : ℕ
-  pub goes : IsCountedRun (room_of Standard) (slots_of Standard) One stepping n (devices (generated (job_text n)) keeps_nothing steps_was) (devices (generated left) keeps_nothing steps_is) end subticks
+  pub goes : IsCountedRun false (room_of Standard) (slots_of Standard) One stepping n (devices (generated (job_text n)) keeps_nothing steps_was) (devices (generated left) keeps_nothing steps_is) end subticks
   pub console_failed : Bool
   pub console : Took console_was console_is console_failed (demo_text stepping n subticks)
   pub status_is : status ≡ status_of (record end { console_failed = console_failed })

@@ -19,4 +19,4 @@ slots_of Wide = 36
 
 -- how the options of a stream set up its run
 abbrev pub setup_of : StreamOptions → Setup
-setup_of options = record { room = room_of options.buffers; blocks = slots_of options.buffers - 1; form = options.form }
+setup_of options = record { attended = options.attended; room = room_of options.buffers; blocks = slots_of options.buffers - 1; form = options.form }

@@ -62,6 +62,7 @@ pub(crate) fn run_demo<R: Wait, Co: Sink, St: Sink>(
         alloc,
         Form::One,
         stepping,
+        false,
         moves as u64,
         &mut job,
         &mut NoConsole,

@@ -44,23 +44,26 @@ fn run_sized<
 ) -> Result<RunEnd, OutOfMemory>
     requires room { IsRoom RX }
     requires slots { (2 ≤ N) × (N ≤ 64) }
-    ensures run { IfOk result (λ end. HasRun RX (N - 1) options.form (devices (So.state job.old) (Co.state console.old) (St.state steps.old)) (devices (So.state job.new) (Co.state console.new) (St.state steps.new)) end) }
+    ensures run { IfOk result (λ end. HasRun options.attended RX (N - 1) options.form (devices (So.state job.old) (Co.state console.old) (St.state steps.old)) (devices (So.state job.new) (Co.state console.new) (St.state steps.new)) end) }
     ensures order { IfOk result (λ end. GoesBy RX N options (devices (So.state job.old) (Co.state console.old) (St.state steps.old)) (devices (So.state job.new) (Co.state console.new) (St.state steps.new)) end) }
     ensures untouched { OnErr result ((job.new ≡ job.old) × (console.new ≡ console.old) × (steps.new ≡ steps.old)) }
 {
     let form = options.form;
     let stepping = options.stepping;
+    let attended = options.attended;
     match options.order {
         Order::Lockstep(seed) => {
             run_in_lockstep::<_, _, _, _, RX, N>(
-                rt, alloc, form, stepping, seed, job, console, steps,
+                rt, alloc, form, stepping, attended, seed, job, console, steps,
             )
         }
         Order::Paced => {
-            run_at_a_pace::<_, _, _, _, RX, N>(rt, alloc, form, stepping, job, console, steps)
+            run_at_a_pace::<_, _, _, _, RX, N>(
+                rt, alloc, form, stepping, attended, job, console, steps,
+            )
         }
         Order::Threads => run_in_threads::<_, _, _, _, _, RX, N>(
-            rt, alloc, form, stepping, job, console, steps, gate,
+            rt, alloc, form, stepping, attended, job, console, steps, gate,
         ),
     }
 }
@@ -81,7 +84,7 @@ pub(crate) fn run_job<
     steps: &mut St,
     gate: &G,
 ) -> Result<RunEnd, OutOfMemory>
-    ensures run { IfOk result (λ end. HasRun (room_of options.buffers) (slots_of options.buffers - 1) options.form (devices (So.state job.old) (Co.state console.old) (St.state steps.old)) (devices (So.state job.new) (Co.state console.new) (St.state steps.new)) end) }
+    ensures run { IfOk result (λ end. HasRun options.attended (room_of options.buffers) (slots_of options.buffers - 1) options.form (devices (So.state job.old) (Co.state console.old) (St.state steps.old)) (devices (So.state job.new) (Co.state console.new) (St.state steps.new)) end) }
     ensures order { IfOk result (λ end. GoesBy (room_of options.buffers) (slots_of options.buffers) options (devices (So.state job.old) (Co.state console.old) (St.state steps.old)) (devices (So.state job.new) (Co.state console.new) (St.state steps.new)) end) }
     ensures untouched { OnErr result ((job.new ≡ job.old) × (console.new ≡ console.old) × (steps.new ≡ steps.old)) }
 {

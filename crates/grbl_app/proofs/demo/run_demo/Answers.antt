@@ -1,6 +1,6 @@
 use Rattle.status_report.specs.Answering.{receive_room}
 use Rattle.planner_runs.specs.Runs.{most_blocks}
-use Rattle.std.proofs.Common.{◌≡◌, ◌∙◌, ◌+◌, not, Ok, Err, List, ℕ, refl, subst}
+use Rattle.std.proofs.Common.{◌≡◌, ◌∙◌, ◌+◌, false, not, Ok, Err, List, ℕ, refl, subst}
 use Rattle.std.specs.declared.result.Result.{Result}
 use Rattle.std.specs.Result.{is_ok, is_err}
 use Rattle.step_record.specs.declared.forms.Form.TheVariants.{One}
@@ -22,7 +22,7 @@ returns-clause-run g c =
     let end = c.in_ok-counted.counted.end in
     let left = c.count_in_lockstep.new.job in
     let subticks = c.in_ok-counted.counted.pins in
-    let goes = subst (λ (text : List ℕ). IsCountedRun receive_room (most_blocks + 1) One c.args.stepping c.args.moves (devices (generated text) keeps_nothing (g.St.Sink.state c.args.steps.now))
+    let goes = subst (λ (text : List ℕ). IsCountedRun false receive_room (most_blocks + 1) One c.args.stepping c.args.moves (devices (generated text) keeps_nothing (g.St.Sink.state c.args.steps.now))
     (devices (generated left) keeps_nothing (g.St.Sink.state c.count_in_lockstep.new.steps)) end subticks) c.new-job.ensures c.in_ok-counted.ensures.order in
     let run = goes.runs.run.run in
     let whole = runs_whole c.args.moves left _ _ end c.requires.moves.0 c.requires.moves.1 run in
@@ -47,7 +47,7 @@ returns-clause-order g c =
     let left = c.count_in_lockstep.new.job in
     let end = c.in_ok-counted.counted.end in
     let subticks = c.in_ok-counted.counted.pins in
-    let run = subst (λ (text : List ℕ). IsRun receive_room most_blocks One (generated text) (generated left)
+    let run = subst (λ (text : List ℕ). IsRun false receive_room most_blocks One (generated text) (generated left)
     (record { console = keeps_nothing; steps = g.St.Sink.state c.args.steps.now })
     (record { console = keeps_nothing; steps = g.St.Sink.state c.count_in_lockstep.new.steps }) end) c.new-job.ensures c.in_ok-counted.ensures.run in
     let whole = runs_whole c.args.moves left _ _ end c.requires.moves.0 c.requires.moves.1 run in
@@ -55,7 +55,7 @@ returns-clause-order g c =
       end = end;
       left = left;
       subticks = subticks;
-      goes = subst (λ (text : List ℕ). IsCountedRun receive_room (most_blocks + 1) One c.args.stepping c.args.moves (devices (generated text) keeps_nothing (g.St.Sink.state c.args.steps.now))
+      goes = subst (λ (text : List ℕ). IsCountedRun false receive_room (most_blocks + 1) One c.args.stepping c.args.moves (devices (generated text) keeps_nothing (g.St.Sink.state c.args.steps.now))
           (devices (generated left) keeps_nothing (g.St.Sink.state c.count_in_lockstep.new.steps)) end subticks) c.new-job.ensures c.in_ok-counted.ensures.order;
       console_failed = c.is_err-console_failed.result;
       console = rw (c.is_err-console_failed.ensures.value, errs c.tell_run.result) (c.tell_run.ensures whole.answered whole.errors);
