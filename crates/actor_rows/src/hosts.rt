@@ -416,14 +416,42 @@ fn is_read_on(alloc: Global, text: &str) -> Result<bool, OutOfMemory> {
     Ok(line.taken() == lines.as_slice())
 }
 
-const PAUSES: &[&str] = &["M0", "M00", "M000X1", "M0.", "G0X0M0", "M30M0", "M3M0F0"];
-
-const NO_PAUSES: &[&str] = &[
-    "", "M", "0", "M03", "M30", "M003", "M1", "X0M", "MM3", "MX0",
+const PAUSES: &[&str] = &[
+    "M0",
+    "M00",
+    "M000X1",
+    "M0.",
+    "M.0",
+    "M+0",
+    "M-0",
+    "M-.00",
+    "M0.0000009",
+    "G0X0M0",
+    "M30M0",
+    "M3M0F0",
 ];
 
-/// The number 0 is a pause behind an `M` alone, and with no other digit: the job is read on behind a line that has one, though
-/// it has no answer.
+const NO_PAUSES: &[&str] = &[
+    "",
+    "M",
+    "0",
+    "M03",
+    "M30",
+    "M003",
+    "M1",
+    "X0M",
+    "MM3",
+    "MX0",
+    "M.",
+    "M-",
+    "M+-0",
+    "M..0",
+    "M0.1",
+    "M-.000001",
+];
+
+/// The number 0 is a pause behind an `M` alone, however it is written: the job is read on behind a line that has one, though it has no
+/// answer.
 #[test]
 fn pauses_are_found(rt: HostRuntime) -> Result<(), Fail> {
     for text in PAUSES {

@@ -16,6 +16,7 @@ pub mod Turns
 pub mod Settling
 pub mod Kept
 pub mod Links
+pub mod Pauses
 pub mod Pieces
 pub mod Keeping
 pub mod Sending

@@ -1,6 +1,10 @@
 -- When a machine may be held, so that a line has no answer before the machine is resumed.
-use Rattle.std.specs.Prelude.{ℕ, Bool, true, false, not, cond, ◌&&◌, ◌||◌, List, [], ◌∷◌, nat_eq}
-use Rattle.units.specs.Decimals.{is_digit}
+use Rattle.std.specs.Prelude.{ℕ, Bool, true, false, cond, ◌&&◌, ◌||◌, List, [], ◌∷◌, nat_eq, nat_abs, Ok, Err}
+use Rattle.std.specs.declared.result.Result.{Result}
+use Rattle.units.specs.Reading.{decimal_from}
+use Rattle.units.specs.declared.Decimal.{Decimal}
+use Rattle.units.specs.declared.NumFault.{NumFault}
+use Rattle.gcode_words.specs.declared.Word.{Word}
 use Rattle.stream_host.specs.Jobs.{resume, sent_text}
 
 -- `!` holds the machine
@@ -12,15 +16,24 @@ hold = 0x21
 abbrev pub held_after : ℕ → Bool → Bool
 held_after b held = cond (nat_eq b hold) true (cond (nat_eq b resume) false held)
 
--- Whether the number 0 begins a text: some `0`, and then no digit. Some may stand before the text.
-abbrev pub begins_zero : Bool → List ℕ → Bool
-begins_zero seen [] = seen
-begins_zero seen (c ∷ cs) = cond (nat_eq c 48) (begins_zero true cs) (seen && not (is_digit c))
+-- what was read is the number 0
+abbrev pub is_zero : Result (Decimal × ℕ) NumFault → Bool
+is_zero (Ok read) = nat_eq (nat_abs read.0.micro) 0
+is_zero (Err fault) = false
 
--- an `M` stands in a text with the number 0 behind it, as in `M0`, `M00` and `M0.`
+-- The number 0 begins a text, as a line's numbers are read: with a sign or without one, with digits before a point or behind it, and
+-- six decimals count.
+abbrev pub begins_zero : List ℕ → Bool
+begins_zero text = is_zero (decimal_from 0 text)
+
+-- an `M` stands in a text with the number 0 behind it, as in `M0`, `M00`, `M0.`, `M.0` and `M-0`
 abbrev pub has_pause : List ℕ → Bool
 has_pause [] = false
-has_pause (c ∷ cs) = (nat_eq c 77 && begins_zero false cs) || has_pause cs
+has_pause (c ∷ cs) = (nat_eq c 77 && begins_zero cs) || has_pause cs
+
+-- a word is `M0`
+abbrev pub is_pause : Word → Bool
+is_pause w = nat_eq w.letter 77 && nat_eq (nat_abs w.value.micro) 0
 
 -- a line asks for a pause: what is sent of it has one
 abbrev pub pauses : List ℕ → Bool

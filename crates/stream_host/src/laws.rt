@@ -10,7 +10,10 @@ ghost use Rattle.stream_host.specs.Links.{behind_lf, on_link, AreInOrder};
 ghost use Rattle.status_report.specs.Answering.{lfs_in, answers_in};
 ghost use Rattle.stream_host.specs.Jobs.{is_reset, sent_text, marks_behind, served_in, ends_sending, lines_read, lines_to_send, stop_by, IsSent, IsSentSoFar};
 ghost use Rattle.stream_host.specs.declared.Reading.{Reading};
-ghost use Rattle.std.specs.List.{AllByRecursion};
+ghost use Rattle.std.specs.List.{AllByRecursion, list_any};
+ghost use Rattle.gcode_words.specs.Words.{Spells};
+ghost use Rattle.gcode_words.specs.declared.Word.{Word};
+ghost use Rattle.stream_host.specs.Holding.{is_pause, pauses};
 ghost use Rattle.stream_host.specs.Steps.{Journal, stored_of, got_of, is_shut, answered_of, errors_of, live_of, unanswered_of, forgotten_of, over_of, marks_of, resets_of, banners_of, awaits_banner, read_of, reading_of, scanned_of, cut_of, to_store, begun_of, due_of, has_limit, job_stop_of, or_alarm, stop_of, port_log, is_attended, beginning, raises_of, line_raises_of, resumes_of, polls_of, all_empty_in, empty_polls};
 ghost use Rattle.stream_host.specs.Steps.Step.{at_port};
 ghost use Rattle.stream_host.specs.Steps.PortStep.{marked, raised};
@@ -105,10 +108,12 @@ pub fn hosts_wait_for_answers()
 {}
 
 /// A job in which no line ends the sending is sent whole. Lines come back from the link as what is kept of them. Behind the
-/// lines that are answered stands at least what was not taken.
+/// lines that are answered stands at least what was not taken. A line asks for a pause exactly if what is sent of it has the word
+/// `M0`, where that spells words.
 pub fn links_carry_lines()
     ensures all { (r : Reading) (job : List ℕ) → AllByRecursion (λ l. ends_sending l ≡ false) (lines_read r job) → lines_to_send r job ≡ lines_read r job }
     ensures lines { (lines : List (List ℕ)) → whole_lines (on_link lines) ≡ map sent_text lines }
+    ensures pauses { (line : List ℕ) (words : List Word) → Spells (sent_text line) words → pauses line ≡ list_any is_pause words }
     ensures untaken { (k : ℕ) (taken bytes : List ℕ) → k ≤ lfs_in taken → length bytes ≤ length (behind_lf k (taken ++ bytes)) }
 {}
 

@@ -1,25 +1,22 @@
 //! Which lines ask for a pause.
 
-ghost use Rattle.std.specs.Prelude.{◌≡◌, false};
+ghost use Rattle.std.specs.Prelude.{◌≡◌};
 ghost use Rattle.stream_host.specs.Holding.{begins_zero, has_pause};
 
-/// Whether the number 0 begins a text: some `0`, and then no digit.
+use units::read_decimal;
+
+/// Whether the number 0 begins a text, as the numbers of a line are read.
 fn begins_zero(text: &[u8]) -> bool
-    ensures { result ≡ begins_zero false text.now }
+    ensures { result ≡ begins_zero text.now }
 {
-    let mut seen = false;
-    let mut rest = text;
-    while let Some((byte, behind)) = rest.split_first() {
-        if *byte != b'0' {
-            return seen && !byte.is_ascii_digit();
-        }
-        seen = true;
-        rest = behind;
+    match read_decimal(text, 0) {
+        Ok((number, _)) => number.micro.unsigned_abs() == 0,
+        Err(_) => false,
     }
-    seen
 }
 
-/// Whether an `M` stands in a text with the number 0 behind it: `M0` and `M00` ask for a pause, `M03` and `M30` do not.
+/// Whether an `M` stands in a text with the number 0 behind it: `M0`, `M00`, `M0.`, `M.0` and `M-0` ask for a pause, `M03`, `M30`
+/// and `M0.5` do not.
 pub(crate) fn has_pause(text: &[u8]) -> bool
     ensures { result ≡ has_pause text.now }
 {
