@@ -175,7 +175,7 @@ found_seed rows = IsGood (codes "seed") (Some (codes "lockstep")) None seeds fal
 
 -- the arguments of `stream`, as clap builds them
 abbrev stream_rules : List Rule
-stream_rules = argument (codes "seed") (Some (codes "lockstep")) None seeds false ∷ flag (codes "paced") ∷ flag (codes "wide") ∷ flag (codes "compact") ∷ flag (codes "smooth") ∷ help ∷ []
+stream_rules = argument (codes "seed") (Some (codes "lockstep")) None seeds false ∷ flag (codes "paced") ∷ flag (codes "wide") ∷ flag (codes "compact") ∷ flag (codes "smooth") ∷ flag (codes "attended") ∷ help ∷ []
 
 abbrev pub given_moves : Text → Row
 given_moves v = given (codes "moves") None (Some 1) numbers true v
@@ -203,7 +203,10 @@ seed_found s words whole_level = finds found_seed stream_rules (
         flag_by_use (codes "seed") (Some (codes "lockstep")) None seeds false (codes "compact") refl,
         (
           flag_by_use (codes "seed") (Some (codes "lockstep")) None seeds false (codes "smooth") refl,
-          (help_by_use (codes "seed") (Some (codes "lockstep")) None seeds false, tt),
+          (
+            flag_by_use (codes "seed") (Some (codes "lockstep")) None seeds false (codes "attended") refl,
+            (help_by_use (codes "seed") (Some (codes "lockstep")) None seeds false, tt),
+          ),
         ),
       ),
     ),
@@ -218,7 +221,10 @@ seed_found s words whole_level = finds found_seed stream_rules (
         flag_by_default (codes "seed") (Some (codes "lockstep")) None seeds false (codes "compact") refl,
         (
           flag_by_default (codes "seed") (Some (codes "lockstep")) None seeds false (codes "smooth") refl,
-          (help_by_default (codes "seed") (Some (codes "lockstep")) None seeds false, tt),
+          (
+            flag_by_default (codes "seed") (Some (codes "lockstep")) None seeds false (codes "attended") refl,
+            (help_by_default (codes "seed") (Some (codes "lockstep")) None seeds false, tt),
+          ),
         ),
       ),
     ),

@@ -195,7 +195,7 @@ by_clap : (words : List Text) → ¬ Refuses words → Entered words → (task :
 by_clap words h (Entered.a_stream rows is good) = go (order_in rows) refl
   where
     options_by : Order → StreamOptions
-    options_by order = record { order = order; buffers = buffers_by (has_flag (codes "wide") rows); form = form_by (has_flag (codes "compact") rows); stepping = stepping_by (has_flag (codes "smooth") rows) }
+    options_by order = record { order = order; buffers = buffers_by (has_flag (codes "wide") rows); form = form_by (has_flag (codes "compact") rows); stepping = stepping_by (has_flag (codes "smooth") rows); attended = has_flag (codes "attended") rows }
 
     go : (o : Option Order) → o ≡ order_in rows → (task : Task) × Asks task words
     go None none = absurd (h (inr (subst (λ (found : Option (Text × List Row)). IsSomeAnd found (λ s. (s.0 ≡ codes "stream") × (order_in s.1 ≡ None))) (sym is) (refl, sym none))))

@@ -277,8 +277,8 @@ pub fn read_words(alloc: Global, words: &[&str]) -> Result<Task, WordsFault>
 
 /// What the definition of the command line means. Accepted words begin with `stream`, `demo` or `pins`, and ask for a task; words ask
 /// for one at most. A seed is any number that 64 bits hold, after `--lockstep` or `--lockstep=`, and is given once at most, and
-/// not with `--paced`. `--paced`, `--wide`, `--compact` and `--smooth` are given once at most each, before or after other options. A number
-/// of moves is given, once, and is at least 1 and at most 100,000. A request for help is a fault as well.
+/// not with `--paced`. `--paced`, `--wide`, `--compact`, `--smooth` and `--attended` are given once at most each, before or after other
+/// options. A number of moves is given, once, and is at least 1 and at most 100,000. A request for help is a fault as well.
 pub fn accepted_words()
     ensures begins { (words : List Text) → ¬ Refuses words → IsNamed words }
     ensures one { (words : List Text) (a b : Task) → Asks a words → Asks b words → a ≡ b }
@@ -303,6 +303,9 @@ pub fn accepted_words()
     ensures smooth { Asks (Task.Stream (record { order = Order.Threads; buffers = Buffers.Standard; form = Form.One; stepping = Subticks; attended = false })) (codes "stream" ∷ codes "--smooth" ∷ []) × (¬ Refuses (codes "stream" ∷ codes "--smooth" ∷ [])) }
     ensures smooth_by_seed { Asks (Task.Stream (record { order = (Order.Lockstep 7); buffers = Buffers.Wide; form = Form.Two; stepping = Subticks; attended = false })) (codes "stream" ∷ codes "--smooth" ∷ codes "--lockstep=7" ∷ codes "--wide" ∷ codes "--compact" ∷ [])
         × (¬ Refuses (codes "stream" ∷ codes "--smooth" ∷ codes "--lockstep=7" ∷ codes "--wide" ∷ codes "--compact" ∷ [])) }
+    ensures attended { Asks (Task.Stream (record { order = Order.Threads; buffers = Buffers.Standard; form = Form.One; stepping = Events; attended = true })) (codes "stream" ∷ codes "--attended" ∷ []) × (¬ Refuses (codes "stream" ∷ codes "--attended" ∷ [])) }
+    ensures attended_by_seed { Asks (Task.Stream (record { order = (Order.Lockstep 7); buffers = Buffers.Wide; form = Form.Two; stepping = Subticks; attended = true })) (codes "stream" ∷ codes "--attended" ∷ codes "--smooth" ∷ codes "--lockstep=7" ∷ codes "--wide" ∷ codes "--compact" ∷ [])
+        × (¬ Refuses (codes "stream" ∷ codes "--attended" ∷ codes "--smooth" ∷ codes "--lockstep=7" ∷ codes "--wide" ∷ codes "--compact" ∷ [])) }
     ensures paced_by_seed { Refuses (codes "stream" ∷ codes "--paced" ∷ codes "--lockstep=7" ∷ []) }
     ensures seed_and_paced { Refuses (codes "stream" ∷ codes "--lockstep=7" ∷ codes "--paced" ∷ []) }
     ensures seed_too_large { fault_of command_line (codes "stream" ∷ codes "--lockstep" ∷ codes "18446744073709551616" ∷ []) ≡ ErrorKind.ValueValidation ∷ [] }
@@ -310,8 +313,11 @@ pub fn accepted_words()
     ensures two_paces { fault_of command_line (codes "stream" ∷ codes "--paced" ∷ codes "--paced" ∷ []) ≡ ErrorKind.ArgumentConflict ∷ [] }
     ensures twice_compact { fault_of command_line (codes "stream" ∷ codes "--compact" ∷ codes "--compact" ∷ []) ≡ ErrorKind.ArgumentConflict ∷ [] }
     ensures twice_wide { fault_of command_line (codes "stream" ∷ codes "--wide" ∷ codes "--wide" ∷ []) ≡ ErrorKind.ArgumentConflict ∷ [] }
+    ensures twice_attended { fault_of command_line (codes "stream" ∷ codes "--attended" ∷ codes "--attended" ∷ []) ≡ ErrorKind.ArgumentConflict ∷ [] }
+    ensures attended_has_no_value { fault_of command_line (codes "stream" ∷ codes "--attended=1" ∷ []) ≡ ErrorKind.TooManyValues ∷ [] }
     ensures wide_has_no_value { fault_of command_line (codes "stream" ∷ codes "--wide=255" ∷ []) ≡ ErrorKind.TooManyValues ∷ [] }
     ensures wide_demo { fault_of command_line (codes "demo" ∷ codes "3" ∷ codes "--wide" ∷ []) ≡ ErrorKind.UnknownArgument ∷ [] }
+    ensures attended_demo { fault_of command_line (codes "demo" ∷ codes "3" ∷ codes "--attended" ∷ []) ≡ ErrorKind.UnknownArgument ∷ [] }
     ensures compact_is_no_seed { fault_of command_line (codes "stream" ∷ codes "--lockstep" ∷ codes "--compact" ∷ []) ≡ ErrorKind.InvalidValue ∷ [] }
     ensures compact_has_no_value { fault_of command_line (codes "stream" ∷ codes "--compact=2" ∷ []) ≡ ErrorKind.TooManyValues ∷ [] }
     ensures compact_demo { fault_of command_line (codes "demo" ∷ codes "3" ∷ codes "--compact" ∷ []) ≡ ErrorKind.UnknownArgument ∷ [] }

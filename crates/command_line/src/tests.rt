@@ -15,6 +15,17 @@ fn stream_of(order: Order, form: Form) -> Task {
     })
 }
 
+/// A stream whose sender stands by.
+fn attended_by(order: Order, buffers: Buffers, form: Form, stepping: Stepping) -> Task {
+    Task::Stream(StreamOptions {
+        order,
+        buffers,
+        form,
+        stepping,
+        attended: true,
+    })
+}
+
 #[test]
 fn words_ask_for_a_task_or_are_refused(rt: HostRuntime) {
     let stream = Ok(stream_of(Order::Threads, Form::One));
@@ -35,8 +46,26 @@ fn words_ask_for_a_task_or_are_refused(rt: HostRuntime) {
         stepping: Stepping::Subticks,
         attended: false,
     }));
+    let attended = Ok(attended_by(
+        Order::Threads,
+        Buffers::Standard,
+        Form::One,
+        Stepping::Events,
+    ));
+    let attended_and_paced = Ok(attended_by(
+        Order::Paced,
+        Buffers::Standard,
+        Form::One,
+        Stepping::Events,
+    ));
+    let attended_by_seed = Ok(attended_by(
+        Order::Lockstep(7),
+        Buffers::Wide,
+        Form::Two,
+        Stepping::Subticks,
+    ));
     let refused = Err(WordsFault::Refused);
-    let rows: [(&[&str], Result<Task, WordsFault>); 68] = [
+    let rows: [(&[&str], Result<Task, WordsFault>); 89] = [
         (&[], refused),
         (&["stream"], stream),
         (&["stream", "--"], stream),
@@ -98,6 +127,78 @@ fn words_ask_for_a_task_or_are_refused(rt: HostRuntime) {
         (&["stream", "--smooth", "--smooth"], refused),
         (&["stream", "--smooth=3"], refused),
         (&["--smooth", "stream"], refused),
+        (&["stream", "--attended"], attended),
+        (&["stream", "--attended", "--"], attended),
+        (&["stream", "--", "--attended"], refused),
+        (&["stream", "--attended", "--paced"], attended_and_paced),
+        (&["stream", "--paced", "--attended"], attended_and_paced),
+        (
+            &[
+                "stream",
+                "--attended",
+                "--lockstep",
+                "7",
+                "--wide",
+                "--compact",
+                "--smooth",
+            ],
+            attended_by_seed,
+        ),
+        (
+            &[
+                "stream",
+                "--smooth",
+                "--compact",
+                "--wide",
+                "--lockstep=7",
+                "--attended",
+            ],
+            attended_by_seed,
+        ),
+        (
+            &["stream", "--attended", "--wide"],
+            Ok(attended_by(Order::Threads, Buffers::Wide, Form::One, Stepping::Events)),
+        ),
+        (
+            &["stream", "--compact", "--attended"],
+            Ok(attended_by(
+                Order::Threads,
+                Buffers::Standard,
+                Form::Two,
+                Stepping::Events,
+            )),
+        ),
+        (
+            &["stream", "--attended", "--smooth"],
+            Ok(attended_by(
+                Order::Threads,
+                Buffers::Standard,
+                Form::One,
+                Stepping::Subticks,
+            )),
+        ),
+        (
+            &["stream", "--lockstep=7", "--attended"],
+            Ok(attended_by(
+                Order::Lockstep(7),
+                Buffers::Standard,
+                Form::One,
+                Stepping::Events,
+            )),
+        ),
+        (&["stream", "--attended", "--attended"], refused),
+        (&["stream", "--attended=1"], refused),
+        (&["stream", "--attended", "1"], refused),
+        (&["stream", "--attende"], refused),
+        (&["stream", "--lockstep", "--attended"], refused),
+        (
+            &["stream", "--attended", "--paced", "--lockstep=7"],
+            refused,
+        ),
+        (&["--attended", "stream"], refused),
+        (&["--attended"], refused),
+        (&["demo", "3", "--attended"], refused),
+        (&["pins", "3", "--attended"], refused),
         (&["--compact", "stream"], refused),
         (&["demo", "3", "--compact"], refused),
         (&["demo", "1"], Ok(Task::Demo(1, Stepping::Events))),

@@ -168,3 +168,23 @@ returns-clause-no_pins c = refl
 pub returns-clause-smooth_demo : goal.returns-clause-smooth_demo
 unfolding clap_on_literals
 returns-clause-smooth_demo c = refl
+
+pub returns-clause-attended : goal.returns-clause-attended
+unfolding clap_on_literals
+returns-clause-attended c = ((refl, refl), λ refused. elim refused [ inl fault ↦ fault refl | inr two ↦ cc ])
+
+pub returns-clause-attended_by_seed : goal.returns-clause-attended_by_seed
+unfolding clap_on_literals
+returns-clause-attended_by_seed c = ((refl, refl), λ refused. elim refused [ inl fault ↦ fault refl | inr two ↦ cc ])
+
+pub returns-clause-twice_attended : goal.returns-clause-twice_attended
+unfolding clap_on_literals
+returns-clause-twice_attended c = refl
+
+pub returns-clause-attended_has_no_value : goal.returns-clause-attended_has_no_value
+unfolding clap_on_literals
+returns-clause-attended_has_no_value c = refl
+
+pub returns-clause-attended_demo : goal.returns-clause-attended_demo
+unfolding clap_on_literals
+returns-clause-attended_demo c = refl

@@ -107,8 +107,8 @@ returns-then-eq-clause-asked c =
           let buffers : c.buffers_of.result ≡ buffers_by (has_flag (codes "wide") rows) = c.buffers_of.ensures ∙ ap buffers_by c.has_flag-then-eq.ensures in
           let form : c.form_of.result ≡ form_by (has_flag (codes "compact") rows) = c.form_of.ensures ∙ ap form_by c.has_flag-then-eq-2.ensures in
           let stepping : c.stepping_of.result ≡ stepping_by (has_flag (codes "smooth") rows) = c.stepping_of.ensures ∙ ap stepping_by c.has_flag-then-eq-3.ensures in
-          let options : StreamOptions = record { order = c.in-Some-order_of.order; buffers = c.buffers_of.result; form = c.form_of.result; stepping = c.stepping_of.result } in
-          let found : Some options ≡ options_in rows = rw (buffers, form, stepping) (ap (option_map (λ order. record { order = order; buffers = buffers_by (has_flag (codes "wide") rows); form = form_by (has_flag (codes "compact") rows); stepping = stepping_by (has_flag (codes "smooth") rows) })) (sym c.in-Some-order_of.is ∙ order)) in
+          let options : StreamOptions = record { order = c.in-Some-order_of.order; buffers = c.buffers_of.result; form = c.form_of.result; stepping = c.stepping_of.result; attended = c.has_flag-then-eq-4.result } in
+          let found : Some options ≡ options_in rows = rw (buffers, form, stepping, c.has_flag-then-eq-4.ensures) (ap (option_map (λ order. record { order = order; buffers = buffers_by (has_flag (codes "wide") rows); form = form_by (has_flag (codes "compact") rows); stepping = stepping_by (has_flag (codes "smooth") rows); attended = has_flag (codes "attended") rows })) (sym c.in-Some-order_of.is ∙ order)) in
           subst (λ (o : Option (Text × List Row)). IsSomeAnd o (λ s. (s.0 ≡ codes "stream") × (Some options ≡ options_in s.1))) (sym is)
           (stream.0, found)
       | inr demo ↦ absurd (is_named c.in-Some.name.now c.eq.result c.eq.ensures c.if-eq.true demo.0 demo.1)
