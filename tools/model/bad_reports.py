@@ -20,11 +20,12 @@ def lengths(thousandths):
 
 class Case(NamedTuple):
     """A job, reports of it that are right, and reports of it that are refused: some words of the cause, and the reports. A
-    report is written behind so many answers."""
+    report is written behind so many answers. The run may be attended."""
 
     job: bytes
     right: list
     refused: list
+    is_attended: bool = False
 
 
 AT_REST = b"F100\nG1X1\nG4P0\n?\nX2"
@@ -118,6 +119,21 @@ CASES = (
          [("and 1 reports", [(0, told()), (2, told())]), ("and 2 reports", [(2, told())] * 2)]),
     Case(b"\n" + b"?X" * 128 + b"??", [], [("and 129 reports", [(1, told())] * 129)]),
     Case(b"\n" + b"?X" * 128 + b"??", [(1, told())] * 128, [("nothing holds", [(1, told(state="Hold:0"))])]),
+    # In an attended run a report comes wherever its `?` may be scanned, and none is needed.
+    Case(AT_REST, [(0, told())], [
+        ("report 2", [(0, told())] * 2),
+        ("no place", [(0, told("M 4 0 0"))]),
+        ("nothing moves", [(0, told("M 4 0 0", "Run"))]),
+        ("nothing holds", [(0, told(state="Hold:0"))]),
+        ("and the feed 100", [(0, told(fs="100,0"))]),
+    ], True),
+    Case(AT_REST, [], [], True),
+    Case(UNDER_WAY, [(1, told("M 500 0 0", "Run", "100,0")), (3, told("M 1000 0 0", "Run", "100,0")), (4, told("M 1000 1000 0"))], [
+        ("report 4", [(1, told())] * 4),
+        ("no place", [(1, told("M 500 4 0", "Run"))]),
+        ("tick 125", [(1, told("M 500 0 0", "Run")), (2, told("M 496 0 0", "Run"))]),
+    ], True),
+    Case(b"\n" * 129 + b"?", [(1, told())], [("where 0 `?`", [(0, told())])], True),
 )
 
 
@@ -141,9 +157,9 @@ def console_with(console, reports):
     return "\r\n".join(lines)
 
 
-def fault_of(job, reports):
+def fault_of(job, reports, is_attended):
     """What the auditor says of a job with these reports."""
-    run, [epoch] = run_of(job, 10**6, "")
+    run, [epoch] = run_of(job, 10**6, "", is_attended=is_attended)
     rest, parted = part(console_with(run.console, reports))
     if rest != run.console or parted != [(1, *report) for report in reports]:
         return "the reports are not parted from the rest"
@@ -153,11 +169,11 @@ def fault_of(job, reports):
 def wrong_audit():
     """What the auditor of reports allows or refuses in error, or None."""
     for case in CASES:
-        fault = fault_of(case.job, case.right)
+        fault = fault_of(case.job, case.right, case.is_attended)
         if fault:
             return f"of the job {case.job!r} right reports are refused: {fault}"
         for words, reports in case.refused:
-            fault = fault_of(case.job, reports)
+            fault = fault_of(case.job, reports, case.is_attended)
             if words not in (fault or ""):
                 return f"of the job {case.job!r} the reports {reports} are not refused by {words!r}: {fault}"
     return None

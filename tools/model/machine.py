@@ -71,7 +71,7 @@ class Machine:
     motion. By the rules alone, a line may be refused since the machine moves, and jogs cut, also where answers before show that all is
     done."""
 
-    def __init__(self, most_events, told, cuts=(), buffers=STANDARD, by_rules_alone=False):
+    def __init__(self, most_events, told, cuts=(), buffers=STANDARD, by_rules_alone=False, is_attended=False):
         self.modes = {"motion": "G0", "plane": "G17", "units": "G21", "distance": "G90", "system": "G54"}
         self.spindle, self.coolant, self.tool, self.feed, self.speed = "M5", "M9", 0, 0, 0
         self.offsets = {name: [0] * 3 for name in OFFSETS}
@@ -85,7 +85,7 @@ class Machine:
         self.has_moved = False  # a line has moved the machine, and none that settles is answered since
         self.by_rules_alone, self.moved_in, self.last_was_jog = by_rules_alone, set(), False  # and so has a line of G-code, or a jog
         self.left, self.work = self.leave(), NOTHING
-        self.course = Course(self.left, buffers=buffers)
+        self.course = Course(self.left, buffers=buffers, is_attended=is_attended)
 
     def keep(self):
         """What a reset keeps, behind the last answered line."""
@@ -98,7 +98,7 @@ class Machine:
         self.position = [to_nm(steps, self.settings[100 + axis]) for axis, steps in enumerate(place)]
         self.console += [LOCKED] if self.is_locked else []
         self.left = self.leave()
-        self.course = Course(self.left, lines, self.course.buffers)
+        self.course = Course(self.left, lines, self.course.buffers, self.course.is_attended)
 
     def answer_all(self, lines):
         """Answers lines, up to one that a soft limit stops."""
@@ -124,8 +124,8 @@ class Machine:
         self.number += 1
         kept = kept_of(line) if line else line
         self.work = NOTHING
-        if has_cancel(line):
-            self.was_cut |= self.leave_state("Jog")  # a 0x85 is obeyed before its line is begun
+        if has_cancel(line) and not self.course.is_attended:
+            self.was_cut |= self.leave_state("Jog")  # a 0x85 is obeyed before its line is begun, and behind all jogs before that
             self.left = self.leave()
         if kept:
             self.judge(kept)

@@ -133,10 +133,12 @@ class Row(NamedTuple):
 
 class Course:
     """The lines of an epoch, in rows: none of them, the first, the first two, and so on. Behind those that are answered comes
-    one that is scanned alone, if only of no bytes. So many lines of the job stand before the epoch."""
+    one that is scanned alone, if only of no bytes. So many lines of the job stand before the epoch. In an attended run no realtime byte
+    waits for answers."""
 
-    def __init__(self, left, before=0, buffers=STANDARD):
+    def __init__(self, left, before=0, buffers=STANDARD, is_attended=False):
         self.rows, self.cuts, self.before, self.buffers = [Row(left)], [], before, buffers
+        self.is_attended = is_attended
         self.has_asked = False  # the first line has asked for a report before the epoch began, so that it waits for none
 
     def add(self, line, sent, left, ticks, work):
@@ -164,12 +166,12 @@ class Course:
         return min(bisect_right(self.rows, room, answers + 1, key=lambda row: row.sent), len(self.rows) - 1)
 
     def fault_in_cuts(self):
-        """What is wrong with the causes of cuts, in words, or None. A 0x85 is raised only once each line before is answered,
-        and a `!` as it is scanned; and no line that has it, or one behind it, is begun before it is obeyed."""
+        """What is wrong with the causes of cuts, in words, or None. A 0x85 is raised only once each line before is answered, in an
+        attended run as a `!`, as it is scanned; and no line that has it, or one behind it, is begun before it is obeyed."""
         for many, cut in enumerate(self.cuts, 1):
             number = cut.number - self.before
             here, last = self.rows[number], self.rows[self.reach(number)]
-            behind = self.rows[min(number + 1, len(self.rows) - 1)]
+            behind = last if self.is_attended else self.rows[min(number + 1, len(self.rows) - 1)]
             if last.holds == here.holds and behind.cancels == here.cancels:
                 return f"the record {cut.text!r} is in the steps, and nothing cancels behind that line"
             if many > last.holds + behind.cancels:
@@ -185,7 +187,7 @@ class Course:
         beside it, and one more, up to a byte that waits for an answer. None of them is begun. Answers what of each is scanned."""
         parts, free = [], self.buffers.room - self.rows[-1].sent + self.rows[-2].sent
         for line in lines:
-            parts.append(at_once(line))
+            parts.append(line if self.is_attended else at_once(line))
             free -= len(kept_of(line)) + 1
             if len(parts) == len(lines) or parts[-1] != line or free < 0:
                 break
@@ -366,6 +368,15 @@ def fault_in_fields(report, left):
     return None
 
 
+def fault_in_all(course, reports):
+    """The first report of an attended run that is one too many, in words, or None: there are no more than `?` that may be scanned."""
+    for number, (answers, _) in enumerate(reports, 1):
+        most = sum(row.queries for row in course.rows[: course.reach(answers) + 1])
+        if number > most:
+            return f"report {number} is told behind {answers} answers, where {most} `?` may be scanned"
+    return None
+
+
 def fault_in_counts(rows, reports):
     """The first line whose reports are too many or too few, in words, or None. What is scanned alone needs none."""
     told = Counter(answers for answers, _ in reports)
@@ -378,7 +389,7 @@ def fault_in_counts(rows, reports):
 
 def fault_in(reports, course, way):
     """What is wrong with the first bad report of a run whose other text and steps are right, in words, or None."""
-    fault = fault_in_counts(course.rows, reports)
+    fault = fault_in_all(course, reports) if course.is_attended else fault_in_counts(course.rows, reports)
     if fault or not reports:
         return fault
     auditor, last = Auditor(course, way), (None, None)
@@ -387,7 +398,8 @@ def fault_in(reports, course, way):
             continue  # what might be told once might be told again
         answers, text = report
         try:
-            auditor.audit(text, answers, answers != last[0] and not (course.has_asked and answers == 0))
+            is_first = answers != last[0] and not course.is_attended and not (course.has_asked and answers == 0)
+            auditor.audit(text, answers, is_first)
         except Bad as bad:
             return f"the report {text!r} behind {answers} answers {bad}"
         last = report
@@ -399,12 +411,12 @@ def fault_in(reports, course, way):
 
 def fault_at_reset(course, way, answers, is_begun):
     """What is wrong with an epoch that a reset has ended behind so many answers, in words, or None. What was sent and has no answer had
-    room on the link. A `?` of the last line was raised only once each line before was answered. What was recorded
+    room on the link. A `?` of the last line was raised only once each line before was answered, but in an attended run. What was recorded
     is all that the lines ask for up to the last answered one that settles, and nothing behind the one that was begun."""
     rows, sent = course.rows, len(course.rows) - 2
     if rows[sent].sent - rows[answers].sent > course.buffers.room:
         return f"{rows[sent].sent - rows[answers].sent} bytes of lines have no answer"
-    if rows[-1].queries and answers < sent:
+    if rows[-1].queries and answers < sent and not course.is_attended:
         return f"line {answers + 1} has no answer, and a `?` is scanned behind it"
     least, most = rows[rows[answers].settled].ticks, rows[answers + is_begun].ticks
     if not least <= way.ticks <= most:

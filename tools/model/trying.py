@@ -3,6 +3,7 @@ the model says."""
 import contextlib
 import os
 import random
+import re
 import resource
 import signal
 import subprocess
@@ -18,18 +19,21 @@ from model.alike import alike_of, events_of
 from model.auditing import AUDIT, fault_in_audit
 from model.buffers import STANDARD, WIDE
 from model.epochs import LARGEST_JOB, parts_of, run_of
+from model.lines import kept_of
 from model.machine import Run
 from model.motion import TooLong, Wrong, heads_of
 from model.reports import Way, fault_at_reset, fault_in, part
 from texts.steps import BadText, in_form_one, in_form_two
 
 PROGRAM = Path(__file__).resolve().parent.parent.parent / "crates/grbl/out/grbl"
+PAUSE = re.compile(r"M[-+]?[0.]")
 SECONDS = 10  # of processor time, on one thread
 ONE_THREAD = {"--lockstep", "--paced"}  # the words of such runs
 PACED_EVERY = 4  # each job of such a number by this is paced too
 COMPACT_IN = 4  # one job in so many is run with compact steps
 WIDE_IN = 4  # and one in so many with wide buffers
 SMOOTH_IN = 4  # and one in so many by subticks, which change no text
+ATTENDED_EVERY, ATTENDED_AT = 4, 1  # each job of such a number by this is run for a sender that stands by too, where nothing holds it
 THREAD_SECONDS = 120  # the same of four threads, which take it while they wait too
 STACK_KILOBYTES = 1024  # of each of the four threads
 KILOBYTES = 14 * 1024  # less than the largest job has, for the code, the stacks and all else
@@ -174,11 +178,16 @@ def what_is_unlike(told, first):
 # ---- jobs
 
 
+def is_held(job):
+    """Whether something in a job may hold the machine, or looks as if it might. From a file nobody resumes an attended run."""
+    return b"!" in job or any(PAUSE.search(kept_of(line)) for line in job.decode("latin-1").split("\n"))
+
+
 @dataclass
 class Tally:
     """What was tried: jobs, and the lines, heads, reports, cuts and resets of their runs; how many of the resets came before all was
     carried out; how many runs a soft limit ended, and in how many of these moves were dropped; how
-    many jobs were tried by more seeds, and how many were run with compact steps, with wide buffers, and by subticks; how many runs were audited; and
+    many jobs were tried by more seeds, and how many were run with compact steps, with wide buffers, by subticks, and attended; how many runs were audited; and
     the jobs that are left out, since the model would take too long."""
 
     jobs: int = 0
@@ -194,6 +203,7 @@ class Tally:
     compact: int = 0
     wide: int = 0
     smooth: int = 0
+    attended: int = 0
     audited: int = 0
     left_out: int = 0
 
@@ -204,7 +214,7 @@ class Tally:
     def __str__(self):
         rest = f"; {self.left_out} are left out, since they have too many steps" if self.left_out else ""
         rest = (f"; {self.audited} runs are audited" if self.audited else "; no run is audited, since no audit is built") + rest
-        return (f"{self.jobs} jobs, each as a stream and in lockstep, one in {PACED_EVERY} paced too, {self.compact} of them with compact steps, {self.wide} with wide buffers, {self.smooth} by subticks, {self.alike} by {SEEDS} more seeds, in all "
+        return (f"{self.jobs} jobs, each as a stream and in lockstep, one in {PACED_EVERY} paced too, {self.compact} of them with compact steps, {self.wide} with wide buffers, {self.smooth} by subticks, {self.attended} attended too, {self.alike} by {SEEDS} more seeds, in all "
                 f"{self.lines} lines with {self.heads} heads and {self.reports} reports, {self.cuts} cuts of jogs, {self.resets} "
                 f"resets, {self.broken_off} of them before all was done, and {self.alarms} runs that a soft limit ended, {self.stopped} of them before all was done{rest}")
 
@@ -251,12 +261,15 @@ class Trial:
         if chance.randrange(SMOOTH_IN) == 0:
             tally.smooth += 1
             tries = [(start_it, [*words, "--smooth"]) for start_it, words in tries]
+        if number % ATTENDED_EVERY == ATTENDED_AT and not is_held(job):
+            tally.attended += 1
+            tries += [(start_it, [*words, "--attended"]) for start_it, words in tries]
         for start_it, words in tries:
             told = run_program(start_it, words, job, folder)
             if isinstance(told, str):
                 return Failure(number, job, f"{' '.join(words)}: {told}")
             try:
-                right, epochs = run_of(job, self.most_events, told.console, told.steps, told.status, WIDE if is_wide else STANDARD)
+                right, epochs = run_of(job, self.most_events, told.console, told.steps, told.status, WIDE if is_wide else STANDARD, is_attended="--attended" in words)
             except TooLong:
                 tally.left_out += 1
                 return None
