@@ -3,3 +3,4 @@ pub mod Places
 pub mod Flying
 pub mod Slots
 pub mod Halts
+pub mod Windows

@@ -1,10 +1,12 @@
 -- Pieces that were published, and how many of their ticks are known to be done.
-use Rattle.std.specs.Prelude.{◌≡◌, ℕ, ◌+◌, ◌-◌, ◌≤◌, ◌<◌, Bool, nat_lt, List, [], ◌∷◌, ◌++◌, length, take}
+use Rattle.std.specs.Prelude.{◌≡◌, ℕ, ◌+◌, ◌-◌, ◌≤◌, ◌<◌, Bool, nat_lt, List, [], ◌∷◌, ◌++◌, length, take, drop}
 use Rattle.std.specs.List.{All, filter}
 use Rattle.units.specs.declared.Steps3.{Steps3}
-use Rattle.units.specs.Lengths.{IsPlace}
+use Rattle.units.specs.declared.Move.{Move}
+use Rattle.units.specs.Lengths.{IsMove}
 use Rattle.step_line.specs.declared.Piece.{Piece}
 use Rattle.step_line.specs.declared.Piece.TheVariants as pieces
+use Rattle.step_line.specs.Counting.{events_of}
 use Rattle.step_line.specs.Pieces.{ticks_of, IsTraceable}
 use Rattle.step_line.specs.Places.{place_after}
 use Rattle.step_line.specs.Finishing.{tick_count, ticks_together, most_unfinished}
@@ -61,14 +63,25 @@ abbrev pub EndsWithin : List Piece → ℕ → Type 0
 EndsWithin [] done = done ≡ 0
 EndsWithin (p ∷ ps) done = done < tick_count p
 
--- the fields of a flight: so many slots are in use, each by a piece that may be kept
-pub record IsFlight (slots : List Piece) (count : ℕ) (from : Steps3) (before known : ℕ) : Type 0 where
-  pub long : length slots ≡ flight_room
+-- how many slots there are
+abbrev pub slots_in_all : ℕ
+slots_in_all = 8
+
+-- so many slots from a place on, round the end
+abbrev pub window : {X : Type 0} → ℕ → ℕ → List X → List X
+window place count slots = take count (drop place slots ++ take place slots)
+
+-- The fields of a flight: so many slots from the head on are in use, each by a piece that may be kept, and before them the
+-- machine is after so many events of a move.
+pub record IsFlight (slots : List Piece) (head count : ℕ) (mv : Move) (events before known : ℕ) : Type 0 where
+  pub long : length slots ≡ slots_in_all
+  pub place : head < slots_in_all
   pub few : count ≤ flight_room
-  pub kept : All MayBeKept (take count slots)
-  pub place : IsPlace from
+  pub kept : All MayBeKept (window head count slots)
+  pub fits : IsMove mv
+  pub within_move : events ≤ events_of mv
   pub low : before ≤ known
-  pub within : EndsWithin (take count slots) (known - before)
+  pub within : EndsWithin (window head count slots) (known - before)
 
 -- A flight of all these pieces from a place on, with so many ticks known to be done: of the pieces that have ticks it
 -- keeps those after the finished ones.

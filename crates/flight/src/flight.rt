@@ -1,15 +1,17 @@
 //! The pieces that were published and are not known to be finished.
 
 ghost use Rattle.std.specs.Prelude.{◌≡◌, ◌≤◌, take};
-ghost use Rattle.units.specs.Lengths.{IsPlace};
+ghost use Rattle.units.specs.Lengths.{IsPlace, IsMove};
+ghost use Rattle.units.specs.Counting.{events_of};
 ghost use Rattle.step_line.specs.Pieces.{ticks_of};
+ghost use Rattle.step_line.specs.Places.{place_after};
 ghost use Rattle.step_line.specs.Finishing.{tick_count};
 ghost use Rattle.flight.specs.Places.{moved_by};
 ghost use Rattle.flight.specs.Flights.{IsFit, BeginsAt};
 
 use std::marker::Model;
 use step_line::{Piece, position_after};
-use units::Steps3;
+use units::{Move, Steps3};
 
 /// How many ticks a piece has.
 fn tick_count(piece: &Piece) -> u32
@@ -22,43 +24,52 @@ fn tick_count(piece: &Piece) -> u32
     }
 }
 
-/// Where the machine is once so many ticks of a piece are done, from the place where it begins.
-fn place_within(piece: &Piece, from: Steps3, done: u32) -> Steps3
+/// Where the machine is once so many ticks of a piece are done, from the place where it begins: after so many events of a
+/// move.
+fn place_within(piece: &Piece, mv: &Move, events: u32, done: u32) -> Steps3
     requires fits { IsFit piece.now }
     requires few { done ≤ tick_count piece.now }
-    requires from { IsPlace from }
-    ensures place { BeginsAt from piece.now → result ≡ moved_by from (take done (ticks_of piece.now)) }
+    requires mv { IsMove mv.now }
+    requires events { events ≤ events_of mv.now }
+    ensures place { BeginsAt (place_after mv.now events) piece.now → result ≡ moved_by (place_after mv.now events) (take done (ticks_of piece.now)) }
     ensures within { IsPlace result }
 {
     match piece {
         Piece::Segment(segment) => position_after(&segment.mv, segment.first + done),
-        Piece::Mark(_) | Piece::End => from,
+        Piece::Mark(_) | Piece::End => position_after(mv, events),
     }
 }
 
 /// How many pieces there is room for.
 const ROOM: usize = 6;
 
+/// How many slots there are, so that the place behind the last is found without a division.
+const SLOTS: usize = 8;
+
 /// The pieces that were published, in order, and how many of their ticks are known to be done. There is room for one
-/// piece more than may be unfinished at once; those that are known to be finished are dropped.
+/// piece more than may be unfinished at once; those that are known to be finished are dropped. The pieces that are kept
+/// stand in slots from the head on, round the end. Before them the machine is after so many events of a move, the last
+/// that was finished, so that its place is worked out only when it is asked for.
 #[derive(Drop)]
 pub struct Flight {
-    slots: [Piece; ROOM],
+    slots: [Piece; SLOTS],
+    head: usize,
     count: usize,
-    from: Steps3,
+    mv: Move,
+    events: u32,
     before: u64,
     known: u64,
 }
 
 impl Model for Flight {
-    ghost use Rattle.std.specs.Prelude.{take};
-    ghost use Rattle.flight.specs.Flights.{Flying, IsFlight};
+    ghost use Rattle.step_line.specs.Places.{place_after};
+    ghost use Rattle.flight.specs.Flights.{Flying, IsFlight, window};
 
     ghost Value = { Flying };
 
-    ghost view = { λ f. record { kept = take f.count f.slots; from = f.from; before = f.before; known = f.known } };
+    ghost view = { λ f. record { kept = window f.head f.count f.slots; from = place_after f.mv f.events; before = f.before; known = f.known } };
 
-    ghost invariant = { λ f. IsFlight f.slots f.count f.from f.before f.known };
+    ghost invariant = { λ f. IsFlight f.slots f.head f.count f.mv f.events f.before f.known };
 }
 
 impl Flight {
@@ -67,7 +78,8 @@ impl Flight {
     ghost use Rattle.units.specs.declared.Steps3.{Steps3 as AnyPlace};
     ghost use Rattle.step_line.specs.declared.Piece.{Piece as AnyPiece};
     ghost use Rattle.step_line.specs.Finishing.{tick_count, ticks_together, unfinished};
-    ghost use Rattle.flight.specs.Places.{machine_from, end_from, origin};
+    ghost use Rattle.step_line.specs.Pieces.{ticks_of};
+    ghost use Rattle.flight.specs.Places.{moved_by, machine_from, end_from, origin};
     ghost use Rattle.flight.specs.Flights.{IsFit, MayBeKept, BeginsAt, EndsWithin, Flies, first_ticks, flight_room};
 
     /// No piece was published; the machine is at this place.
@@ -76,9 +88,14 @@ impl Flight {
         ensures { Flies place result [] 0 }
     {
         Flight {
-            slots: [Piece::End; ROOM],
+            slots: [Piece::End; SLOTS],
+            head: 0,
             count: 0,
-            from: place,
+            mv: Move {
+                from: place,
+                to: place,
+            },
+            events: 0,
             before: 0,
             known: 0,
         }
@@ -115,7 +132,7 @@ impl Flight {
         ensures { (start : AnyPlace) (published : List AnyPiece) (known : ℕ) → Flies start self.old published known → BeginsAt (end_from start published) piece → Flies start self.new (published ++ piece ∷ []) known }
     {
         if tick_count(&piece) > 0 {
-            self.slots[self.count] = piece;
+            self.slots[(self.head + self.count) % SLOTS] = piece;
             self.count += 1;
         }
     }
@@ -126,9 +143,11 @@ impl Flight {
         ensures some { IfSome result (λ p. (self.now.kept ≡ p.now ∷ drop 1 self.now.kept) × MayBeKept p.now) }
         ensures within { EndsWithin self.now.kept (self.now.known - self.now.before) }
         ensures low { self.now.before ≤ self.now.known }
-        ensures from { IsPlace self.now.from }
     {
-        self.slots[..self.count].first()
+        if self.count == 0 {
+            return None;
+        }
+        Some(&self.slots[self.head])
     }
 
     /// Whether the first piece is finished once so many ticks are done.
@@ -139,6 +158,20 @@ impl Flight {
         match self.first() {
             Some(first) => tick_count(first) as u64 <= done.saturating_sub(self.before),
             None => false,
+        }
+    }
+
+    /// The machine is moved by all ticks of a piece.
+    fn lead(&mut self, piece: &Piece)
+        requires fits { IsFit piece.now }
+        ensures from { BeginsAt self.old.from piece.now → self.new.from ≡ moved_by self.old.from (ticks_of piece.now) }
+        ensures kept { self.new.kept ≡ self.old.kept }
+        ensures before { self.new.before ≡ self.old.before }
+        ensures known { self.new.known ≡ self.old.known }
+    {
+        if let Piece::Segment(segment) = piece {
+            self.mv = segment.mv;
+            self.events = segment.first + segment.n;
         }
     }
 
@@ -155,11 +188,10 @@ impl Flight {
         let Some(&first) = self.first() else {
             return;
         };
-        let ticks = tick_count(&first);
-        self.from = place_within(&first, self.from, ticks);
-        self.before += ticks as u64;
+        self.lead(&first);
+        self.before += tick_count(&first) as u64;
         self.known = self.before;
-        self.slots.rotate_left(1);
+        self.head = (self.head + 1) % SLOTS;
         self.count -= 1;
     }
 
@@ -200,8 +232,13 @@ impl Flight {
         ensures within { IsPlace result }
     {
         match self.first() {
-            Some(first) => place_within(first, self.from, (self.known - self.before) as u32),
-            None => self.from,
+            Some(first) => place_within(
+                first,
+                &self.mv,
+                self.events,
+                (self.known - self.before) as u32,
+            ),
+            None => position_after(&self.mv, self.events),
         }
     }
 }

@@ -3,6 +3,7 @@ use Rattle.step_line.specs.declared.Piece.{Piece}
 use Rattle.flight.specs.Flights.{Flying, BeginsAt, EndsWithin}
 use Rattle.flight.specs.Places.{moved_by}
 use Rattle.step_line.specs.Pieces.{ticks_of}
+use Rattle.step_line.specs.Places.{place_after}
 use Rattle.units.specs.declared.Steps3.{Steps3}
 use Rattle.flight.proofs.Flying.{place_in, place_behind, first_begins}
 use Rattle.flight.proofs.Slots.{few_ticks}
@@ -25,7 +26,7 @@ returns-in-Some-clause-place c = λ start published known is.
     let p = c.in-Some.first.now in
     let kept_is = c.in-Some.ensures.some.0 in
     let j = c.self.inside.known - c.self.inside.before in
-    let from : c.self.inside.from ≡ f.from = ap (λ (f : Flying). f.from) c.self.view_is in
+    let from : place_after c.self.inside.mv c.self.inside.events ≡ f.from = ap (λ (f : Flying). f.from) c.self.view_is in
     let known_is : c.self.inside.known ≡ f.known = ap (λ (f : Flying). f.known) c.self.view_is in
     let before_is : c.self.inside.before ≡ f.before = ap (λ (f : Flying). f.before) c.self.view_is in
     let within = subst (λ (ps : List Piece). EndsWithin ps (f.known - f.before)) kept_is c.in-Some.ensures.within in
@@ -35,4 +36,4 @@ returns-in-Some-clause-place c = λ start published known is.
 
 pub returns-in-None-clause-place : goal.returns-in-None-clause-place
 returns-in-None-clause-place c = λ start published known is.
-    ap (λ (f : Flying). f.from) c.self.view_is ∙ place_behind start c.args.self.now published known is (c.in-None.ensures.none.0 refl)
+    c.position_after.ensures.place ∙ ap (λ (f : Flying). f.from) c.self.view_is ∙ place_behind start c.args.self.now published known is (c.in-None.ensures.none.0 refl)
