@@ -159,12 +159,12 @@ fn command_error(p: &Parser, line: &Line<'_>) -> Option<Code>
 }
 
 /// The first of the errors of the axis words and of the other values.
-fn value_error(p: &Parser, line: &Line<'_>, points: &[Nm3]) -> Option<Code>
+fn value_error(p: &Parser, line: &Line<'_>, motion: MotionMode, points: &[Nm3]) -> Option<Code>
     requires valid { IsParser p.now }
+    requires motion { motion ≡ motion_of p.now line.now }
     requires points { points.now ≡ targets p.now line.now }
     ensures { result ≡ first_refusal (value_rows p.now line.now) }
 {
-    let motion = motion_of(p, line);
     if axis_words_without_motion(p, line, motion) {
         return Some(Code::AXIS_WORDS_WITHOUT_MOTION);
     }
@@ -181,8 +181,9 @@ fn value_error(p: &Parser, line: &Line<'_>, points: &[Nm3]) -> Option<Code>
 }
 
 /// The first of the errors of a line.
-fn first_error(p: &Parser, line: &Line<'_>, points: &[Nm3]) -> Option<Code>
+fn first_error(p: &Parser, line: &Line<'_>, motion: MotionMode, points: &[Nm3]) -> Option<Code>
     requires valid { IsParser p.now }
+    requires motion { motion ≡ motion_of p.now line.now }
     requires points { points.now ≡ targets p.now line.now }
     ensures { result ≡ line_refusal p.now line.now }
 {
@@ -191,17 +192,18 @@ fn first_error(p: &Parser, line: &Line<'_>, points: &[Nm3]) -> Option<Code>
     }
     match command_error(p, line) {
         Some(code) => Some(code),
-        None => value_error(p, line, points),
+        None => value_error(p, line, motion, points),
     }
 }
 
-/// What refuses a line whose words pass. What nothing refuses stays near.
-pub fn line_refusal(p: &Parser, line: &Line<'_>, points: &[Nm3]) -> Option<Code>
+/// What refuses a line whose words pass, in its motion mode. What nothing refuses stays near.
+pub fn line_refusal(p: &Parser, line: &Line<'_>, motion: MotionMode, points: &[Nm3]) -> Option<Code>
     requires valid { IsParser p.now }
+    requires motion { motion ≡ motion_of p.now line.now }
     requires points { points.now ≡ targets p.now line.now }
     ensures refusal { result ≡ line_refusal p.now line.now }
     ensures near { IfNone result (All (IsNear) (targets p.now line.now)) }
     ensures offset { IfNone result (IfSome (new_offset p.now line.now) (IsNear)) }
 {
-    first_error(p, line, points)
+    first_error(p, line, motion, points)
 }

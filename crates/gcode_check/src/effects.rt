@@ -22,7 +22,7 @@ use travel_limits::steps3;
 use units::{Nm3, Per3, Steps3};
 
 /// The modes after a line.
-fn modal_after(p: &Parser, line: &Line<'_>) -> Modal
+pub fn modal_after(p: &Parser, line: &Line<'_>) -> Modal
     requires { IsParser p.now }
     ensures modes { result ≡ modal_after p.now line.now }
     ensures valid { IsModal result }
@@ -126,19 +126,20 @@ pub fn ends_program(line: &Line<'_>) -> bool
     line.has(M2) || line.has(M30)
 }
 
-/// Takes the state behind the moves of a line.
-fn move_parser(p: &mut Parser, line: &Line<'_>, points: &[Nm3], stops: &[Steps3])
+/// Takes the state behind the moves of a line that leaves these modes.
+fn move_parser(p: &mut Parser, line: &Line<'_>, modal: &Modal, points: &[Nm3], stops: &[Steps3])
     requires valid { IsParser p.old }
+    requires modes { modal.now ≡ modal_after p.old line.now }
+    requires modal { IsModal modal.now }
     requires near { All IsNear points.now }
     requires near_steps { All IsPlace stops.now }
     requires offset { IfSome (new_offset p.old line.now) IsNear }
     ensures state { p.new ≡ parser_moved p.old line.now points.now stops.now }
     ensures valid { IsParser p.new }
 {
-    let modal = modal_after(p, line);
     let feed = feed_of(p, line);
     set_offsets(p, line);
-    p.modal = modal;
+    p.modal = *modal;
     go_to_last(&mut p.pos_nm, points);
     step_to_last(&mut p.pos_steps, stops);
     p.feed = feed;
@@ -146,17 +147,25 @@ fn move_parser(p: &mut Parser, line: &Line<'_>, points: &[Nm3], stops: &[Steps3]
     p.tool = tool_of(p, line);
 }
 
-/// Takes the state after a line that moves through these points.
+/// Takes the state after a line that leaves these modes and moves through these points.
 #[tactic(auto, unfolding(crate::specs::Effects::parser_after))]
-pub fn take_effects(p: &mut Parser, line: &Line<'_>, points: &[Nm3], stops: &[Steps3])
+pub fn take_effects(
+    p: &mut Parser,
+    line: &Line<'_>,
+    modal: &Modal,
+    points: &[Nm3],
+    stops: &[Steps3],
+)
     requires valid { IsParser p.old }
+    requires modes { modal.now ≡ modal_after p.old line.now }
+    requires modal { IsModal modal.now }
     requires near { All IsNear points.now }
     requires near_steps { All IsPlace stops.now }
     requires offset { IfSome (new_offset p.old line.now) IsNear }
     ensures state { p.new ≡ parser_after p.old line.now points.now stops.now }
     ensures valid { IsParser p.new }
 {
-    move_parser(p, line, points, stops);
+    move_parser(p, line, modal, points, stops);
     if ends_program(line) {
         p.end_program();
     }

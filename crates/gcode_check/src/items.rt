@@ -1,19 +1,20 @@
 //! What an accepted line gives to do.
 
-ghost use Rattle.std.specs.Prelude.{◌≡◌, ◌+◌, ◌/◌, ◌≤◌, ◌<◌, ◌++◌, nat_abs, length, All, ◌==◌, true, IsTrue, if◌then◌else◌, [], ◌∷◌};
+ghost use Rattle.std.specs.Prelude.{◌≡◌, ◌+◌, ◌/◌, ◌≤◌, ◌<◌, ◌++◌, nat_abs, length, All, ◌==◌, true, IsTrue, if◌then◌else◌, not, [], ◌∷◌};
 ghost use Rattle.units.specs.Lengths.{IsPlace, IsMove};
 ghost use Rattle.units.specs.Limits.{IsRate};
 ghost use Rattle.code_table.specs.Tables.{code};
 ghost use Rattle.modal_state.specs.Modes.{IsParser};
 ghost use Rattle.line_words.specs.Codes.{has_g};
-ghost use Rattle.gcode_check.specs.Items.{is_same_spindle, is_on, spindle_changes, coolant_changes, speed_of, item_if, spindle_items, coolant_items, dwell_time, dwell_items, rate_of, moves_through, flow_items, items_of, IsMoveAt, IsItem};
+ghost use Rattle.line_words.specs.LineModes.{motion_of, spindle_of, flood_of};
+ghost use Rattle.gcode_check.specs.Items.{is_same_spindle, is_on, spindle_changes, speed_of, item_if, spindle_items, coolant_items, dwell_time, dwell_items, rate_of, moves_through, flow_items, items_of, IsMoveAt, IsItem};
 
 use crate::conditions::is_g1;
 use crate::effects::ends_program;
 use crate::{Item, Items};
 use line_words::commands::{G4, M0};
-use line_words::{Line, feed_of, flood_of, motion_of, moves, rpm_of, spindle_of};
-use modal_state::{Parser, SpindleMode};
+use line_words::{Line, feed_of, moves, rpm_of};
+use modal_state::{Modal, MotionMode, Parser, SpindleMode};
 use units::{Move, Rate, Steps3};
 
 /// Whether two spindle modes are one.
@@ -36,36 +37,29 @@ fn is_on(mode: SpindleMode) -> bool
 }
 
 /// Whether the spindle turns otherwise than before.
-fn spindle_changes(p: &Parser, line: &Line<'_>) -> bool
-    requires { IsParser p.now }
+fn spindle_changes(p: &Parser, line: &Line<'_>, mode: SpindleMode) -> bool
+    requires valid { IsParser p.now }
+    requires mode { mode ≡ spindle_of p.now line.now }
     ensures { result ≡ spindle_changes p.now line.now }
 {
-    let mode = spindle_of(p, line);
     !is_same_spindle(mode, p.modal.spindle) || (is_on(mode) && rpm_of(p, line) != p.rpm)
 }
 
 /// The speed of the spindle after a line, 0 with M5.
-fn speed_of(p: &Parser, line: &Line<'_>) -> u32
-    requires { IsParser p.now }
+fn speed_of(p: &Parser, line: &Line<'_>, mode: SpindleMode) -> u32
+    requires valid { IsParser p.now }
+    requires mode { mode ≡ spindle_of p.now line.now }
     ensures speed { result ≡ speed_of p.now line.now }
     ensures small { result < 1000000000 }
 {
-    if is_on(spindle_of(p, line)) {
-        rpm_of(p, line)
-    } else {
-        0
-    }
+    if is_on(mode) { rpm_of(p, line) } else { 0 }
 }
 
-/// Whether the coolant mode changes.
-fn coolant_changes(p: &Parser, line: &Line<'_>) -> bool
-    ensures { result ≡ coolant_changes p.now line.now }
+/// Whether the coolant flows otherwise than before.
+fn coolant_changes(p: &Parser, flood: bool) -> bool
+    ensures { result ≡ (if flood then not p.now.modal.flood else p.now.modal.flood) }
 {
-    if flood_of(p, line) {
-        !p.modal.flood
-    } else {
-        p.modal.flood
-    }
+    if flood { !p.modal.flood } else { p.modal.flood }
 }
 
 /// How many milliseconds a line waits.
@@ -79,12 +73,13 @@ fn dwell_time(line: &Line<'_>) -> u64
 }
 
 /// How fast the moves of a line go.
-fn rate_of(p: &Parser, line: &Line<'_>) -> Rate
-    requires { IsParser p.now }
+fn rate_of(p: &Parser, line: &Line<'_>, motion: MotionMode) -> Rate
+    requires valid { IsParser p.now }
+    requires motion { motion ≡ motion_of p.now line.now }
     ensures rate { result ≡ rate_of p.now line.now }
     ensures sound { IsRate result }
 {
-    if moves(line) && is_g1(motion_of(p, line)) {
+    if moves(line) && is_g1(motion) {
         Rate::Feed(feed_of(p, line))
     } else {
         Rate::Rapid
@@ -138,8 +133,9 @@ fn push_moves(items: &mut Items, at: &Steps3, stops: &[Steps3], rate: Rate)
 }
 
 /// Appends the moves of a line, where it moves.
-fn push_motion(items: &mut Items, p: &Parser, line: &Line<'_>, stops: &[Steps3])
+fn push_motion(items: &mut Items, p: &Parser, line: &Line<'_>, motion: MotionMode, stops: &[Steps3])
     requires valid { IsParser p.now }
+    requires motion { motion ≡ motion_of p.now line.now }
     requires near { All IsPlace stops.now }
     requires room { length items.old.items + length stops.now ≤ 5 }
     requires sound { All IsItem items.old.items }
@@ -150,27 +146,29 @@ fn push_motion(items: &mut Items, p: &Parser, line: &Line<'_>, stops: &[Steps3])
     if stops.is_empty() {
         return;
     }
-    push_moves(items, &p.pos_steps, stops, rate_of(p, line));
+    push_moves(items, &p.pos_steps, stops, rate_of(p, line, motion));
 }
 
 /// Appends what a line does to spindle and coolant.
-fn push_outputs(items: &mut Items, p: &Parser, line: &Line<'_>)
+fn push_outputs(items: &mut Items, p: &Parser, line: &Line<'_>, mode: SpindleMode, flood: bool)
     requires valid { IsParser p.now }
+    requires mode { mode ≡ spindle_of p.now line.now }
+    requires flood { flood ≡ flood_of p.now line.now }
     requires room { length items.old.items ≡ 0 }
     requires sound { All IsItem items.old.items }
     ensures items { items.new.items ≡ items.old.items ++ spindle_items p.now line.now ++ coolant_items p.now line.now }
     ensures count { length items.new.items ≤ 2 }
     ensures sound { All IsItem items.new.items }
 {
-    let spindle = Item::Spindle(spindle_of(p, line), speed_of(p, line));
-    push_if(items, spindle_changes(p, line), spindle);
-    let coolant = Item::Coolant(flood_of(p, line));
-    push_if(items, coolant_changes(p, line), coolant);
+    let spindle = Item::Spindle(mode, speed_of(p, line, mode));
+    push_if(items, spindle_changes(p, line, mode), spindle);
+    push_if(items, coolant_changes(p, flood), Item::Coolant(flood));
 }
 
 /// Appends the dwell and the moves of a line.
-fn push_ways(items: &mut Items, p: &Parser, line: &Line<'_>, stops: &[Steps3])
+fn push_ways(items: &mut Items, p: &Parser, line: &Line<'_>, motion: MotionMode, stops: &[Steps3])
     requires valid { IsParser p.now }
+    requires motion { motion ≡ motion_of p.now line.now }
     requires near { All IsPlace stops.now }
     requires few { length stops.now ≤ 2 }
     requires one { has_g (code 4 0) line.now ≡ true → length stops.now ≤ 1 }
@@ -181,7 +179,7 @@ fn push_ways(items: &mut Items, p: &Parser, line: &Line<'_>, stops: &[Steps3])
     ensures sound { All IsItem items.new.items }
 {
     push_if(items, line.has(G4), Item::Dwell(dwell_time(line)));
-    push_motion(items, p, line, stops);
+    push_motion(items, p, line, motion, stops);
 }
 
 /// Appends a pause or the end of the program.
@@ -195,10 +193,13 @@ fn push_flow(items: &mut Items, line: &Line<'_>)
     push_if(items, ends_program(line), Item::ProgramEnd);
 }
 
-/// Appends the items of a line that moves through these places, in their order.
+/// Appends the items of a line that leaves these modes and moves through these places, in their order.
 #[tactic(auto, unfolding(crate::specs::Items::items_of))]
-pub fn push_items(items: &mut Items, p: &Parser, line: &Line<'_>, stops: &[Steps3])
+pub fn push_items(items: &mut Items, p: &Parser, line: &Line<'_>, modal: &Modal, stops: &[Steps3])
     requires valid { IsParser p.now }
+    requires motion { modal.now.motion ≡ motion_of p.now line.now }
+    requires spindle { modal.now.spindle ≡ spindle_of p.now line.now }
+    requires flood { modal.now.flood ≡ flood_of p.now line.now }
     requires near { All IsPlace stops.now }
     requires few { length stops.now ≤ 2 }
     requires one { has_g (code 4 0) line.now ≡ true → length stops.now ≤ 1 }
@@ -206,7 +207,7 @@ pub fn push_items(items: &mut Items, p: &Parser, line: &Line<'_>, stops: &[Steps
     ensures items { items.new.items ≡ items_of p.now line.now stops.now }
     ensures sound { All IsItem items.new.items }
 {
-    push_outputs(items, p, line);
-    push_ways(items, p, line, stops);
+    push_outputs(items, p, line, modal.spindle, modal.flood);
+    push_ways(items, p, line, modal.motion, stops);
     push_flow(items, line);
 }

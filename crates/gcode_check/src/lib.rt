@@ -25,7 +25,7 @@ mod offsets;
 use arrayvec::ArrayVec;
 use code_table::Code;
 use conditions::line_refusal;
-use effects::{stops, take_effects};
+use effects::{modal_after, stops, take_effects};
 use gcode_words::Words;
 use items::push_items;
 pub use laws::{
@@ -140,7 +140,8 @@ pub fn take_line(p: &mut Parser, s: &Settings, w: &Words, items: &mut Items) -> 
     };
     let points = targets(p, &line);
     let points = points.as_slice();
-    if let Some(code) = line_refusal(p, &line, points) {
+    let modal = modal_after(p, &line);
+    if let Some(code) = line_refusal(p, &line, modal.motion, points) {
         return Err(Refusal::Error(code));
     }
     if leave_travel(s, points) {
@@ -148,8 +149,8 @@ pub fn take_line(p: &mut Parser, s: &Settings, w: &Words, items: &mut Items) -> 
     }
     let stops = stops(points, &s.limits.per_mm);
     let stops = stops.as_slice();
-    push_items(items, p, &line, stops);
-    take_effects(p, &line, points, stops);
+    push_items(items, p, &line, &modal, stops);
+    take_effects(p, &line, &modal, points, stops);
     Ok(())
 }
 

@@ -1,6 +1,7 @@
 use Rattle.std.proofs.Common.{refl, sym, ap, ◌∙◌, subst}
 use Rattle.std.specs.List.{All}
 use Rattle.units.specs.Lengths.{IsPlace}
+use Rattle.modal_state.specs.declared.Modal.{Modal}
 use Rattle.line_words.specs.WordRefusals.{words_refusal}
 use Rattle.line_words.specs.Targets.{targets}
 use Rattle.travel_limits.specs.Reach.{IsNear, steps3}
@@ -20,7 +21,7 @@ returns-in-Err c = record {
 }
 
 pub line_refusal-requires : goal.line_refusal-requires
-line_refusal-requires c = record { valid = c.requires.parser; points = c.as_slice-points.ensures.value ∙ c.targets-points.ensures.targets }
+line_refusal-requires c = record { valid = c.requires.parser; motion = ap (λ (m : Modal). m.motion) c.modal_after-modal.ensures.modes; points = c.as_slice-points.ensures.value ∙ c.targets-points.ensures.targets }
 
 pub returns-in-Some : goal.returns-in-Some
 returns-in-Some c =
@@ -61,8 +62,12 @@ push_items-requires c =
     let points = c.as_slice-points.result.now in
     let f = steps3 c.args.s.now.limits.per_mm in
     let stops = c.as_slice-stops.ensures.value ∙ c.stops-stops.ensures.stops in
+    let modes = c.modal_after-modal.ensures.modes in
     record {
       valid = c.requires.parser;
+      motion = ap (λ (m : Modal). m.motion) modes;
+      spindle = ap (λ (m : Modal). m.spindle) modes;
+      flood = ap (λ (m : Modal). m.flood) modes;
       near = subst (All IsPlace) (sym c.as_slice-stops.ensures.value) c.stops-stops.ensures.near;
       few = as_many f points _ _ 2 stops c.as_slice-points.ensures.value c.targets-points.ensures.two;
       one = λ dwells. as_many f points _ _ 1 stops c.as_slice-points.ensures.value (c.targets-points.ensures.one dwells);
@@ -72,6 +77,8 @@ push_items-requires c =
 pub take_effects-requires : goal.take_effects-requires
 take_effects-requires c = record {
   valid = c.requires.parser;
+  modes = c.modal_after-modal.ensures.modes;
+  modal = c.modal_after-modal.ensures.valid;
   near = subst (All IsNear) (sym (c.as_slice-points.ensures.value ∙ c.targets-points.ensures.targets)) c.in_default.ensures.near;
   near_steps = subst (All IsPlace) (sym c.as_slice-stops.ensures.value) c.stops-stops.ensures.near;
   offset = c.in_default.ensures.offset;

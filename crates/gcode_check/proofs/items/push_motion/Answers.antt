@@ -3,7 +3,7 @@ use Rattle.gcode_check.specs.Items.{moves_through}
 use Rattle.gcode_check.proofs.items.push_motion.Goals as goal
 
 pub rate_of-requires : goal.rate_of-requires
-rate_of-requires c = c.requires.valid
+rate_of-requires c = record { valid = c.requires.valid; motion = c.requires.motion }
 
 pub push_moves-requires : goal.push_moves-requires
 push_moves-requires c = record { room = c.requires.room; sound = c.requires.sound; rate = c.rate_of.ensures.sound; here = c.requires.valid.pos_steps; near = c.requires.near }
