@@ -42,10 +42,8 @@ fn push_axis<const N: usize>(letter: u8, step: i8, out: &mut ArrayVec<u8, N>)
     out.push(if step < 0 { b'-' } else { b'+' });
 }
 
-/// Appends the line of an event: for each axis that steps, in the order X, Y, Z, its letter and `+` or `-`.
-/// `LONGEST_EVENT` bytes must be free.
-#[inline]
-pub fn push_event<const N: usize>(bits: &Bits, out: &mut ArrayVec<u8, N>)
+/// Appends the line of an event, axis by axis.
+fn push_axes<const N: usize>(bits: &Bits, out: &mut ArrayVec<u8, N>)
     requires { array_vec_len out.old + LONGEST_EVENT ≤ N }
     ensures text { out.new.items ≡ out.old.items ++ event_text bits.now }
     ensures room { array_vec_len out.new ≤ array_vec_len out.old + LONGEST_EVENT }
@@ -54,6 +52,28 @@ pub fn push_event<const N: usize>(bits: &Bits, out: &mut ArrayVec<u8, N>)
     push_axis(b'Y', bits.y, out);
     push_axis(b'Z', bits.z, out);
     out.push(b'\n');
+}
+
+/// Appends the line of an event: for each axis that steps, in the order X, Y, Z, its letter and `+` or `-`.
+/// `LONGEST_EVENT` bytes must be free. Most events step X or Y alone, or both: their lines are constant texts.
+#[inline]
+#[tactic(auto, unfolding(crate::specs::Texts::event_text))]
+pub fn push_event<const N: usize>(bits: &Bits, out: &mut ArrayVec<u8, N>)
+    requires { array_vec_len out.old + LONGEST_EVENT ≤ N }
+    ensures text { out.new.items ≡ out.old.items ++ event_text bits.now }
+    ensures room { array_vec_len out.new ≤ array_vec_len out.old + LONGEST_EVENT }
+{
+    match (bits.x, bits.y, bits.z) {
+        (1, 0, 0) => append(b"X+\n", out),
+        (-1, 0, 0) => append(b"X-\n", out),
+        (0, 1, 0) => append(b"Y+\n", out),
+        (0, -1, 0) => append(b"Y-\n", out),
+        (1, 1, 0) => append(b"X+Y+\n", out),
+        (1, -1, 0) => append(b"X+Y-\n", out),
+        (-1, 1, 0) => append(b"X-Y+\n", out),
+        (-1, -1, 0) => append(b"X-Y-\n", out),
+        _ => push_axes(bits, out),
+    }
 }
 
 /// Writes a number and the byte that ends it in front of a place. Where they begin is answered.

@@ -1,6 +1,6 @@
 use Rattle.std.proofs.Common.{◌≡◌, rules, to_z, of_z, w8}
 use Rattle.step_record.proofs.Appended.{event_parts}
-use Rattle.step_record.proofs.writing.push_event.Goals as goal
+use Rattle.step_record.proofs.writing.push_axes.Goals as goal
 
 pub returns-clause-text : goal.returns-clause-text
 returns-clause-text g c =
