@@ -3,22 +3,29 @@
 ghost use Rattle.std.specs.Prelude.{◌≡◌, ℕ, ◌<◌, ◌≤◌, ◌++◌, ◌∷◌, [], List, length, IfSome, None};
 ghost use Rattle.line_interpreter.specs.Keeping.{IsKept};
 
-use gcode_words::LineBuf;
 use std::marker::Model;
 
-/// What is kept of a line: its first 79 kept bytes, and whether there were more.
+/// How many bytes are kept of a line.
+const MOST: usize = 79;
+
+/// What is kept of a line: its first 79 kept bytes, and whether there were more. What is dropped is not cleared: it stands behind
+/// the bytes that count.
 #[derive(Drop)]
 pub struct KeptLine {
-    bytes: LineBuf,
+    bytes: [u8; MOST],
+    count: usize,
     over: bool,
 }
 
 impl Model for KeptLine {
+    ghost use Rattle.std.specs.Prelude.{◌≡◌, ◌≤◌, length, take};
     ghost use Rattle.line_interpreter.specs.Keeping.{Keeping};
 
     ghost Value = { Keeping };
 
-    ghost view = { λ l. record { bytes = l.bytes.items; over = l.over } };
+    ghost view = { λ l. record { bytes = take l.count l.bytes; over = l.over } };
+
+    ghost invariant = { λ l. (length l.bytes ≡ 79) × (l.count ≤ 79) };
 }
 
 impl KeptLine {
@@ -27,7 +34,8 @@ impl KeptLine {
         ensures { IsKept result [] }
     {
         KeptLine {
-            bytes: LineBuf::new(),
+            bytes: [0; MOST],
+            count: 0,
             over: false,
         }
     }
@@ -37,7 +45,7 @@ impl KeptLine {
     pub fn clear(&mut self)
         ensures { IsKept self.new [] }
     {
-        self.bytes.clear();
+        self.count = 0;
         self.over = false;
     }
 
@@ -46,8 +54,9 @@ impl KeptLine {
     pub fn push(&mut self, byte: u8)
         ensures { (kept : List ℕ) → IsKept self.old kept → IsKept self.new (kept ++ byte ∷ []) }
     {
-        if self.bytes.len() < 79 {
-            self.bytes.push(byte);
+        if self.count < MOST {
+            self.bytes[self.count] = byte;
+            self.count += 1;
         } else {
             self.over = true;
         }
@@ -63,6 +72,6 @@ impl KeptLine {
         if self.over {
             return None;
         }
-        Some(self.bytes.as_slice())
+        Some(&self.bytes[..self.count])
     }
 }
