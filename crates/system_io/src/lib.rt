@@ -2,6 +2,7 @@
 #![tactic(auto)]
 
 mod limited;
+mod limits;
 mod named_file;
 mod rests;
 mod steps_file;

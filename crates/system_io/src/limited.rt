@@ -5,6 +5,7 @@ ghost use Rattle.std.specs.Prelude.{◌≡◌, ◌-◌, IfOk, OnOk, OnErr};
 ghost use Rattle.std.specs.Io.{WritesAtMost};
 ghost use Rattle.std.specs.Io.KnownBytes.{WriteAppends};
 
+use crate::limits::limit_told;
 use std::fs::{self, File, Metadata};
 use std::io::{self, ErrorKind, Read, Stderr, Stdout, Write};
 use std::str;
@@ -91,40 +92,9 @@ fn largest_file(rt: &HostRuntime) -> u64 {
     }
 }
 
-/// The limit on files that a text of limits tells, where it is a number: the first one of its line is the one that holds.
-fn limit_told(text: &str) -> Option<u64> {
-    let limits = text
-        .lines()
-        .find_map(|line| line.strip_prefix("Max file size"))?;
-    limits.split_whitespace().next()?.parse().ok()
-}
-
 #[cfg(test)]
 mod tests {
     use super::*;
-
-    // What Linux tells of a process, in part.
-    const UNLIMITED: &str =
-        "Limit                     Soft Limit           Hard Limit           Units     \nMax cpu time              unlimited            unlimited            seconds   \nMax file size             unlimited            unlimited            bytes     \n";
-
-    const LIMITED: &str =
-        "Max cpu time              7                    9                    seconds   \nMax file size             8192                 unlimited            bytes     \nMax data size             11                   13                   bytes     \n";
-
-    const ROWS: &[(&str, Option<u64>)] = &[
-        ("", None),
-        (UNLIMITED, None),
-        (LIMITED, Some(8192)),
-        ("Max file size 0 4096 bytes", Some(0)),
-        ("Max file size\n4096", None),
-        ("Max file sizes", None),
-    ];
-
-    #[test]
-    fn limit_of_a_file_is_the_first_number_of_its_line(rt: HostRuntime) {
-        for &(text, want) in ROWS {
-            assert_eq!(rt; limit_told(text), want, "{text}");
-        }
-    }
 
     #[test]
     fn writer_takes_no_more_than_its_limit(rt: HostRuntime) {
