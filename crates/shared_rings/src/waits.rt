@@ -1,6 +1,6 @@
 //! How a thread waits for the others: it lets them run a few times before its actor tries again, and never spins.
 
-ghost use Rattle.std.specs.Prelude.{◌≡◌, ◌↔◌, true};
+ghost use Rattle.std.specs.Prelude.{◌≡◌, ◌≤◌, ◌↔◌, true};
 
 use outside::{Actor, Gate, On, Turn};
 use std::thread;
@@ -9,7 +9,9 @@ use std::thread;
 /// nothing, since each may take some milliseconds on a machine whose processors are all busy. A recorder that waits longer finds
 /// a batch of records, of which there is room for 1,024. A board that looks for the motion takes the count of ticks from the
 /// processor of the pulse, which writes it for each event; five pieces that are not finished last longer than three such times.
-fn yields(on: On) -> u32 {
+fn yields(on: On) -> u32
+    ensures some { (1 ≤ result) × (result ≤ 8) }
+{
     match on {
         On::Records => 8,
         On::SegmentRoom | On::Motion | On::Halt => 3,
