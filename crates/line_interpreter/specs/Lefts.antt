@@ -89,6 +89,10 @@ IsTodo todo.Normal tasks = IsNextOf normal tasks
 IsTodo todo.Finish tasks = IsNextOf finish tasks
 IsTodo todo.Halt tasks = IsNextOf halt tasks
 
+-- what it keeps as its next task is that
+abbrev pub KnowsNext : Line → Type 0
+KnowsNext l = (s : State) → IsTodo l.next (part_left l s)
+
 -- the fields of a line are in range
 pub record IsSound (l : Line) : Type 0 where
   pub line : 1 ≤ l.number

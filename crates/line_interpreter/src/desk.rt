@@ -14,7 +14,7 @@ ghost use Rattle.run_rules.specs.Outcomes.{refused, limited, fault_number, BySet
 ghost use Rattle.run_rules.specs.Finding.{ByDollarFound, ByCodeFound, ByKeptFound, Found};
 ghost use Rattle.line_interpreter.specs.Since.{Since};
 ghost use Rattle.line_interpreter.specs.Keeping.{IsKept};
-ghost use Rattle.line_interpreter.specs.Lefts.{greeting, IsSound, IsSettled, IsTodo, IsNextOf, work_left};
+ghost use Rattle.line_interpreter.specs.Lefts.{greeting, IsSound, IsSettled, KnowsNext, IsTodo, IsNextOf, work_left};
 ghost use Rattle.run_rules.specs.Work.Task.{ask, tell};
 ghost use Rattle.status_report.specs.Replies.{IsReply};
 ghost use Rattle.status_report.specs.Answering.{is_report};
@@ -95,6 +95,7 @@ impl Desk {
         ensures left { work_left result.line result.state ≡ telling (Reply.Banner ∷ []) }
         ensures ready { IsReady result }
         ensures settled { IsSettled result.line result.state }
+        ensures next { KnowsNext result.line }
     {
         Desk {
             state: State::opening(),
@@ -344,6 +345,7 @@ impl Desk {
         ensures number { self.new.number ≡ self.old.number + 1 }
         ensures ready { IsReady self.new }
         ensures settled { IsSettled self.new.line self.new.state }
+        ensures next { KnowsNext self.new.line }
     {
         let accepted = self.judge_line(line, machine);
         self.line.settle();
@@ -358,8 +360,10 @@ impl Desk {
         ensures same { self.new ≡ record self.old { line = self.new.line } }
         ensures ready { IsReady self.new }
         ensures settled { IsSettled self.new.line self.new.state }
+        ensures next { KnowsNext self.new.line }
     {
         self.begin(Body::Closing);
+        self.line.settle();
     }
 
     /// A reset is worked behind the answered lines, which leave this state, with the machine at this place: lines are judged
@@ -380,26 +384,28 @@ impl Desk {
         ensures left { work_left self.new.line self.new.state ≡ telling (greeting alarm locked) }
         ensures ready { IsReady self.new }
         ensures settled { IsSettled self.new.line self.new.state }
+        ensures next { KnowsNext self.new.line }
     {
         self.begin(Body::Greets(alarm, locked));
+        self.line.settle();
         self.state = reset_state(answered, at);
         self.number += dropped;
     }
 
     /// What there is to do next.
-    #[inline]
+    #[inline(always)]
     pub(crate) fn todo(&self) -> Todo
-        requires ready { IsReady self.now }
+        requires next { KnowsNext self.now.line }
         requires settled { IsSettled self.now.line self.now.state }
         ensures { IsTodo result (work_left self.now.line self.now.state) }
     {
-        self.line.part_todo()
+        self.line.next
     }
 
     /// Whether nothing is left to do.
     #[inline(always)]
     pub(crate) fn is_done(&self) -> bool
-        requires ready { IsReady self.now }
+        requires next { KnowsNext self.now.line }
         requires settled { IsSettled self.now.line self.now.state }
         ensures done { result ≡ true → work_left self.now.line self.now.state ≡ [] }
         ensures going { result ≡ false → work_left self.now.line self.now.state ≢ [] }
@@ -438,6 +444,7 @@ impl Desk {
         ensures ready { IsReady self.new }
         ensures left { work_left self.new.line self.new.state ≡ work_left self.old.line self.old.state }
         ensures settled { IsSettled self.old.line self.old.state → IsSettled self.new.line self.new.state }
+        ensures next { KnowsNext self.old.line → KnowsNext self.new.line }
     {
         self.state
             .parser
@@ -454,6 +461,7 @@ impl Desk {
         ensures same { self.new ≡ record self.old { line = self.new.line } }
         ensures ready { IsReady self.new }
         ensures settled { IsSettled self.new.line self.new.state }
+        ensures next { KnowsNext self.new.line }
     {
         self.line.stage += 1;
         self.line.settle();

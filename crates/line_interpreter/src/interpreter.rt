@@ -46,13 +46,13 @@ impl Model for Interpreter {
     ghost use Rattle.line_interpreter.specs.Interpreting.{Interpreting, interpreting};
     ghost use Rattle.line_interpreter.specs.Desks.{IsReady};
     ghost use Rattle.run_rules.specs.Finding.{Found};
-    ghost use Rattle.line_interpreter.specs.Lefts.{IsSettled};
+    ghost use Rattle.line_interpreter.specs.Lefts.{IsSettled, KnowsNext};
 
     ghost Value = { Interpreting };
 
     ghost view = { λ i. interpreting i.desk };
 
-    ghost invariant = { λ i. IsReady i.desk × IsSettled i.desk.line i.desk.state };
+    ghost invariant = { λ i. IsReady i.desk × IsSettled i.desk.line i.desk.state × KnowsNext i.desk.line };
 }
 
 impl Interpreter {
@@ -107,7 +107,7 @@ impl Interpreter {
     }
 
     /// What there is to do next; nothing exactly where nothing is left.
-    #[inline]
+    #[inline(always)]
     pub fn todo(&self) -> Todo
         ensures { IsTodo result self.now.left }
     {

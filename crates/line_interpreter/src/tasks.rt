@@ -23,7 +23,7 @@ ghost use Rattle.status_report.specs.declared.Reply.{Reply as AnyReply};
 ghost use Rattle.step_line.specs.declared.planned_move.PlannedMove.{PlannedMove as AnyMove};
 ghost use Rattle.units.specs.declared.Move.{Move as AnyWay};
 ghost use Rattle.units.specs.declared.Rate.{Rate as AnyRate};
-ghost use Rattle.line_interpreter.specs.Lefts.{IsTodo, IsNextOf, IsSound, part_left, work_left, IsSettled};
+ghost use Rattle.line_interpreter.specs.Lefts.{IsTodo, IsNextOf, IsSound, part_left, work_left, IsSettled, KnowsNext};
 
 use crate::greetings::{greeting_count, greeting_told};
 use gcode_check::{Item, Items};
@@ -97,7 +97,7 @@ pub(crate) struct Running {
 }
 
 /// The line in execution: what it asks for, and how much of that is done. Of the present item, or of the whole where
-/// there are no items, `stage` tasks are done.
+/// there are no items, `stage` tasks are done. What is next of it is found once, where that changes, and kept in `next`.
 #[derive(Drop)]
 pub(crate) struct Line {
     pub(crate) body: Body,
@@ -106,6 +106,7 @@ pub(crate) struct Line {
     pub(crate) items: Items,
     pub(crate) place: usize,
     pub(crate) stage: u8,
+    pub(crate) next: Todo,
 }
 
 /// What is next of so many replies, which are told one by one.
@@ -380,6 +381,7 @@ impl Line {
         ensures left { (s : AnyState) → work_left result s ≡ tell Reply.Banner ∷ [] }
         ensures settled { (s : AnyState) → IsSettled result s }
         ensures sound { IsSound result }
+        ensures next { KnowsNext result }
     {
         Line {
             body: Body::Opening,
@@ -391,13 +393,14 @@ impl Line {
             items: Items::new(),
             place: 0,
             stage: 0,
+            next: Todo::Tell,
         }
     }
 
     /// The line has the items that stand in it, of which nothing is done, from these modes on.
     #[inline]
     pub(crate) fn begin_items(&mut self, number: u32, modal: &Modal)
-        ensures same { self.new ≡ record { body = Body.Items; number = number; running = record { spindle = modal.now.spindle; flood = modal.now.flood }; items = self.old.items; place = 0; stage = 0 } }
+        ensures same { self.new ≡ record { body = Body.Items; number = number; running = record { spindle = modal.now.spindle; flood = modal.now.flood }; items = self.old.items; place = 0; stage = 0; next = self.old.next } }
     {
         self.body = Body::Items;
         self.number = number;
@@ -423,8 +426,7 @@ impl Line {
     }
 
     /// What is next of the present item, or of the whole where there are no items.
-    #[inline]
-    pub(crate) fn part_todo(&self) -> Todo
+    fn part_todo(&self) -> Todo
         requires sound { IsSound self.now }
         ensures next { (s : AnyState) → IsTodo result (part_left self.now s) }
     {
@@ -446,15 +448,11 @@ impl Line {
     /// Whether nothing is left of it, nor of what comes behind the present part.
     #[inline(always)]
     pub(crate) fn is_done(&self) -> bool
-        requires sound { IsSound self.now }
+        requires next { KnowsNext self.now }
         ensures done { result ≡ true → (s : AnyState) → IsSettled self.now s → work_left self.now s ≡ [] }
         ensures going { result ≡ false → (s : AnyState) → work_left self.now s ≡ [] → ⊥ }
     {
-        match self.body {
-            Body::Closing => self.stage > 1,
-            Body::Items if self.items.len() <= self.place => self.stage > 0,
-            _ => matches!(self.part_todo(), Todo::Nothing),
-        }
+        matches!(self.next, Todo::Nothing)
     }
 
     /// The reply that is next of the items: that of a program's end, or `ok` behind the last one.
@@ -541,16 +539,17 @@ impl Line {
         self.stage = 0;
     }
 
-    /// Goes on to the next item of which something is left to do.
-    #[inline]
+    /// Goes on to the next item of which something is left to do, and finds what is next of it.
     pub(crate) fn settle(&mut self)
         requires sound { IsSound self.old }
         ensures sound { IsSound self.new }
         ensures left { (s : AnyState) → work_left self.new s ≡ work_left self.old s }
         ensures settled { (s : AnyState) → IsSettled self.new s }
+        ensures next { KnowsNext self.new }
     {
         while self.is_passed() {
             self.pass();
         }
+        self.next = self.part_todo();
     }
 }
