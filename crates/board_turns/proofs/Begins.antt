@@ -26,7 +26,6 @@ use Rattle.board_turns.specs.declared.board.Board.{Board}
 use Rattle.board_machine.specs.declared.machine.Machine.{Machine}
 use Rattle.board_turns.specs.declared.board.Flags.{Flags}
 use Rattle.board_turns.specs.declared.board.Flags.TheVariants as words
-use Rattle.board_turns.specs.declared.board.Beat.TheVariants.{Motion}
 use Rattle.board_turns.specs.Boards.{Keeps, Works, IsFree}
 use Rattle.board_machine.specs.Machines.{Runs, limit_motion, start_motion}
 use Rattle.board_turns.specs.Turning.{IsReady, IsWholeLine, IsLooked, MayJudge, IsJudged, PassesNothing, DidAlone, HasLooked, HasBegun, HasFilled, BoardWorked, MayHaveTold, starting}
@@ -495,8 +494,8 @@ begun_untold first o mid line may (inr (inr is)) = subst AsksForRoom (sym is) ma
 
 -- a line is begun, its first reply is told where it has room, and moves are added behind it
 pub did_begin_line : {N : ℕ} (first : Opening) (was : Flags) (board : Board N) (h seen mid spoken next : Journal) (o : Outcome) → IsReady first h → IsWholeLine first h → PassesNothing first h seen → DidAlone first seen mid → IsBegun first 1 o mid spoken → Keeps first board next
-    → board.beat ≡ Motion → board.flags ≡ words.None → HasFilled first spoken next → BoardWorked first Did was board h next
-did_begin_line first was board h seen mid spoken next o ready line look alone b keeps beat no_word filled =
+    → board.published ≡ false → board.flags ≡ words.None → HasFilled first spoken next → BoardWorked first Did was board h next
+did_begin_line first was board h seen mid spoken next o ready line look alone b keeps unpublished no_word filled =
     let a = alone.passes in
     let few = few_where_whole first h line.whole ready.tries in
     let quiet : count_by publishing (this_turn mid) ≡ 0 = a.quiet ∙ look.quiet ∙ ready.quiet.quiet in
@@ -510,7 +509,7 @@ did_begin_line first was board h seen mid spoken next o ready line look alone b 
     let once = b.once in
     let tried = b.tries in
     let two = ahead_less (left_of first spoken) (whole_of spoken) (is_reply_back spoken) b.partial in
-    did_filled first was board h spoken next steps are inner keeps beat taken filled (b.worked (a.worked (look.worked ready.quiet.worked)))
+    did_filled first was board h spoken next steps are inner keeps unpublished taken filled (b.worked (a.worked (look.worked ready.quiet.worked)))
     (omega (arith, once, quiet)) (b.unpolled ∙ a.polled ∙ look.polled ∙ ready.unpolled) (omega (arith, few, tries, tried, two)) (inl (filled.alone.passes.moves b.moved))
 
 -- the port knows nothing of that

@@ -20,13 +20,12 @@ use Rattle.units.specs.Truths.{one_if}
 use Rattle.board_turns.specs.declared.board.Board.{Board}
 use Rattle.board_turns.specs.declared.board.Flags.{Flags}
 use Rattle.board_turns.specs.declared.board.Flags.TheVariants as words
-use Rattle.board_turns.specs.declared.board.Beat.TheVariants.{Motion, Main}
-use Rattle.board_turns.specs.Boards.{Keeps, Rounds, NoneWaits, GoingBetween, IsFree, TakesFlags, takes_no_word, has_published, changes_left, number_of}
+use Rattle.board_turns.specs.Boards.{Keeps, Rounds, NoneWaits, GoingBetween, IsFree, TakesFlags, takes_no_word, changes_left, number_of}
 use Rattle.board_turns.specs.Turning.{IsNextMove, AreWorked, IsQuiet, IsReady, MayRun, MayAwait, HasStopped, NeedsNoWait, GoesOn, PassesNothing, HasFilled, HasTried, BoardWorked, WorksOn}
 pub use Rattle.board_turns.proofs.Freeing.{free_of, takes_none, no_word_left, free_passed, free_tried}
 use Rattle.board_rules.proofs.Facts.{none_awaited, uncounted}
 use Rattle.board_rules.proofs.Tries.{none_ends}
-use Rattle.board_turns.proofs.Steps.{other_beat, halts_by, none_halts}
+use Rattle.board_turns.proofs.Steps.{other_published, halts_by, none_halts}
 
 -- ---- what follows
 
@@ -54,7 +53,7 @@ worked_on first t was board h mid next steps is inner fewer w = record {
   rounds = w.rounds;
   flags = w.flags;
   still = w.still;
-  beat = w.beat;
+  unpublished = w.unpublished;
   steps = w.steps ++ steps;
   are = w.are ∙ ap (λ (x : Journal). w.steps ++ x) is ∙ sym (append_assoc w.steps steps h);
   inner = none_ends w.steps steps w.inner inner;
@@ -104,7 +103,7 @@ same_calls f g ts us j i full left jogged = ap (λ b. b || (awaits_motion ts || 
 pub none_waited : (h : Journal) (o : On) → waits_of h ≡ [] → Contains (waits_of h) o → ⊥
 none_waited h o none has = let e = ap length none in let within = has.1 in absurd (omega arith)
 
-pub rounds_still : (first : Opening) (h : Journal) → NoneWaits first h → tries_of first h + tries_ahead first h ≤ 4 → Rounds first Motion h
+pub rounds_still : (first : Opening) (h : Journal) → NoneWaits first h → tries_of first h + tries_ahead first h ≤ 4 → Rounds first false h
 rounds_still first h none few = record {
   waits = λ e. absurd cc;
   tried = λ e. absurd cc;
@@ -157,13 +156,13 @@ few_uncounted first h mid next p tried passes none few =
 -- ---- a piece that is published
 
 pub sent_by : {N : ℕ} (first : Opening) (was : Flags) (board : Board N) (h mid next : Journal) → MayTry first h → HasTried first true h mid → HasFilled first mid next → Keeps first board next → takes_no_word board.flags ≡ true → TakesFlags board.flags next
-    → BoardWorked first Did was (record board { beat = Main }) h next
+    → BoardWorked first Did was (record board { published = true }) h next
 sent_by first was board h mid next may tried filled keeps no_word takes =
     let a = filled.alone.passes in
     let tries = few_tries first h mid next true may tried filled in
     let worked = a.worked (tried.worked may.worked) in
     record {
-      keeps = other_beat first board Main next keeps;
+      keeps = other_published first board true next keeps;
       rounds = record {
         waits = λ e. a.waits ∙ tried.waits;
         tried = λ e. a.missed ∙ tried.missed;
@@ -175,7 +174,7 @@ sent_by first was board h mid next may tried filled keeps no_word takes =
       };
       flags = takes;
       still = λ e. no_word;
-      beat = λ o e. absurd cc;
+      unpublished = λ o e. absurd cc;
       steps = a.steps ++ tried.steps;
       are = a.are ∙ ap (λ (x : Journal). a.steps ++ x) tried.are ∙ sym (append_assoc a.steps tried.steps h);
       inner = none_ends a.steps tried.steps a.inner tried.inner;
@@ -192,7 +191,7 @@ sent_by first was board h mid next may tried filled keeps no_word takes =
     }
 
 pub sent : {N : ℕ} (first : Opening) (was : Flags) (board : Board N) (h mid next : Journal) → MayTry first h → IsFree h → HasTried first true h mid → HasFilled first mid next → Keeps first board next → board.flags ≡ words.None
-    → BoardWorked first Did was (record board { beat = Main }) h next
+    → BoardWorked first Did was (record board { published = true }) h next
 sent first was board h mid next may free tried filled keeps none =
     sent_by first was board h mid next may tried filled keeps (no_word_left board.flags none) (takes_none board next none (free_passed first mid next filled.alone.passes (free_tried first true h mid tried free)))
 
@@ -212,9 +211,9 @@ may_try first h may = record {
 }
 
 -- it was handed back, and room for it is waited for
-pub handed_back : {N : ℕ} (first : Opening) (was : Flags) (board : Board N) (h mid next : Journal) → MayRun first h → HasTried first false h mid → HasFilled first mid next → Keeps first board next → board.beat ≡ Motion → board.flags ≡ words.None
+pub handed_back : {N : ℕ} (first : Opening) (was : Flags) (board : Board N) (h mid next : Journal) → MayRun first h → HasTried first false h mid → HasFilled first mid next → Keeps first board next → board.published ≡ false → board.flags ≡ words.None
     → BoardWorked first (Wait SegmentRoom) was board h next
-handed_back first was board h mid next may tried filled keeps beat no_word =
+handed_back first was board h mid next may tried filled keeps unpublished no_word =
     let a = filled.alone.passes in
     let try = may_try first h may in
     let w = tried.ahead in
@@ -226,10 +225,10 @@ handed_back first was board h mid next may tried filled keeps beat no_word =
     let free = free_passed first mid next a (free_tried first false h mid tried (free_of h may.quiet)) in
     record {
       keeps = keeps;
-      rounds = subst (λ b. (Rounds first) b next) (sym beat) (rounds_still first next filled.none_waits few);
+      rounds = subst (λ b. (Rounds first) b next) (sym unpublished) (rounds_still first next filled.none_waits few);
       flags = takes_none board next no_word free;
       still = λ e. no_word_left board.flags no_word;
-      beat = λ o e. beat;
+      unpublished = λ o e. unpublished;
       steps = a.steps ++ tried.steps;
       are = a.are ∙ ap (λ (x : Journal). a.steps ++ x) tried.are ∙ sym (append_assoc a.steps tried.steps h);
       inner = none_ends a.steps tried.steps a.inner tried.inner;
@@ -279,7 +278,7 @@ quiet_between h between free = record {
   untold = none_between h lacks_reply_room between;
 }
 
-pub may_try_first : (first : Opening) (h : Journal) → Rounds first Motion h → GoingBetween h → IsFree h → MayTry first h
+pub may_try_first : (first : Opening) (h : Journal) → Rounds first false h → GoingBetween h → IsFree h → MayTry first h
 may_try_first first h r between free = record {
   quiet = count_between h between;
   worked = none_worked h between (λ e. free.obeyed);
@@ -295,7 +294,7 @@ still_none_waits first h next p tried none waiting =
     ∙ less_or (is_full first.blocks (plan_of next)) (is_full first.blocks (plan_of h)) (awaits_motion (left_of first h) || has_jogged h) tried.full (none (tried.waiting waiting))
 
 -- what was tried first was handed back
-pub ready_tried : (first : Opening) (h next : Journal) → Rounds first Motion h → GoingBetween h → IsFree h → HasTried first false h next → IsReady first next
+pub ready_tried : (first : Opening) (h next : Journal) → Rounds first false h → GoingBetween h → IsFree h → HasTried first false h next → IsReady first next
 ready_tried first h next r between free tried =
     let w = tried.ahead in
     let rt = r.tries in
@@ -317,7 +316,7 @@ ready_tried first h next r between free tried =
     }
 
 -- the last turn published
-pub ready_sent : (first : Opening) (h : Journal) → Rounds first Main h → GoingBetween h → IsFree h → IsReady first h
+pub ready_sent : (first : Opening) (h : Journal) → Rounds first true h → GoingBetween h → IsFree h → IsReady first h
 ready_sent first h r between taken = record {
   quiet = quiet_between h between taken;
   unpolled = none_between h found_none between;
@@ -329,7 +328,7 @@ ready_sent first h r between taken = record {
 }
 
 -- nothing is due
-pub ready_idle : (first : Opening) (h : Journal) → Rounds first Motion h → GoingBetween h → IsFree h → is_due first h ≡ false → missed_of first h ≡ false → IsReady first h
+pub ready_idle : (first : Opening) (h : Journal) → Rounds first false h → GoingBetween h → IsFree h → is_due first h ≡ false → missed_of first h ≡ false → IsReady first h
 ready_idle first h r between taken idle unmissed = record {
   quiet = quiet_between h between taken;
   unpolled = none_between h found_none between;
@@ -414,20 +413,20 @@ needs_no_wait first b h k stopped no_rest no_normal awaits = by_task (awaited (l
 -- ---- what was done moves on
 
 -- something was done up to a journal, behind which moves were added
-pub did_filled : {N : ℕ} (first : Opening) (was : Flags) (board : Board N) (h mid next : Journal) (steps : List Step) → mid ≡ steps ++ h → list_any ends_turn steps ≡ false → Keeps first board next → board.beat ≡ Motion → TakesFlags board.flags next → HasFilled first mid next
+pub did_filled : {N : ℕ} (first : Opening) (was : Flags) (board : Board N) (h mid next : Journal) (steps : List Step) → mid ≡ steps ++ h → list_any ends_turn steps ≡ false → Keeps first board next → board.published ≡ false → TakesFlags board.flags next → HasFilled first mid next
     → AreWorked mid → count_by publishing (this_turn mid) ≤ 1 → list_any found_none (this_turn mid) ≡ false → tries_of first mid + tries_ahead first mid ≤ 4
     → (list_any moving (this_turn next) ≡ true) ⊎ (number_of first board.flags next < number_of first was h) → BoardWorked first Did was board h next
-did_filled first was board h mid next steps is inner keeps beat taken filled worked once unpolled few moves =
+did_filled first was board h mid next steps is inner keeps unpublished taken filled worked once unpolled few moves =
     let a = filled.alone.passes in
     let now = a.worked worked in
     let t = a.tries in
     let w = a.ahead in
     record {
       keeps = keeps;
-      rounds = subst (λ b. (Rounds first) b next) (sym beat) (rounds_still first next filled.none_waits (omega (arith, t, w, few)));
+      rounds = subst (λ b. (Rounds first) b next) (sym unpublished) (rounds_still first next filled.none_waits (omega (arith, t, w, few)));
       flags = taken;
-      still = λ e. absurd (let s = ap has_published beat in cc);
-      beat = λ o e. beat;
+      still = λ e. absurd (let s = unpublished in cc);
+      unpublished = λ o e. unpublished;
       steps = a.steps ++ steps;
       are = a.are ∙ ap (λ (x : Journal). a.steps ++ x) is ∙ sym (append_assoc a.steps steps h);
       inner = none_ends a.steps steps a.inner inner;

@@ -34,7 +34,6 @@ use Rattle.board_rules.proofs.Given.{known_within}
 use Rattle.board_rules.proofs.Greeted.{greeted_where}
 use Rattle.units.specs.Truths.{one_if}
 use Rattle.board_turns.specs.declared.board.Board.{Board}
-use Rattle.board_turns.specs.declared.board.Beat.TheVariants.{Motion}
 use Rattle.board_turns.specs.declared.board.Flags.{Flags}
 use Rattle.board_turns.specs.declared.board.Flags.TheVariants as words
 use Rattle.board_turns.specs.Boards.{Keeps, Rounds, NoneWaits, IsFree, IsAsked, AwaitsWords, TakesFlags, takes_no_word, words_left, changes_left, number_of}
@@ -123,9 +122,9 @@ ends_settled first h next halted s halts =
       halts = halts;
     }
 
-pub rounds_settled : {N : ℕ} (first : Opening) (board : Board N) (h next : Journal) → IsHeldUp first h → HasSettled first h next → board.beat ≡ Motion → Rounds first board.beat next
-rounds_settled first board h next halted s beat =
-    subst (λ b. (Rounds first) b next) (sym beat) (rounds_still first next (λ w. absurd (none_wait first h halted.halts (s.waiting w))) (few_settled first h next s (few_halted first h halted)))
+pub rounds_settled : {N : ℕ} (first : Opening) (board : Board N) (h next : Journal) → IsHeldUp first h → HasSettled first h next → board.published ≡ false → Rounds first board.published next
+rounds_settled first board h next halted s unpublished =
+    subst (λ b. (Rounds first) b next) (sym unpublished) (rounds_still first next (λ w. absurd (none_wait first h halted.halts (s.waiting w))) (few_settled first h next s (few_halted first h halted)))
 
 -- no word is to be taken, none waits, and no report is owed
 pub free_settled : (first : Opening) (h next : Journal) → IsHeldUp first h → HasSettled first h next → IsFree next
@@ -137,13 +136,13 @@ fewer_words first f was h next e g falls = let a = ap words_left e in let b = ap
 
 -- something came of a machine that has stopped
 pub did_settle : {N : ℕ} (first : Opening) (board : Board N) (was : Flags) (h next : Journal) → Keeps first board next → IsHeldUp first h → HasSettled first h next → HasSlowedDown first h → (HasSlowedDown first next → ⊥)
-    → board.beat ≡ Motion → board.flags ≡ words.None → was ≡ words.None → BoardWorked first Did was board h next
-did_settle first board was h next k halted s slowed other beat no_word none = record {
+    → board.published ≡ false → board.flags ≡ words.None → was ≡ words.None → BoardWorked first Did was board h next
+did_settle first board was h next k halted s slowed other unpublished no_word none = record {
   keeps = k;
-  rounds = rounds_settled first board h next halted s beat;
+  rounds = rounds_settled first board h next halted s unpublished;
   flags = takes_none board next no_word (free_settled first h next halted s);
   still = λ e. no_word_left board.flags no_word;
-  beat = λ o e. beat;
+  unpublished = λ o e. unpublished;
   steps = s.passes.steps;
   are = s.passes.are;
   inner = s.passes.inner;
@@ -226,13 +225,13 @@ slowed_undue first h s = no_more_due (is_going (motion_of first h)) (is_stopping
 
 -- the stop is waited for: ticks are found not to be done
 pub waits_for_stop : {N : ℕ} (first : Opening) (board : Board N) (was : Flags) (h next : Journal) → Keeps first board next → IsHeldUp first h → HasSettled first h next → HasSlowedDown first next
-    → board.beat ≡ Motion → board.flags ≡ words.None → BoardWorked first (Wait on.Motion) was board h next
-waits_for_stop first board was h next k halted s slowed beat no_word = record {
+    → board.published ≡ false → board.flags ≡ words.None → BoardWorked first (Wait on.Motion) was board h next
+waits_for_stop first board was h next k halted s slowed unpublished no_word = record {
   keeps = k;
-  rounds = rounds_settled first board h next halted s beat;
+  rounds = rounds_settled first board h next halted s unpublished;
   flags = takes_none board next no_word free;
   still = λ e. no_word_left board.flags no_word;
-  beat = λ o e. beat;
+  unpublished = λ o e. unpublished;
   steps = s.passes.steps;
   are = s.passes.are;
   inner = s.passes.inner;
@@ -320,7 +319,7 @@ pub none_waits_behind : (first : Opening) (w : Option Exec) (h : Journal) → No
 none_waits_behind first None h none = none
 none_waits_behind first (Some word) h none = λ w. none (waited_before first word h w)
 
-pub rounds_behind : (first : Opening) (w : Option Exec) (h : Journal) → NoneWaits first h → tries_of first h + tries_ahead first h ≤ 4 → Rounds first Motion (obeying first w h)
+pub rounds_behind : (first : Opening) (w : Option Exec) (h : Journal) → NoneWaits first h → tries_of first h + tries_ahead first h ≤ 4 → Rounds first false (obeying first w h)
 rounds_behind first None h none few = rounds_still first h none few
 rounds_behind first (Some word) h none few = rounds_still first (obeying first (Some word) h) (none_waits_behind first (Some word) h none) few
 
@@ -443,9 +442,9 @@ ends_awaited first board word h mid k halted s =
     ends_obeyed first word mid (s.passes.quiet ∙ halted.ready.quiet.quiet) (free_settled first h mid halted s).obeyed (s.passes.worked halted.ready.quiet.worked) ends.adds ends.starts ends.tries
     (halts_by first board (obeyed first word mid) k)
 
-rounds_awaited : {N : ℕ} (first : Opening) (word : Exec) (board : Board N) (h mid : Journal) → IsHeldUp first h → HasSettled first h mid → board.beat ≡ Motion → Rounds first board.beat (obeyed first word mid)
-rounds_awaited first word board h mid halted s beat =
-    subst (λ b. (Rounds first) b (obeyed first word mid)) (sym beat)
+rounds_awaited : {N : ℕ} (first : Opening) (word : Exec) (board : Board N) (h mid : Journal) → IsHeldUp first h → HasSettled first h mid → board.published ≡ false → Rounds first board.published (obeyed first word mid)
+rounds_awaited first word board h mid halted s unpublished =
+    subst (λ b. (Rounds first) b (obeyed first word mid)) (sym unpublished)
     (rounds_behind first (to_obey word) (taken word mid) (λ w. absurd (none_wait first h halted.halts (s.waiting (record { stands = w.stands; blocks = w.blocks })))) (few_settled first h mid s (few_halted first h halted)))
 
 -- the steps of a word that is taken, and obeyed
@@ -454,13 +453,13 @@ obeyed_behind first word h mid steps are inner = behind_word first (to_obey word
 
 -- the machine is resumed
 pub did_resume : {N : ℕ} (first : Opening) (board : Board N) (was : Flags) (word : Exec) (h mid : Journal) → Keeps first board (obeyed first word mid) → IsHeldUp first h → HasSettled first h mid → motion_of first h ≡ motions.Held
-    → (motion_of first (obeyed first word mid) ≡ motions.Held → ⊥) → owes_report (taken word mid) ≡ false → board.beat ≡ Motion → board.flags ≡ words.None → was ≡ words.None → BoardWorked first Did was board h (obeyed first word mid)
-did_resume first board was word h mid k halted s held resumes unowed beat no_word none = record {
+    → (motion_of first (obeyed first word mid) ≡ motions.Held → ⊥) → owes_report (taken word mid) ≡ false → board.published ≡ false → board.flags ≡ words.None → was ≡ words.None → BoardWorked first Did was board h (obeyed first word mid)
+did_resume first board was word h mid k halted s held resumes unowed unpublished no_word none = record {
   keeps = k;
-  rounds = rounds_awaited first word board h mid halted s beat;
+  rounds = rounds_awaited first word board h mid halted s unpublished;
   flags = takes_none board (obeyed first word mid) no_word (free_now first word mid (both_taken mid (s.passes.flags ∙ halted.ready.quiet.flags)).1 (free_settled first h mid halted s).obeyed unowed);
   still = λ e. no_word_left board.flags no_word;
-  beat = λ o e. beat;
+  unpublished = λ o e. unpublished;
   steps = (obeyed_behind first word h mid s.passes.steps s.passes.are s.passes.inner).steps;
   are = (obeyed_behind first word h mid s.passes.steps s.passes.are s.passes.inner).are;
   inner = (obeyed_behind first word h mid s.passes.steps s.passes.are s.passes.inner).inner;
@@ -480,13 +479,13 @@ did_resume first board was word h mid k halted s held resumes unowed beat no_wor
 
 -- the resume is waited for
 pub waits_for_resume : {N : ℕ} (first : Opening) (board : Board N) (was : Flags) (word : Exec) (h mid : Journal) → Keeps first board (obeyed first word mid) → IsHeldUp first h → HasSettled first h mid → motion_of first h ≡ motions.Held
-    → motion_of first (obeyed first word mid) ≡ motions.Held → owes_report (taken word mid) ≡ false → board.beat ≡ Motion → board.flags ≡ words.None → BoardWorked first (Wait on.Resume) was board h (obeyed first word mid)
-waits_for_resume first board was word h mid k halted s held stays unowed beat no_word = record {
+    → motion_of first (obeyed first word mid) ≡ motions.Held → owes_report (taken word mid) ≡ false → board.published ≡ false → board.flags ≡ words.None → BoardWorked first (Wait on.Resume) was board h (obeyed first word mid)
+waits_for_resume first board was word h mid k halted s held stays unowed unpublished no_word = record {
   keeps = k;
-  rounds = rounds_awaited first word board h mid halted s beat;
+  rounds = rounds_awaited first word board h mid halted s unpublished;
   flags = takes_none board (obeyed first word mid) no_word free;
   still = λ e. no_word_left board.flags no_word;
-  beat = λ o e. beat;
+  unpublished = λ o e. unpublished;
   steps = (obeyed_behind first word h mid s.passes.steps s.passes.are s.passes.inner).steps;
   are = (obeyed_behind first word h mid s.passes.steps s.passes.are s.passes.inner).are;
   inner = (obeyed_behind first word h mid s.passes.steps s.passes.are s.passes.inner).inner;
@@ -527,14 +526,14 @@ waits_for_resume first board was word h mid k halted s held stays unowed beat no
 
 -- a report is asked for while the resume is waited for
 pub did_ask : {N : ℕ} (first : Opening) (board : Board N) (was : Flags) (word : Exec) (h mid : Journal) → Keeps first board (taken word mid) → IsHeldUp first h → HasSettled first h mid → owes_report (taken word mid) ≡ true
-    → board.beat ≡ Motion → board.flags ≡ words.Report (to_obey word) → was ≡ words.None → BoardWorked first Did was board h (taken word mid)
-did_ask first board was word h mid k halted s owed beat asks none = record {
+    → board.published ≡ false → board.flags ≡ words.Report (to_obey word) → was ≡ words.None → BoardWorked first Did was board h (taken word mid)
+did_ask first board was word h mid k halted s owed unpublished asks none = record {
   keeps = k;
-  rounds = subst (λ b. (Rounds first) b (taken word mid)) (sym beat)
+  rounds = subst (λ b. (Rounds first) b (taken word mid)) (sym unpublished)
       (rounds_still first (taken word mid) (λ w. absurd (none_wait first h halted.halts (s.waiting (record { stands = w.stands; blocks = w.blocks })))) (few_settled first h mid s (few_halted first h halted)));
   flags = subst (λ f. TakesFlags f (taken word mid)) (sym asks) (asked_now word mid (both_taken mid (s.passes.flags ∙ halted.ready.quiet.flags)).1 (free_settled first h mid halted s).obeyed owed);
   still = λ e. ap takes_no_word asks;
-  beat = λ o e. beat;
+  unpublished = λ o e. unpublished;
   steps = at_port (took_exec word) ∷ s.passes.steps;
   are = ap (λ (j : Journal). at_port (took_exec word) ∷ j) s.passes.are;
   inner = s.passes.inner;

@@ -28,7 +28,6 @@ use Rattle.board_rules.specs.Conduct.{AreWaiting, IsNextTask, IsStopped, MayClos
 use Rattle.board_rules.proofs.Tasks.{none_next}
 use Rattle.units.specs.Truths.{one_if}
 use Rattle.board_turns.specs.declared.board.Board.{Board}
-use Rattle.board_turns.specs.declared.board.Beat.TheVariants.{Motion}
 use Rattle.board_turns.specs.declared.board.Flags.{Flags}
 use Rattle.board_turns.specs.declared.board.Flags.TheVariants as flags
 use Rattle.board_machine.specs.declared.machine.Machine.{Machine}
@@ -91,9 +90,9 @@ few_ready first b h k ready alarmed =
     omega (arith, few, w)
 
 -- ticks are found not to be done
-pub waits_at_limit : {N : ℕ} (first : Opening) (b : Board N) (h : Journal) (done : ℕ) → Keeps first b h → IsReady first h → is_limited (motion_of first h) ≡ true → IsNextTask first halt h → (HasPiece first h → ⊥) → b.beat ≡ Motion → b.flags ≡ flags.None
+pub waits_at_limit : {N : ℕ} (first : Opening) (b : Board N) (h : Journal) (done : ℕ) → Keeps first b h → IsReady first h → is_limited (motion_of first h) ≡ true → IsNextTask first halt h → (HasPiece first h → ⊥) → b.published ≡ false → b.flags ≡ flags.None
     → MayBeDone done (port_log h) → done < b.machine.given → BoardWorked first (Wait on.Motion) b.flags b h (at_port (loaded done) ∷ h)
-waits_at_limit first b h done k ready is next none beat no_word found fewer =
+waits_at_limit first b h done k ready is next none unpublished no_word found fewer =
     let mid : Journal = at_port (loaded done) ∷ h in
     let few = few_ready first b h k ready (halts_raised first h k.conducted (ap halts_next next)) in
     let quiet = ready.quiet in
@@ -104,10 +103,10 @@ waits_at_limit first b h done k ready is next none beat no_word found fewer =
     let awaits : awaits_motion (left_of first h) ≡ true = ap awaits_motion next in
     record {
       keeps = looked first b done h k found;
-      rounds = subst (λ x. (Rounds first) x mid) (sym beat) (rounds_still first mid (λ a. absurd (none_waiting first h is (record { stands = a.stands; blocks = a.blocks }))) few);
+      rounds = subst (λ x. (Rounds first) x mid) (sym unpublished) (rounds_still first mid (λ a. absurd (none_waiting first h is (record { stands = a.stands; blocks = a.blocks }))) few);
       flags = takes_none b mid no_word free;
       still = λ e. no_word_left b.flags no_word;
-      beat = λ other e. beat;
+      unpublished = λ other e. unpublished;
       steps = at_port (loaded done) ∷ [];
       are = refl;
       inner = refl;
@@ -253,9 +252,9 @@ closing_falls first f h none going =
     let d = ap (λ (rs : List Reply). one_if (nat_eq (length (rs ++ Bye ∷ [])) 0)) going in
     omega (arith, p, c, d)
 
-pub closes_limited : {N : ℕ} (first : Opening) (board now : Board N) (h : Journal) → Keeps first board h → Keeps first now (closing ∷ h) → IsReady first h → has_limited h ≡ true → left_of first h ≡ [] → board.closing ≡ false → now.beat ≡ Motion
+pub closes_limited : {N : ℕ} (first : Opening) (board now : Board N) (h : Journal) → Keeps first board h → Keeps first now (closing ∷ h) → IsReady first h → has_limited h ≡ true → left_of first h ≡ [] → board.closing ≡ false → now.published ≡ false
     → board.flags ≡ flags.None → now.flags ≡ flags.None → BoardWorked first Did board.flags now h (closing ∷ h)
-closes_limited first board now h k keeps ready alarmed none open_yet beat no_word_was no_word =
+closes_limited first board now h k keeps ready alarmed none open_yet unpublished no_word_was no_word =
     let one = alarm_limits first h k.conducted k.limited alarmed in
     let is = one.0 in
     let least = k.tries alarmed in
@@ -266,10 +265,10 @@ closes_limited first board now h k keeps ready alarmed none open_yet beat no_wor
     let none_now : AreWaiting first (closing ∷ h) → ⊥ = (λ w. (none_waiting first) h is (record { stands = w.stands; blocks = w.blocks })) in
     record {
       keeps = keeps;
-      rounds = subst (λ b. (Rounds first) b (closing ∷ h)) (sym beat) (rounds_still first (closing ∷ h) (λ w. absurd (none_now w)) few);
+      rounds = subst (λ b. (Rounds first) b (closing ∷ h)) (sym unpublished) (rounds_still first (closing ∷ h) (λ w. absurd (none_now w)) few);
       flags = takes_none now (closing ∷ h) no_word (record { flags = free.flags; obeyed = free.obeyed; unowed = free.unowed });
       still = λ e. no_word_left now.flags no_word;
-      beat = λ o e. beat;
+      unpublished = λ o e. unpublished;
       steps = closing ∷ [];
       are = refl;
       inner = refl;

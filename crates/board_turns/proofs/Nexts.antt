@@ -29,9 +29,7 @@ use Rattle.units.specs.Truths.{one_if}
 use Rattle.board_turns.specs.declared.board.Board.{Board}
 use Rattle.board_turns.specs.declared.board.Flags.{Flags}
 use Rattle.board_turns.specs.declared.board.Flags.TheVariants as words
-use Rattle.board_turns.specs.declared.board.Beat.{Beat}
-use Rattle.board_turns.specs.declared.board.Beat.TheVariants.{Motion, Main}
-use Rattle.board_turns.specs.Boards.{Keeps, Rounds, NoneWaits, GoingBetween, IsFree, TakesFlags, has_published, number_of}
+use Rattle.board_turns.specs.Boards.{Keeps, Rounds, NoneWaits, GoingBetween, IsFree, TakesFlags, number_of}
 use Rattle.board_turns.specs.Turning.{IsNextMove, IsQuiet, IsReady, IsHeldUp, HasPiece, HasPolled, MayRun, MayAwait, MayFinish, IsWholeLine, NeedsNoWait, GoesOn, LetsLines, PassesNothing, BoardWorked, starting}
 use Rattle.board_rules.proofs.Alarms.{limited_alarmed}
 use Rattle.board_turns.proofs.Begins.{still_is}
@@ -49,9 +47,9 @@ use Rattle.board_rules.proofs.Opening.{opened}
 -- ---- how a turn begins
 
 -- where it does not begin with a piece, what is next may be done
-pub ready_now : (first : Opening) (beat : Beat) (h : Journal) → Rounds first beat h → GoingBetween h → IsFree h → (beat ≡ Motion → HasPiece first h → ⊥) → IsReady first h
-ready_now first Main h r between taken none = ready_sent first h r between taken
-ready_now first Motion h r between taken none =
+pub ready_now : (first : Opening) (published : Bool) (h : Journal) → Rounds first published h → GoingBetween h → IsFree h → (published ≡ false → HasPiece first h → ⊥) → IsReady first h
+ready_now first true h r between taken none = ready_sent first h r between taken
+ready_now first false h r between taken none =
     let idle : is_due first h ≡ false = by_due (is_due first h) refl in
     ready_idle first h r between taken idle (unmissed first h between idle)
   where
@@ -314,19 +312,19 @@ may_run_ended first h may stopped next is =
 -- ---- replies
 
 -- a reply was handed back
-pub told_later : {N : ℕ} (first : Opening) (was : Flags) (board : Board N) (h : Journal) (r : Reply) → Keeps first board h → IsReady first h → IsNextTask first (tell r) h → board.beat ≡ Motion → board.flags ≡ words.None
+pub told_later : {N : ℕ} (first : Opening) (was : Flags) (board : Board N) (h : Journal) (r : Reply) → Keeps first board h → IsReady first h → IsNextTask first (tell r) h → board.published ≡ false → board.flags ≡ words.None
     → BoardWorked first (Wait ReplyRoom) was board h (at_port no_reply_room ∷ h)
-told_later first was board h r k ready next beat no_word =
+told_later first was board h r k ready next unpublished no_word =
     let worked = worked_behind (at_port no_reply_room) h (at_port no_reply_room ∷ h) refl (record { no_changes = refl; none_planned = refl }) refl refl ready.quiet.worked in
     let few = few_handed_back first h r k.conducted ready next in
     let free = free_of h ready.quiet in
     let none : NoneWaits first (at_port no_reply_room ∷ h) = (λ waiting. ready.none_waits (record { stands = waiting.stands; blocks = waiting.blocks })) in
     record {
       keeps = not_told first board h k (ap tells_next next) (none_told (this_turn h) ready.quiet.still ready.quiet.untold);
-      rounds = subst (λ b. (Rounds first) b (at_port no_reply_room ∷ h)) (sym beat) (rounds_still first (at_port no_reply_room ∷ h) none few);
+      rounds = subst (λ b. (Rounds first) b (at_port no_reply_room ∷ h)) (sym unpublished) (rounds_still first (at_port no_reply_room ∷ h) none few);
       flags = takes_none board (at_port no_reply_room ∷ h) no_word (record { flags = free.flags; obeyed = free.obeyed; unowed = free.unowed });
       still = λ e. no_word_left board.flags no_word;
-      beat = λ o e. beat;
+      unpublished = λ o e. unpublished;
       steps = at_port no_reply_room ∷ [];
       are = refl;
       inner = refl;
@@ -352,18 +350,18 @@ told_later first was board h r k ready next beat no_word =
 
 -- ---- bytes
 
-pub took_worked : {N : ℕ} (first : Opening) (was : Flags) (board : Board N) (b : ℕ) (h : Journal) → Keeps first board (at_port (took b) ∷ h) → TakesFlags board.flags (at_port (took b) ∷ h) → IsReady first h → MayPoll first h → board.beat ≡ Motion
+pub took_worked : {N : ℕ} (first : Opening) (was : Flags) (board : Board N) (b : ℕ) (h : Journal) → Keeps first board (at_port (took b) ∷ h) → TakesFlags board.flags (at_port (took b) ∷ h) → IsReady first h → MayPoll first h → board.published ≡ false
     → BoardWorked first Did was board h (at_port (took b) ∷ h)
-took_worked first was board b h keeps takes ready may beat =
+took_worked first was board b h keeps takes ready may unpublished =
     let none : NoneWaits first (at_port (took b) ∷ h) = (λ waiting. ready.none_waits (record { stands = waiting.stands; blocks = waiting.blocks })) in
     let four = ahead_most (left_of first h) (nat_eq b 10) (is_reply_back h) in
     let worked = worked_behind (at_port (took b)) h (at_port (took b) ∷ h) refl (record { no_changes = refl; none_planned = refl }) refl refl ready.quiet.worked in
     record {
       keeps = keeps;
-      rounds = subst (λ t. (Rounds first) t (at_port (took b) ∷ h)) (sym beat) (rounds_still first (at_port (took b) ∷ h) none (omega (arith, four)));
+      rounds = subst (λ t. (Rounds first) t (at_port (took b) ∷ h)) (sym unpublished) (rounds_still first (at_port (took b) ∷ h) none (omega (arith, four)));
       flags = takes;
-      still = λ e. absurd (let s = ap has_published beat in cc);
-      beat = λ o e. beat;
+      still = λ e. absurd (let s = unpublished in cc);
+      unpublished = λ o e. unpublished;
       steps = at_port (took b) ∷ [];
       are = refl;
       inner = refl;
@@ -421,17 +419,17 @@ polled_end first h ready may = record {
 pub none_waiting : {N : ℕ} (first : Opening) (board : Board N) (h : Journal) → Keeps first board h → (board.machine.hold.motion ≡ Idle → has_blocks board.machine.plan.blocks ≡ true → ⊥) → AreWaiting first h → ⊥
 none_waiting first board h k none waiting = none (k.machine.motion_is ∙ waiting.stands) (ap (λ p. has_blocks p.blocks) k.machine.plan_is ∙ waiting.blocks)
 
-pub waits_for_byte : {N : ℕ} (first : Opening) (was : Flags) (board : Board N) (h : Journal) → Keeps first board h → HasPolled first h → list_any found_nothing (this_turn h) ≡ true → (AreWaiting first h → ⊥) → board.beat ≡ Motion → board.flags ≡ words.None
+pub waits_for_byte : {N : ℕ} (first : Opening) (was : Flags) (board : Board N) (h : Journal) → Keeps first board h → HasPolled first h → list_any found_nothing (this_turn h) ≡ true → (AreWaiting first h → ⊥) → board.published ≡ false → board.flags ≡ words.None
     → BoardWorked first (Wait Byte) was board h h
-waits_for_byte first was board h k polled found none beat no_word =
+waits_for_byte first was board h k polled found none unpublished no_word =
     let t = polled.tries in
     let w = ahead_most (left_of first h) (whole_of h) (is_reply_back h) in
     record {
       keeps = k;
-      rounds = subst (λ b. (Rounds first) b h) (sym beat) (rounds_still first h (λ waiting. absurd (none waiting)) (omega (arith, t, w)));
+      rounds = subst (λ b. (Rounds first) b h) (sym unpublished) (rounds_still first h (λ waiting. absurd (none waiting)) (omega (arith, t, w)));
       flags = takes_none board h no_word (free_of h polled.quiet);
       still = λ e. no_word_left board.flags no_word;
-      beat = λ o e. beat;
+      unpublished = λ o e. unpublished;
       steps = [];
       are = refl;
       inner = refl;
@@ -502,9 +500,9 @@ closing_falls first f h polled =
     let d = ap (λ (rs : List Reply). one_if (nat_eq (length (rs ++ Bye ∷ [])) 0)) polled.going in
     omega (arith, p, c, d)
 
-pub closes_worked : {N : ℕ} (first : Opening) (board is : Board N) (h : Journal) → Keeps first is (closing ∷ h) → HasPolled first h → (AreWaiting first h → ⊥) → is.beat ≡ Motion → board.flags ≡ words.None → is.flags ≡ words.None
+pub closes_worked : {N : ℕ} (first : Opening) (board is : Board N) (h : Journal) → Keeps first is (closing ∷ h) → HasPolled first h → (AreWaiting first h → ⊥) → is.published ≡ false → board.flags ≡ words.None → is.flags ≡ words.None
     → BoardWorked first Did board.flags is h (closing ∷ h)
-closes_worked first board is h keeps polled none beat no_word_was no_word =
+closes_worked first board is h keeps polled none unpublished no_word_was no_word =
     let none_now : AreWaiting first (closing ∷ h) → ⊥ = (λ waiting. none (record { stands = waiting.stands; blocks = waiting.blocks })) in
     let t = polled.tries in
     let w = ahead_most closing_work (whole_of h) (is_reply_back h) in
@@ -512,10 +510,10 @@ closes_worked first board is h keeps polled none beat no_word_was no_word =
     let worked = worked_behind closing h (closing ∷ h) refl (record { no_changes = refl; none_planned = refl }) refl refl polled.quiet.worked in
     record {
       keeps = keeps;
-      rounds = subst (λ b. (Rounds first) b (closing ∷ h)) (sym beat) (rounds_still first (closing ∷ h) (λ waiting. absurd (none_now waiting)) (omega (arith, t, w)));
+      rounds = subst (λ b. (Rounds first) b (closing ∷ h)) (sym unpublished) (rounds_still first (closing ∷ h) (λ waiting. absurd (none_now waiting)) (omega (arith, t, w)));
       flags = takes_none is (closing ∷ h) no_word (record { flags = free.flags; obeyed = free.obeyed; unowed = free.unowed });
       still = λ e. no_word_left is.flags no_word;
-      beat = λ o e. beat;
+      unpublished = λ o e. unpublished;
       steps = closing ∷ [];
       are = refl;
       inner = refl;

@@ -30,7 +30,6 @@ use Rattle.board_epochs.proofs.Opening.{opens_next, locks}
 use Rattle.board_epochs.proofs.Prompting.{unstopping}
 use Rattle.board_turns.specs.declared.board.Board.{Board}
 use Rattle.board_turns.specs.declared.board.Flags.TheVariants as words
-use Rattle.board_turns.specs.declared.board.Beat.TheVariants.{Motion}
 use Rattle.board_lines.specs.declared.input.Input.{Input}
 use Rattle.board_lines.specs.Inputs.{Reads}
 use Rattle.board_turns.specs.Boards.{EpochFits, KeepsBetween, Works}
@@ -51,7 +50,7 @@ anew m f l i s = record {
   taken = 0;
   answered = s;
   greeted = false;
-  beat = Motion;
+  published = false;
   closing = false;
   jogged = false;
   alarmed = false;

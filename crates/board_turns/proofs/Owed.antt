@@ -30,10 +30,9 @@ use Rattle.board_rules.specs.Turns.{this_turn, publishing, passing, moving, ends
 use Rattle.board_rules.specs.Conduct.{IsDrained, IsStopped, IsReportAt}
 use Rattle.units.specs.Truths.{one_if}
 use Rattle.board_turns.specs.declared.board.Board.{Board}
-use Rattle.board_turns.specs.declared.board.Beat.TheVariants.{Motion, Main}
 use Rattle.board_turns.specs.declared.board.Flags.{Flags}
 use Rattle.board_turns.specs.declared.board.Flags.TheVariants as words
-use Rattle.board_turns.specs.Boards.{Keeps, Rounds, NoneWaits, TakesFlags, has_published}
+use Rattle.board_turns.specs.Boards.{Keeps, Rounds, NoneWaits, TakesFlags}
 use Rattle.board_turns.specs.Turning.{NoneFits, HasPiece, HasTried, HasFilled, BoardWorked}
 use Rattle.board_turns.specs.Reporting.{HasObserved, HasAskedRoom, IsBehind, IsReported, IsTold, IsToReport, LacksRoom, obeying}
 use Rattle.board_turns.proofs.Steps.{other_flags, halts_by}
@@ -222,18 +221,18 @@ reports first Rest old new rest (Err e) c word buffer r h mid next t o a k told 
 
 -- ---- where there is no room for it
 
-motion_beat : {N : ℕ} (board : Board N) → board.beat ≡ Motion → has_published board.beat ≡ true → ⊥
-motion_beat board beat e = absurd (let s = sym (ap has_published beat) ∙ e in cc)
+none_published : {N : ℕ} (board : Board N) → board.published ≡ false → board.published ≡ true → ⊥
+none_published board unpublished e = absurd (let s = sym unpublished ∙ e in cc)
 
 -- the room is waited for
-waits_for_room : {N : ℕ} (first : Opening) (board : Board N) (was : Flags) (h next : Journal) (steps : List Step) → next ≡ steps ++ h → list_any ends_turn steps ≡ false → Keeps first board next → LacksRoom first next → (is_due first next ≡ true → waits_of next ≡ []) → board.beat ≡ Motion
+waits_for_room : {N : ℕ} (first : Opening) (board : Board N) (was : Flags) (h next : Journal) (steps : List Step) → next ≡ steps ++ h → list_any ends_turn steps ≡ false → Keeps first board next → LacksRoom first next → (is_due first next ≡ true → waits_of next ≡ []) → board.published ≡ false
     → board.flags ≡ words.Both → BoardWorked first (Wait ReplyRoom) was board h next
-waits_for_room first board was h next steps are inner keeps l tried beat both = record {
+waits_for_room first board was h next steps are inner keeps l tried unpublished both = record {
   keeps = keeps;
-  rounds = subst (λ b. (Rounds first) b next) (sym beat) (rounds_still first next l.none_waits l.tries);
+  rounds = subst (λ b. (Rounds first) b next) (sym unpublished) (rounds_still first next l.none_waits l.tries);
   flags = subst (λ f. TakesFlags f next) (sym both) (record { greeted = owed_greeted first next keeps.conducted l.owed; obeyed = l.words });
-  still = λ e. absurd (motion_beat board beat e);
-  beat = λ o e. beat;
+  still = λ e. absurd (none_published board unpublished e);
+  unpublished = λ o e. unpublished;
   steps = steps;
   are = are;
   inner = inner;
@@ -258,14 +257,14 @@ waits_for_room first board was h next steps are inner keeps l tried beat both = 
 }
 
 -- nothing is in hand, nor due
-pub waits_idle : {N : ℕ} (first : Opening) (board : Board N) (was : Flags) (h : Journal) → Keeps first board h → LacksRoom first h → (HasPiece first h → ⊥) → board.beat ≡ Motion → BoardWorked first (Wait ReplyRoom) was (record board { flags = words.Both }) h h
-waits_idle first board was h k l none beat =
-    waits_for_room first (record board { flags = words.Both }) was h h [] refl refl (other_flags first board words.Both h k) l (λ due. absurd (none (inr due))) beat refl
+pub waits_idle : {N : ℕ} (first : Opening) (board : Board N) (was : Flags) (h : Journal) → Keeps first board h → LacksRoom first h → (HasPiece first h → ⊥) → board.published ≡ false → BoardWorked first (Wait ReplyRoom) was (record board { flags = words.Both }) h h
+waits_idle first board was h k l none unpublished =
+    waits_for_room first (record board { flags = words.Both }) was h h [] refl refl (other_flags first board words.Both h k) l (λ due. absurd (none (inr due))) unpublished refl
 
 -- a piece was handed back
-pub waits_handed : {N : ℕ} (first : Opening) (board : Board N) (was : Flags) (h mid next : Journal) → Keeps first board next → LacksRoom first h → HasTried first false h mid → HasFilled first mid next → board.beat ≡ Motion → board.flags ≡ words.Both
+pub waits_handed : {N : ℕ} (first : Opening) (board : Board N) (was : Flags) (h mid next : Journal) → Keeps first board next → LacksRoom first h → HasTried first false h mid → HasFilled first mid next → board.published ≡ false → board.flags ≡ words.Both
     → BoardWorked first (Wait ReplyRoom) was board h next
-waits_handed first board was h mid next k l tried filled beat both =
+waits_handed first board was h mid next k l tried filled unpublished both =
     let a = filled.alone.passes in
     waits_for_room first board was h next (a.steps ++ tried.steps) (a.are ∙ ap (λ (x : Journal). a.steps ++ x) tried.are ∙ sym (append_assoc a.steps tried.steps h)) (none_ends a.steps tried.steps a.inner tried.inner) k
     (record {
@@ -281,11 +280,11 @@ waits_handed first board was h mid next k l tried filled beat both =
       none_waits = filled.none_waits;
       adds = filled.adds;
       tries = (let f = tried.later (uncounted_owing first h l.owed l.back) in let t = a.tries in let w = a.ahead in let v = tried.ahead in let m = l.tries in omega (arith, f, t, w, v, m));
-    }) (λ due. a.waits ∙ tried.waits) beat both
+    }) (λ due. a.waits ∙ tried.waits) unpublished both
 
 -- a piece was published, and the report is still told next
 pub sent_owing : {N : ℕ} (first : Opening) (board : Board N) (was : Flags) (h mid next : Journal) → Keeps first board next → LacksRoom first h → HasTried first true h mid → HasFilled first mid next
-    → BoardWorked first Did was (record board { flags = words.Report None; beat = Main }) h next × (list_any moving (this_turn next) ≡ true)
+    → BoardWorked first Did was (record board { flags = words.Report None; published = true }) h next × (list_any moving (this_turn next) ≡ true)
 sent_owing first board was h mid next k l tried filled =
     let a = filled.alone.passes in
     let may : MayTry first h = record {
@@ -381,17 +380,17 @@ stands_behind first stands waiting h s = subst (λ l. stands l) (sym (port_behin
 -- ---- the turn
 
 -- it was told
-pub did_report : {N : ℕ} (first : Opening) (board : Board N) (was : Flags) (waiting : Option Exec) (h next : Journal) → Keeps first board (obeying first waiting next) → IsReported first true waiting next → IsBehind h next → board.beat ≡ Motion
+pub did_report : {N : ℕ} (first : Opening) (board : Board N) (was : Flags) (waiting : Option Exec) (h next : Journal) → Keeps first board (obeying first waiting next) → IsReported first true waiting next → IsBehind h next → board.published ≡ false
     → BoardWorked first Did was (record board { flags = words.None }) h (obeying first waiting next)
-did_report first board was waiting h next k r b beat =
+did_report first board was waiting h next k r b unpublished =
     let o = obeyed_word first true waiting next r in
     let on = behind_word first waiting h next b in
     record {
       keeps = other_flags first board words.None (obeying first waiting next) k;
-      rounds = subst (λ x. (Rounds first) x (obeying first waiting next)) (sym beat) (rounds_still first (obeying first waiting next) o.none_waits o.tries);
+      rounds = subst (λ x. (Rounds first) x (obeying first waiting next)) (sym unpublished) (rounds_still first (obeying first waiting next) o.none_waits o.tries);
       flags = record { flags = o.flags; obeyed = o.words; unowed = o.owed };
       still = λ e. refl;
-      beat = λ on e. beat;
+      unpublished = λ on e. unpublished;
       steps = on.steps;
       are = on.are;
       inner = on.inner;
@@ -414,7 +413,7 @@ went_on first t board was h mid next b w moved = record {
   rounds = w.rounds;
   flags = w.flags;
   still = w.still;
-  beat = w.beat;
+  unpublished = w.unpublished;
   steps = w.steps ++ b.steps;
   are = w.are ∙ ap (λ (x : Journal). w.steps ++ x) b.are ∙ sym (append_assoc w.steps b.steps h);
   inner = none_ends w.steps b.steps w.inner b.inner;

@@ -1,5 +1,5 @@
 -- The machine is held for a pause where it has stopped.
-use Rattle.std.proofs.Common.{ℕ, ◌≡◌, inr, ◌<◌, List, [], ◌∷◌, ◌++◌, length, nat_eq, refl, sym, ap, ◌∙◌, subst, arith, append_assoc}
+use Rattle.std.proofs.Common.{ℕ, false, ◌≡◌, inr, ◌<◌, List, [], ◌∷◌, ◌++◌, length, nat_eq, refl, sym, ap, ◌∙◌, subst, arith, append_assoc}
 use Rattle.outside.specs.declared.Turn.TheVariants.{Did}
 use Rattle.run_rules.specs.Work as work
 use Rattle.run_rules.specs.Work.Task.{pause}
@@ -11,7 +11,6 @@ use Rattle.board_rules.specs.Turns.{this_turn, awaits_motion, is_reply_back}
 use Rattle.board_rules.specs.Conduct.{IsNextTask}
 use Rattle.units.specs.Truths.{one_if}
 use Rattle.board_turns.specs.declared.board.Board.{Board}
-use Rattle.board_turns.specs.declared.board.Beat.TheVariants.{Motion}
 use Rattle.board_turns.specs.declared.board.Flags.TheVariants as flags
 use Rattle.board_turns.specs.Boards.{Keeps, Rounds, number_of}
 use Rattle.board_turns.specs.Turning.{IsReady, PassesNothing, HasFilled, BoardWorked}
@@ -30,9 +29,9 @@ falls first h next task passes =
     omega (arith, fewer, slower, one, same)
 
 -- it is held, and what comes next is added
-pub paused_filled : {N : ℕ} (first : Opening) (board was : Board N) (h next : Journal) → Keeps first was h → IsReady first h → IsNextTask first pause h → HasFilled first (paused ∷ h) next → Keeps first board next → board.beat ≡ Motion → board.flags ≡ flags.None
+pub paused_filled : {N : ℕ} (first : Opening) (board was : Board N) (h next : Journal) → Keeps first was h → IsReady first h → IsNextTask first pause h → HasFilled first (paused ∷ h) next → Keeps first board next → board.published ≡ false → board.flags ≡ flags.None
     → BoardWorked first Did flags.None board h next
-paused_filled first board was h next k ready task filled keeps beat no_word =
+paused_filled first board was h next k ready task filled keeps unpublished no_word =
     let a = filled.alone.passes in
     let few = ready.few (uncounted first h (none_awaited (left_of first h) (is_reply_back h) (ap awaits_motion task))) in
     let behind = ahead_behind (left_of first h) (whole_of h) (is_reply_back h) in
@@ -42,9 +41,9 @@ paused_filled first board was h next k ready task filled keeps beat no_word =
     let worked = a.worked (worked_behind paused h (paused ∷ h) refl (record { no_changes = refl; none_planned = refl }) refl refl ready.quiet.worked) in
     record {
       keeps = keeps;
-      rounds = subst (λ b. (Rounds first) b next) (sym beat) (rounds_still first next filled.none_waits (omega (arith, few, t, w, behind)));
+      rounds = subst (λ b. (Rounds first) b next) (sym unpublished) (rounds_still first next filled.none_waits (omega (arith, few, t, w, behind)));
       flags = takes_none board next no_word (free_passed first (paused ∷ h) next a (record { flags = free.flags; obeyed = free.obeyed; unowed = free.unowed }));
-      beat = λ o e. beat;
+      unpublished = λ o e. unpublished;
       still = λ e. no_word_left board.flags no_word;
       steps = a.steps ++ paused ∷ [];
       are = a.are ∙ sym (append_assoc a.steps (paused ∷ []) h);

@@ -26,7 +26,6 @@ use Rattle.board_rules.proofs.Given.{published_within}
 use Rattle.board_rules.proofs.Keeping.{hand_is}
 use Rattle.board_rules.proofs.Unstopped.{done_within}
 use Rattle.board_turns.specs.declared.board.Board.{Board}
-use Rattle.board_turns.specs.declared.board.Beat.TheVariants.{Motion as MotionBeat}
 use Rattle.board_turns.specs.declared.board.Flags.TheVariants as flags
 use Rattle.board_machine.specs.declared.machine.Machine.{Machine}
 use Rattle.board_machine.specs.Machines.{Runs, StandsOrGoes}
@@ -177,9 +176,9 @@ all_published first b h k none =
     ap ticks_together (sym (hand_is first h k.conducted ∙ ap (λ (ps : List Piece). published_of h ++ ps) none ∙ append-nil (published_of h)))
 
 -- the motion is waited for: ticks are found not to be done
-pub waits_for_motion : {N : ℕ} (first : Opening) (b : Board N) (h : Journal) (done : ℕ) → Keeps first b h → MayAwait first h → b.beat ≡ MotionBeat → b.flags ≡ flags.None → MayBeDone done (port_log h) → hand_of h ≡ []
+pub waits_for_motion : {N : ℕ} (first : Opening) (b : Board N) (h : Journal) (done : ℕ) → Keeps first b h → MayAwait first h → b.published ≡ false → b.flags ≡ flags.None → MayBeDone done (port_log h) → hand_of h ≡ []
     → has_blocks (plan_of h).blocks ≡ false → done < b.machine.given → BoardWorked first (Wait on.Motion) b.flags b h (at_port (loaded done) ∷ h)
-waits_for_motion first b h done k may beat no_word found hand none fewer =
+waits_for_motion first b h done k may unpublished no_word found hand none fewer =
     let few = may.run.few (uncounted first h (none_awaited (left_of first h) (is_reply_back h) may.awaits)) in
     let next : Journal = at_port (loaded done) ∷ h in
     let waits_none : AreWaiting first next → ⊥ = λ a. (none_waits first) h may (record { stands = a.stands; blocks = a.blocks }) in
@@ -190,10 +189,10 @@ waits_for_motion first b h done k may beat no_word found hand none fewer =
     let given : b.machine.given ≡ ticks_given h = k.machine.given_is in
     record {
       keeps = looked first b done h k found;
-      rounds = subst (λ x. (Rounds first) x next) (sym beat) (rounds_still first next (λ a. absurd (waits_none a)) few);
+      rounds = subst (λ x. (Rounds first) x next) (sym unpublished) (rounds_still first next (λ a. absurd (waits_none a)) few);
       flags = takes_none b next no_word free;
       still = λ e. no_word_left b.flags no_word;
-      beat = λ other e. beat;
+      unpublished = λ other e. unpublished;
       steps = at_port (loaded done) ∷ [];
       are = refl;
       inner = refl;

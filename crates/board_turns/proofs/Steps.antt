@@ -36,7 +36,7 @@ use Rattle.board_turns.specs.Boards.{Keeps}
 use Rattle.board_turns.specs.Turning.{HasPiece, starting}
 use Rattle.board_rules.proofs.Uncut.{uncut_else, uncut_idle}
 use Rattle.board_turns.proofs.Starting.{none_awaited_started, uncut_started}
-pub use Rattle.board_turns.proofs.Turns.{closes, ends, other_beat, other_flags, other_flight, room_found}
+pub use Rattle.board_turns.proofs.Turns.{closes, ends, other_published, other_flags, other_flight, room_found}
 pub use Rattle.board_turns.proofs.Known.{is_next, hand_empty, none_by_test, in_hand, some_in_hand, hand_left, one_in_hand, hand_of_one, due_moves, due_now, at_rest, few_ticks, in_range, same_overrides, may_publish, may_publish_now, may_answer, few_tried, begins_by, halts_by, none_halts, calm_now}
 use Rattle.board_turns.proofs.PortSteps.{one_less}
 

@@ -12,8 +12,7 @@ use Rattle.board_rules.specs.Conduct.{MayTurn, Waits}
 use Rattle.board_turns.specs.declared.board.Board.{Board}
 use Rattle.board_turns.specs.declared.board.Flags.{Flags}
 use Rattle.board_turns.specs.declared.board.Flags.TheVariants as words
-use Rattle.board_turns.specs.declared.board.Beat.TheVariants.{Motion}
-use Rattle.board_turns.specs.Boards.{Rounds, TakesFlags, takes_no_word, EpochFits, GoingTurned, has_published, number_of}
+use Rattle.board_turns.specs.Boards.{Rounds, TakesFlags, takes_no_word, EpochFits, GoingTurned, number_of}
 use Rattle.board_turns.specs.Turning.{BoardWorked, words_awaited}
 use Rattle.board_turns.proofs.Steps.{ends}
 
@@ -22,9 +21,9 @@ abbrev pub flags_behind : Turn → (greeted : Bool) → Flags → Flags
 flags_behind (Wait o) greeted f = words_awaited greeted f
 flags_behind t greeted f = f
 
-pub rounds_turned : {N : ℕ} (first : Opening) (t : Turn) (was : Flags) (board : Board N) (h next : Journal) → BoardWorked first t was board h next → Rounds first board.beat (turned t ∷ next)
+pub rounds_turned : {N : ℕ} (first : Opening) (t : Turn) (was : Flags) (board : Board N) (h next : Journal) → BoardWorked first t was board h next → Rounds first board.published (turned t ∷ next)
 rounds_turned first t was board h next w = record {
-  waits = by_turn t w.beat;
+  waits = by_turn t w.unpublished;
   tried = λ e. ap (λ b. b && is_due first next) (w.rounds.tried e);
   sent = w.rounds.sent;
   none_waits = λ waiting. w.rounds.none_waits (record { stands = waiting.stands; blocks = waiting.blocks });
@@ -33,9 +32,9 @@ rounds_turned first t was board h next w = record {
   owed = w.rounds.owed;
 }
   where
-    by_turn : (t : Turn) → ((o : On) → t ≡ Wait o → board.beat ≡ Motion) → has_published board.beat ≡ true → waits_by t (waits_of next) ≡ []
+    by_turn : (t : Turn) → ((o : On) → t ≡ Wait o → board.published ≡ false) → board.published ≡ true → waits_by t (waits_of next) ≡ []
     by_turn Did still e = w.rounds.waits e
-    by_turn (Wait o) still e = absurd (let s = ap has_published (still o refl) in cc)
+    by_turn (Wait o) still e = absurd (let s = still o refl in cc)
     by_turn Done still e = w.rounds.waits e
 
 -- the words of flags are to be taken that were before, or both behind a wait, once the banner is told
@@ -78,9 +77,9 @@ flags_turned first (Wait o) g f next may is takes = flags_waited first o g f nex
 flags_turned first Did g f next may is takes = flags_stay f Did next (both_same Did next refl refl) (turn_same (is_greeted next) Did (changes_taken next) refl) takes
 flags_turned first Done g f next may is takes = flags_stay f Done next (both_same Done next refl refl) (turn_same (is_greeted next) Done (changes_taken next) refl) takes
 
-still_turned : {N : ℕ} (first : Opening) (t : Turn) (was : Flags) (board : Board N) (h next : Journal) → BoardWorked first t was board h next → has_published board.beat ≡ true → takes_no_word (flags_behind t board.greeted board.flags) ≡ true
+still_turned : {N : ℕ} (first : Opening) (t : Turn) (was : Flags) (board : Board N) (h next : Journal) → BoardWorked first t was board h next → board.published ≡ true → takes_no_word (flags_behind t board.greeted board.flags) ≡ true
 still_turned first Did was board h next w e = w.still e
-still_turned first (Wait o) was board h next w e = absurd (let s = ap has_published (w.beat o refl) in cc)
+still_turned first (Wait o) was board h next w e = absurd (let s = w.unpublished o refl in cc)
 still_turned first Done was board h next w e = w.still e
 
 pub turned_on : {N : ℕ} (first : Opening) (t : Turn) (was : Flags) (board : Board N) (h next : Journal) → BoardWorked first t was board h next → EpochFits first (record board { flags = flags_behind t board.greeted board.flags }) (turned t ∷ next)

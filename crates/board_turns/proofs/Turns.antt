@@ -1,5 +1,5 @@
 -- The run is closed, turns end, and the room on the link is asked for; what is no part of what a board has done may change.
-use Rattle.std.proofs.Common.{◌≡◌, ℕ, List, [], ◌∷◌, ◌++◌, true, false, refl, sym, ap, ◌∙◌}
+use Rattle.std.proofs.Common.{◌≡◌, ℕ, Bool, List, [], ◌∷◌, ◌++◌, true, false, refl, sym, ap, ◌∙◌}
 use Rattle.outside.specs.declared.Turn.{Turn}
 use Rattle.run_rules.specs.Work.Task.{tell, finish}
 use Rattle.status_report.specs.declared.Reply.{Reply}
@@ -12,7 +12,6 @@ use Rattle.board_rules.specs.Steps.{Journal}
 use Rattle.board_rules.specs.Steps.Step.{at_port, closing, turned}
 use Rattle.board_rules.specs.Conduct.{MayTurn, MayClose}
 use Rattle.board_turns.specs.declared.board.Board.{Board}
-use Rattle.board_turns.specs.declared.board.Beat.{Beat}
 use Rattle.board_turns.specs.declared.board.Flags.{Flags}
 use Rattle.board_epochs.specs.Resets.{MayReset, has_reset}
 use Rattle.board_turns.specs.Boards.{Keeps, KeepsBetween, IsFlown}
@@ -136,8 +135,8 @@ room_found first c bytes h k = record {
 }
 
 -- what the next turn begins with is no part of it, nor which words of flags it takes
-pub other_beat : {N : ℕ} (first : Opening) (c : Board N) (b : Beat) (h : Journal) → Keeps first c h → Keeps first (record c { beat = b }) h
-other_beat first c b h k = record {
+pub other_published : {N : ℕ} (first : Opening) (c : Board N) (b : Bool) (h : Journal) → Keeps first c h → Keeps first (record c { published = b }) h
+other_published first c b h k = record {
   placed = k.placed;
   sized = k.sized;
   short = k.short;

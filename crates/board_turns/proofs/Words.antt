@@ -25,10 +25,8 @@ use Rattle.board_rules.specs.Conduct.{IsNextTask, AreWaiting, MayObey}
 use Rattle.board_rules.proofs.Waiting.{adds}
 use Rattle.units.specs.Truths.{one_if}
 use Rattle.board_turns.specs.declared.board.Board.{Board}
-use Rattle.board_turns.specs.declared.board.Beat.{Beat}
-use Rattle.board_turns.specs.declared.board.Beat.TheVariants.{Motion, Main}
 use Rattle.board_turns.specs.declared.board.Flags.TheVariants as words
-use Rattle.board_turns.specs.Boards.{Keeps, Rounds, NoneWaits, AwaitsWords, HasChanges, TakesFlags, GoingBetween, GoingFits, takes_no_word, has_published, words_left, changes_left, number_of}
+use Rattle.board_turns.specs.Boards.{Keeps, Rounds, NoneWaits, AwaitsWords, HasChanges, TakesFlags, GoingBetween, GoingFits, takes_no_word, words_left, changes_left, number_of}
 use Rattle.board_turns.specs.Turning.{HasSettled, AreWorked, BoardWorked, asked, flags_behind, obeyed, obeying, replanned, to_obey}
 use Rattle.board_turns.specs.Reporting.{MayObeyNow}
 use Rattle.board_rules.proofs.Tries.{counts_none, counts_one}
@@ -41,15 +39,15 @@ use Rattle.board_turns.proofs.Halting.{HaltsInTime, rounds_behind, leaves, obeye
 -- ---- between two turns
 
 -- where words of flags are to be taken, the last turn published no piece
-beat_is : {N : ℕ} (first : Opening) (board : Board N) (h : Journal) → GoingFits first board h → takes_no_word board.flags ≡ false → board.beat ≡ Motion
-beat_is first board h f some = by_beat board.beat f.still
+unpublished_is : {N : ℕ} (first : Opening) (board : Board N) (h : Journal) → GoingFits first board h → takes_no_word board.flags ≡ false → board.published ≡ false
+unpublished_is first board h f some = by_last board.published f.still
   where
-    by_beat : (b : Beat) → (has_published b ≡ true → takes_no_word board.flags ≡ true) → b ≡ Motion
-    by_beat Motion still = refl
-    by_beat Main still = absurd (let e = sym some ∙ still refl in cc)
+    by_last : (b : Bool) → (b ≡ true → takes_no_word board.flags ≡ true) → b ≡ false
+    by_last false still = refl
+    by_last true still = absurd (let e = sym some ∙ still refl in cc)
 
-few_between : {N : ℕ} (first : Opening) (board : Board N) (h : Journal) → GoingFits first board h → board.beat ≡ Motion → tries_of first h + tries_ahead first h ≤ 4
-few_between first board h f beat = let t = f.rounds.tries in let b = ap (λ x. one_if (has_published x)) beat in omega (arith, t, b)
+few_between : {N : ℕ} (first : Opening) (board : Board N) (h : Journal) → GoingFits first board h → board.published ≡ false → tries_of first h + tries_ahead first h ≤ 4
+few_between first board h f unpublished = let t = f.rounds.tries in let b = ap one_if unpublished in omega (arith, t, b)
 
 count_between : (h : Journal) (f : Step → Bool) → GoingBetween h → count_by f (this_turn h) ≡ 0
 count_between h f between = ap (λ (ss : List Step). count_by f ss) between
@@ -150,13 +148,13 @@ none_waits_changed first h next t none w =
     same_calls (is_full first.blocks (plan_of next)) (is_full first.blocks (plan_of h)) (left_of first next) (left_of first h) (has_jogged next) (has_jogged h) t.full t.left t.jogged ∙ none (t.waiting w)
 
 changes_worked : {N : ℕ} (first : Opening) (was board : Board N) (h next : Journal) → GoingFits first was h → GoingBetween h → was.flags ≡ words.Both → TakesChanges first h next → Keeps first board next
-    → board.beat ≡ was.beat → board.flags ≡ words.Requests → BoardWorked first Did was.flags board h next
-changes_worked first was board h next f between both t keeps same_beat flag = record {
+    → board.published ≡ was.published → board.flags ≡ words.Requests → BoardWorked first Did was.flags board h next
+changes_worked first was board h next f between both t keeps same_published flag = record {
   keeps = keeps;
-  rounds = subst (λ b. (Rounds first) b next) (sym beat) (rounds_still first next none few);
+  rounds = subst (λ b. (Rounds first) b next) (sym unpublished) (rounds_still first next none few);
   flags = subst (λ x. TakesFlags x next) (sym flag) (record { greeted = t.greeted ∙ awaits.greeted; changes = t.taken; obeyed = t.words ∙ none_left });
-  still = λ e. absurd (let x = sym (ap has_published beat) ∙ e in cc);
-  beat = λ o e. absurd cc;
+  still = λ e. absurd (let x = sym unpublished ∙ e in cc);
+  unpublished = λ o e. absurd cc;
   steps = t.steps;
   are = t.are;
   inner = t.inner;
@@ -172,8 +170,8 @@ changes_worked first was board h next f between both t keeps same_beat flag = re
   moves = λ e. inr falls;
 }
   where
-    beat : board.beat ≡ Motion
-    beat = same_beat ∙ beat_is first was h f (ap takes_no_word both)
+    unpublished : board.published ≡ false
+    unpublished = same_published ∙ unpublished_is first was h f (ap takes_no_word both)
 
     awaits : AwaitsWords h
     awaits = subst (λ x. TakesFlags x h) both f.flags
@@ -185,7 +183,7 @@ changes_worked first was board h next f between both t keeps same_beat flag = re
     none = none_waits_changed first h next t f.rounds.none_waits
 
     few : tries_of first next + tries_ahead first next ≤ 4
-    few = let b = few_between first was h f (sym same_beat ∙ beat) in let n = t.tries in let w = t.ahead in omega (arith, b, n, w)
+    few = let b = few_between first was h f (sym same_published ∙ unpublished) in let n = t.tries in let w = t.ahead in omega (arith, b, n, w)
 
     falls : number_of first board.flags next < number_of first was.flags h
     falls =
@@ -199,8 +197,8 @@ changes_worked first was board h next f between both t keeps same_beat flag = re
 
 -- the word of changes was taken
 pub took_changes : {N : ℕ} (first : Opening) (was board : Board N) (word : Ovr) (h : Journal) → GoingFits first was h → GoingBetween h → was.flags ≡ words.Both → Keeps first board (replanned word h)
-    → board.beat ≡ was.beat → board.flags ≡ words.Requests → BoardWorked first Did was.flags board h (replanned word h)
-took_changes first was board word h f between both keeps same_beat flag = changes_worked first was board h (replanned word h) f between both (takes_changes_of first word h) keeps same_beat flag
+    → board.published ≡ was.published → board.flags ≡ words.Requests → BoardWorked first Did was.flags board h (replanned word h)
+took_changes first was board word h f between both keeps same_published flag = changes_worked first was board h (replanned word h) f between both (takes_changes_of first word h) keeps same_published flag
 
 -- ---- the word of requests
 
@@ -214,17 +212,17 @@ record TakesRequests {N : ℕ} (first : Opening) (was board : Board N) (h mid : 
   between : GoingBetween h
   flag : was.flags ≡ words.Requests
   settled : HasSettled first h mid
-  same_beat : board.beat ≡ was.beat
+  same_published : board.published ≡ was.published
 
 has_changes_at : {N : ℕ} (first : Opening) (was : Board N) (h : Journal) → GoingFits first was h → was.flags ≡ words.Requests → HasChanges h
 has_changes_at first was h f flag = subst (λ x. TakesFlags x h) flag f.flags
 
-beat_there : {N : ℕ} (first : Opening) (was board : Board N) (h mid : Journal) → TakesRequests first was board h mid → board.beat ≡ Motion
-beat_there first was board h mid t = t.same_beat ∙ beat_is first was h t.fits (ap takes_no_word t.flag)
+unpublished_there : {N : ℕ} (first : Opening) (was board : Board N) (h mid : Journal) → TakesRequests first was board h mid → board.published ≡ false
+unpublished_there first was board h mid t = t.same_published ∙ unpublished_is first was h t.fits (ap takes_no_word t.flag)
 
 few_there : {N : ℕ} (first : Opening) (was board : Board N) (h mid : Journal) → TakesRequests first was board h mid → tries_of first mid + tries_ahead first mid ≤ 4
 few_there first was board h mid t =
-    let b = few_between first was h t.fits (sym t.same_beat ∙ beat_there first was board h mid t) in
+    let b = few_between first was h t.fits (sym t.same_published ∙ unpublished_there first was board h mid t) in
     let n = t.settled.passes.tries in let w = t.settled.passes.ahead in omega (arith, b, n, w)
 
 none_left_there : {N : ℕ} (first : Opening) (was board : Board N) (h mid : Journal) → TakesRequests first was board h mid → unobeyed_of mid ≡ []
@@ -246,11 +244,11 @@ took_obeyed : {N : ℕ} (first : Opening) (was board : Board N) (word : Exec) (h
     → board.flags ≡ words.None → BoardWorked first Did was.flags board h (obeyed first word mid)
 took_obeyed first was board word h mid t keeps unowed no_word = record {
   keeps = keeps;
-  rounds = subst (λ b. (Rounds first) b (obeyed first word mid)) (sym beat)
+  rounds = subst (λ b. (Rounds first) b (obeyed first word mid)) (sym unpublished)
       (rounds_behind first (to_obey word) (taken_word word mid) (λ w. (none_there first) was board h mid t (record { stands = w.stands; blocks = w.blocks })) few);
   flags = takes_none board (obeyed first word mid) no_word (free_now first word mid (s.changes ∙ (has_changes_at first was h t.fits t.flag).changes) none_left unowed);
   still = λ e. no_word_left board.flags no_word;
-  beat = λ o e. absurd cc;
+  unpublished = λ o e. absurd cc;
   steps = (obeyed_behind first word h mid s.passes.steps s.passes.are s.passes.inner).steps;
   are = (obeyed_behind first word h mid s.passes.steps s.passes.are s.passes.inner).are;
   inner = (obeyed_behind first word h mid s.passes.steps s.passes.are s.passes.inner).inner;
@@ -262,8 +260,8 @@ took_obeyed first was board word h mid t keeps unowed no_word = record {
     s : HasSettled first h mid
     s = t.settled
 
-    beat : board.beat ≡ Motion
-    beat = beat_there first was board h mid t
+    unpublished : board.published ≡ false
+    unpublished = unpublished_there first was board h mid t
 
     few : tries_of first mid + tries_ahead first mid ≤ 4
     few = few_there first was board h mid t
@@ -287,11 +285,11 @@ took_asked : {N : ℕ} (first : Opening) (was board : Board N) (word : Exec) (h 
     → board.flags ≡ words.Report (to_obey word) → BoardWorked first Did was.flags board h (taken_word word mid)
 took_asked first was board word h mid t keeps owed asks = record {
   keeps = keeps;
-  rounds = subst (λ b. (Rounds first) b (taken_word word mid)) (sym beat)
+  rounds = subst (λ b. (Rounds first) b (taken_word word mid)) (sym unpublished)
       (rounds_still first (taken_word word mid) (λ w. (none_there first) was board h mid t (record { stands = w.stands; blocks = w.blocks })) few);
   flags = subst (λ f. TakesFlags f (taken_word word mid)) (sym asks) (asked_now word mid (s.changes ∙ (has_changes_at first was h t.fits t.flag).changes) (none_left_there first was board h mid t) owed);
   still = λ e. ap takes_no_word asks;
-  beat = λ o e. absurd cc;
+  unpublished = λ o e. absurd cc;
   steps = at_port (took_exec word) ∷ s.passes.steps;
   are = ap (λ (j : Journal). at_port (took_exec word) ∷ j) s.passes.are;
   inner = s.passes.inner;
@@ -303,8 +301,8 @@ took_asked first was board word h mid t keeps owed asks = record {
     s : HasSettled first h mid
     s = t.settled
 
-    beat : board.beat ≡ Motion
-    beat = beat_there first was board h mid t
+    unpublished : board.published ≡ false
+    unpublished = unpublished_there first was board h mid t
 
     few : tries_of first mid + tries_ahead first mid ≤ 4
     few = few_there first was board h mid t
@@ -320,11 +318,11 @@ took_asked first was board word h mid t keeps owed asks = record {
 
 -- the word of requests was taken, and obeyed unless a report is told first
 pub took_requests : {N : ℕ} (first : Opening) (was board : Board N) (word : Exec) (h mid : Journal) → GoingFits first was h → GoingBetween h → was.flags ≡ words.Requests → HasSettled first h mid → Keeps first board (asked first word mid)
-    → board.beat ≡ was.beat → board.flags ≡ flags_behind (owes_report (taken_word word mid)) word → BoardWorked first Did was.flags board h (asked first word mid)
-took_requests first was board word h mid f between flag s keeps same_beat flags = by_owed (owes_report (taken_word word mid)) refl
+    → board.published ≡ was.published → board.flags ≡ flags_behind (owes_report (taken_word word mid)) word → BoardWorked first Did was.flags board h (asked first word mid)
+took_requests first was board word h mid f between flag s keeps same_published flags = by_owed (owes_report (taken_word word mid)) refl
   where
     t : TakesRequests first was board h mid
-    t = record { fits = f; between = between; flag = flag; settled = s; same_beat = same_beat }
+    t = record { fits = f; between = between; flag = flag; settled = s; same_published = same_published }
 
     by_owed : (owed : Bool) → owes_report (taken_word word mid) ≡ owed → BoardWorked first Did was.flags board h (asked first word mid)
     by_owed true e =

@@ -24,8 +24,6 @@ use Rattle.units.specs.Truths.{one_if}
 use Rattle.board_turns.specs.declared.board.Board.{Board}
 use Rattle.board_turns.specs.declared.board.Flags.{Flags}
 use Rattle.board_turns.specs.declared.board.Flags.TheVariants as words
-use Rattle.board_turns.specs.declared.board.Beat.{Beat}
-use Rattle.board_turns.specs.declared.board.Beat.TheVariants.{Motion, Main}
 use Rattle.board_machine.specs.Machines.{Runs}
 use Rattle.board_lines.specs.Inputs.{Reads}
 use Rattle.board_rules.specs.Limiting.{limit_pending}
@@ -94,23 +92,18 @@ pub record KeepsBetween {N : ℕ} (first : Opening) (board : Board N) (h : Journ
   pub unlocked : awaits_unlock first h ≡ false
   pub tries : has_limited h ≡ true → tries_of first h ≤ 1
 
--- it was the last turn that published a piece
-abbrev pub has_published : Beat → Bool
-has_published Motion = false
-has_published Main = true
-
 -- no queued block waits where it would be started by what is next, or since no other block has room, or as a jog
 abbrev pub NoneWaits : Opening → Journal → Type 0
 NoneWaits first h = AreWaiting first h → (is_full first.blocks (plan_of h) || (awaits_motion (left_of first h) || has_jogged h)) ≡ false
 
 -- What holds between two turns, of which the last published a piece, or not. The tries to publish that were counted since the last poll
 -- are few for what comes before the next; they are one more only behind a try that was counted.
-pub record Rounds (first : Opening) (beat : Beat) (h : Journal) : Type 0 where
-  pub waits : has_published beat ≡ true → waits_of h ≡ []
-  pub tried : has_published beat ≡ true → missed_of first h ≡ false
-  pub sent : has_published beat ≡ true → hand_of h ≡ []
+pub record Rounds (first : Opening) (published : Bool) (h : Journal) : Type 0 where
+  pub waits : published ≡ true → waits_of h ≡ []
+  pub tried : published ≡ true → missed_of first h ≡ false
+  pub sent : published ≡ true → hand_of h ≡ []
   pub none_waits : NoneWaits first h
-  pub tries : tries_of first h + tries_ahead first h ≤ 4 + one_if (has_published beat)
+  pub tries : tries_of first h + tries_ahead first h ≤ 4 + one_if published
   pub few : is_counted first h ≡ false → tries_of first h + tries_ahead first h ≤ 4
   pub owed : owes_report h ≡ true → tries_of first h + tries_ahead first h ≤ 4
 
@@ -158,16 +151,16 @@ GoingBetween h = this_turn h ≡ []
 -- What the fields of a board say between two turns. The last one published no piece where words of flags are to be taken.
 pub record EpochFits {N : ℕ} (first : Opening) (board : Board N) (h : Journal) : Type 0 where
   pub keeps : KeepsBetween first board h
-  pub rounds : Rounds first board.beat h
+  pub rounds : Rounds first board.published h
   pub flags : TakesFlags board.flags h
-  pub still : has_published board.beat ≡ true → takes_no_word board.flags ≡ true
+  pub still : board.published ≡ true → takes_no_word board.flags ≡ true
 
 -- and where a turn begins: no reset may be worked
 pub record GoingFits {N : ℕ} (first : Opening) (board : Board N) (h : Journal) : Type 0 where
   pub keeps : Keeps first board h
-  pub rounds : Rounds first board.beat h
+  pub rounds : Rounds first board.published h
   pub flags : TakesFlags board.flags h
-  pub still : has_published board.beat ≡ true → takes_no_word board.flags ≡ true
+  pub still : board.published ≡ true → takes_no_word board.flags ≡ true
 
 -- ---- a board's number
 

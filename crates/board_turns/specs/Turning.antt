@@ -34,10 +34,9 @@ pub use Rattle.board_rules.specs.Within.{AreWorked, MayFinish, PassesNothing, Di
 use Rattle.board_turns.specs.declared.board.Board.{Board}
 use Rattle.board_machine.specs.Machines.{start_motion, limit_motion}
 use Rattle.board_lines.specs.Inputs.{Reads}
-use Rattle.board_turns.specs.declared.board.Beat.TheVariants.{Motion}
 use Rattle.board_turns.specs.declared.board.Flags.{Flags}
 use Rattle.board_turns.specs.declared.board.Flags.TheVariants as words
-use Rattle.board_turns.specs.Boards.{Keeps, Rounds, NoneWaits, TakesFlags, takes_no_word, has_published, changes_left, tries_ahead, number_of}
+use Rattle.board_turns.specs.Boards.{Keeps, Rounds, NoneWaits, TakesFlags, takes_no_word, changes_left, tries_ahead, number_of}
 
 -- ---- what is known
 
@@ -264,6 +263,15 @@ words_awaited greeted f = cond greeted words.Both f
 abbrev pub replanned : Ovr → Journal → Journal
 replanned word h = cond (has_changes word) (did (Override (taken (plan_of h).overrides word)) [] ∷ (at_port (took_ovr word) ∷ h)) (at_port (took_ovr word) ∷ h)
 
+-- No piece was published first: none is in hand or due, or the last turn has published, or one was handed back. What is next may be done
+-- then, and the board's number is no greater.
+pub record IsReadyBehind (first : Opening) (h next : Journal) : Type 0 where
+  pub ready : IsReady first next
+  pub steps : List Step
+  pub are : next ≡ steps ++ h
+  pub inner : list_any ends_turn steps ≡ false
+  pub number : (was : Flags) → number_of first was next ≤ number_of first was h
+
 -- ---- a machine that has stopped
 
 -- the machine has stopped, as a load in this turn told, and a flight knows where
@@ -313,10 +321,10 @@ pub record HasSettled (first : Opening) (h next : Journal) : Type 0 where
 -- Did something moved in the turn, or the board's number fell. It answers a wait only where it did not publish.
 pub record BoardWorked {N : ℕ} (first : Opening) (t : Turn) (was : Flags) (board : Board N) (h next : Journal) : Type 0 where
   pub keeps : Keeps first board next
-  pub rounds : Rounds first board.beat next
+  pub rounds : Rounds first board.published next
   pub flags : TakesFlags board.flags next
-  pub still : has_published board.beat ≡ true → takes_no_word board.flags ≡ true
-  pub beat : (on : On) → t ≡ Wait on → board.beat ≡ Motion
+  pub still : board.published ≡ true → takes_no_word board.flags ≡ true
+  pub unpublished : (on : On) → t ≡ Wait on → board.published ≡ false
   pub steps : List Step
   pub are : next ≡ steps ++ h
   pub inner : list_any ends_turn steps ≡ false

@@ -3,7 +3,7 @@
 ghost use Rattle.std.specs.Prelude.{◌-◌, ◌≤◌, ◌+◌, ◌^◌, ◌≡◌, ◌≢◌, ◌↔◌, ◌<◌, [], ◌∷◌, length, ◌||◌, true, false, None, IfSome, IfNone};
 ghost use Rattle.std.specs.List.{list_any};
 ghost use Rattle.feed_hold.specs.declared.Motion.TheVariants.{Idle};
-ghost use Rattle.outside.specs.declared.Turn.TheVariants.{Done};
+ghost use Rattle.outside.specs.declared.Turn.TheVariants.{Did, Done};
 ghost use Rattle.run_rules.specs.Work.{Outcome};
 ghost use Rattle.run_rules.specs.Work.Task.{ask, tell, pause, normal, finish};
 ghost use Rattle.step_line.specs.Asking.Asked.{a_rest};
@@ -14,10 +14,10 @@ ghost use Rattle.board_epochs.specs.Resets.{MayReset};
 ghost use Rattle.board_rules.specs.Steps.{Journal, port_log, taken_of, left_of, motion_of, has_closed};
 ghost use Rattle.board_rules.specs.Openings.{Opening, first_opening};
 ghost use Rattle.board_rules.specs.Steps.Step.{at_port};
-ghost use Rattle.board_rules.specs.Turns.{this_turn, is_greeted, tells_next, awaits_motion, begins_in, machine_in, needs_motion, flags_taken, found_nothing, has_blocks, is_full, is_locked};
+ghost use Rattle.board_rules.specs.Turns.{this_turn, is_greeted, tells_next, awaits_motion, begins_in, machine_in, needs_motion, found_nothing, has_blocks, is_full, is_locked};
 ghost use Rattle.board_rules.specs.Conduct.{IsNextTask, MayTake, MayPoll};
-ghost use Rattle.board_turns.specs.Boards.{Keeps, EpochFits, GoingFits, GoingTurned, BoardIsOver, GoingBetween, IsFree, TakesFlags, takes_no_word, board_number};
-ghost use Rattle.board_turns.specs.Turning.{IsNextMove, HasPiece, IsReady, MayRun, MayAwait, MayJudge, IsLooked, NeedsNoWait, IsWholeLine, HasPolled, HasStopped, PassesNothing, DidAlone, HasLooked, HasAdded, HasFilled, HasBegun, Tried, HasTried, BoardWorked, IsHeldUp, IsJudged, GoesOn, LetsLines, HasSettled, IsPassed, WorksOn};
+ghost use Rattle.board_turns.specs.Boards.{Keeps, EpochFits, GoingFits, GoingTurned, BoardIsOver, GoingBetween, IsFree, TakesFlags, board_number};
+ghost use Rattle.board_turns.specs.Turning.{HasPiece, IsReady, MayAwait, MayJudge, IsLooked, NeedsNoWait, IsWholeLine, HasPolled, HasStopped, PassesNothing, DidAlone, HasLooked, IsReadyBehind, HasBegun, BoardWorked, IsJudged, GoesOn, LetsLines, IsPassed, WorksOn};
 
 use board_lines::{Answered, Input, jogs_behind};
 use board_machine::Machine;
@@ -27,7 +27,7 @@ use feed_hold::Motion;
 use flight::Flight;
 use line_interpreter::{Interpreter, Todo};
 use outside::{On, Turn};
-use run_rules::Machine as Found;
+use run_rules::Machine as MachineState;
 use serial_ring::ByteIn;
 use step_line::Mark;
 
@@ -42,15 +42,6 @@ pub(crate) enum Flags {
     Report(Option<Exec>),
     /// None.
     None,
-}
-
-/// What the next turn begins with.
-#[derive(Clone, Copy)]
-pub(crate) enum Beat {
-    /// With a piece, where one is in hand or a segment is due.
-    Motion,
-    /// With anything else, since the last turn published a piece.
-    Main,
 }
 
 /// Carries out a job: takes its bytes, begins its lines one at a time, does what they ask for, and answers them.
@@ -70,7 +61,8 @@ pub struct Board<const N: usize> {
     pub(crate) answered: Answered,
     /// The banner is told.
     pub(crate) greeted: bool,
-    pub(crate) beat: Beat,
+    /// The last turn published a piece, so that this one tries none first.
+    pub(crate) published: bool,
     pub(crate) closing: bool,
     /// The last that was accepted of G-code and jogs is a jog.
     pub(crate) jogged: bool,
@@ -81,14 +73,14 @@ pub struct Board<const N: usize> {
 }
 
 /// How a line that is begun finds the machine.
-fn found(motion: Motion) -> Found
+fn machine_in(motion: Motion) -> MachineState
     ensures { result ≡ machine_in motion }
 {
     match motion {
-        Motion::Run => Found::Runs,
-        Motion::Jog => Found::Jogs,
-        Motion::Alarm => Found::Locked,
-        _ => Found::Stands,
+        Motion::Run => MachineState::Runs,
+        Motion::Jog => MachineState::Jogs,
+        Motion::Alarm => MachineState::Locked,
+        _ => MachineState::Stands,
     }
 }
 
@@ -111,7 +103,7 @@ impl<const N: usize> Board<N> {
             taken: 0,
             answered,
             greeted: false,
-            beat: Beat::Motion,
+            published: false,
             closing: false,
             jogged: false,
             alarmed: false,
@@ -119,23 +111,142 @@ impl<const N: usize> Board<N> {
         }
     }
 
+    /// Takes a turn: takes a word of flags behind a line feed and behind each wait, and does what that asks for; else publishes
+    /// a piece; else, or where there was no room for it, does the next thing. At most one thing is published. It answers what it
+    /// waits for where the rules allow nothing, and is done once Bye was told. A turn that answers Did and moves nothing lowers
+    /// the board's number, which is less than 16.
+    ///
+    /// No reset may be worked now. One that was asked for, and not dropped, lets no line begin, and the run isn't closed, until
+    /// it may be.
+    #[inline(always)]
+    pub fn turn<P: EpochPort>(&mut self, port: &mut P) -> Turn
+        requires stands { (rest : P.Rest) × (first : Opening) × (h : Journal) × P.stands port.old rest first (port_log h) × EpochFits first self.old h × GoingBetween h × (MayReset first h → ⊥) }
+        ensures goes_on { (rest : P.Rest) (first : Opening) (h : Journal) → P.stands port.old rest first (port_log h) → EpochFits first self.old h → GoingBetween h → (MayReset first h → ⊥)
+            → (next : Journal) × P.stands port.new rest first (port_log next) × EpochFits first self.new next × GoingBetween next × GoingTurned first result self.old self.new h next }
+        ensures done { (result ≡ Done) ↔ BoardIsOver self.old }
+        ensures still { BoardIsOver self.old → (self.new ≡ self.old) × (port.new ≡ port.old) }
+        ensures few { (first : Opening) (h : Journal) → EpochFits first self.old h → board_number first self.old h < 16 }
+    {
+        let turn = self.work(port);
+        if let Turn::Wait(_) = turn {
+            self.await_words();
+        }
+        turn
+    }
+
+    /// Goes through the phases of a turn, and does the first that has something to do: obey, publish a piece, finish a task, begin a
+    /// line, take a byte. Where there is no room for the piece, the next phases come, too.
+    #[inline(always)]
+    fn work<P: EpochPort>(&mut self, port: &mut P) -> Turn
+        requires stands { (rest : P.Rest) × (first : Opening) × (h : Journal) × P.stands port.old rest first (port_log h) × GoingFits first self.old h × GoingBetween h }
+        ensures goes_on { (rest : P.Rest) (first : Opening) (h : Journal) → P.stands port.old rest first (port_log h) → GoingFits first self.old h → GoingBetween h
+            → WorksOn first (P.stands port.new rest first) result self.old.flags self.new h }
+        ensures done { (result ≡ Done) ↔ BoardIsOver self.old }
+        ensures still { BoardIsOver self.old → (self.new ≡ self.old) × (port.new ≡ port.old) }
+    {
+        if self.is_over() {
+            return Turn::Done;
+        }
+        let Flags::None = self.flags else {
+            return self.obey(port);
+        };
+        if self.publish_first(port) {
+            return Turn::Did;
+        }
+        self.serve_lines(port)
+    }
+
     /// Whether the run is closed, and nothing is left to do.
     #[inline]
-    pub fn is_over(&self) -> bool
+    fn is_over(&self) -> bool
         ensures { (result ≡ true) ↔ BoardIsOver self.now }
     {
         self.closing && self.lines.is_done()
     }
 
-    /// Whether what is next waits for the motion.
-    #[inline]
-    pub(crate) fn awaits_motion(&self) -> bool
-        ensures { result ≡ awaits_motion self.now.lines.left }
+    /// Obeys: takes the word of flags that is next, or tells the report that is owed, and obeys the word that waits for that.
+    #[inline(always)]
+    fn obey<P: EpochPort>(&mut self, port: &mut P) -> Turn
+        requires stands { (rest : P.Rest) × (first : Opening) × (h : Journal) × P.stands port.old rest first (port_log h) × GoingFits first self.old h × GoingBetween h }
+        requires some { self.old.flags ≢ Flags.None }
+        ensures goes_on { (rest : P.Rest) (first : Opening) (h : Journal) → P.stands port.old rest first (port_log h) → GoingFits first self.old h → GoingBetween h
+            → WorksOn first (P.stands port.new rest first) result self.old.flags self.new h }
+        ensures going { result ≢ Done }
     {
-        matches!(
-            self.lines.todo(),
-            Todo::Rest | Todo::Pause | Todo::Normal | Todo::Finish | Todo::Halt
-        )
+        match self.flags {
+            Flags::Both => {
+                self.take_changes(port);
+                self.flags = Flags::Requests;
+                Turn::Did
+            }
+            Flags::Requests => {
+                self.take_requests(port);
+                Turn::Did
+            }
+            Flags::Report(word) => {
+                self.published = false;
+                self.report(port, word)
+            }
+            Flags::None => unreachable!(),
+        }
+    }
+
+    /// Whether the turn begins with a piece: one is in hand, or a segment is due, and the last turn published none.
+    #[inline]
+    fn begins_with_piece(&self) -> bool
+        ensures yes { (first : Opening) (h : Journal) → Keeps first self.now h → result ≡ true → (self.now.published ≡ false) × HasPiece first h }
+        ensures no { (first : Opening) (h : Journal) → Keeps first self.now h → result ≡ false → self.now.published ≡ false → HasPiece first h → ⊥ }
+    {
+        !self.published && self.has_piece()
+    }
+
+    /// Publishes what is in hand or due, where there is room for it, and the last turn published none. Answers whether it is published.
+    #[inline(always)]
+    fn publish_first<P: EpochPort>(&mut self, port: &mut P) -> bool
+        requires stands { (rest : P.Rest) × (first : Opening) × (h : Journal) × P.stands port.old rest first (port_log h) × GoingFits first self.old h × GoingBetween h }
+        requires flags { self.old.flags ≡ Flags.None }
+        ensures published { (rest : P.Rest) (first : Opening) (h : Journal) → P.stands port.old rest first (port_log h) → GoingFits first self.old h → GoingBetween h → result ≡ true
+            → WorksOn first (P.stands port.new rest first) Did self.old.flags self.new h }
+        ensures none { (rest : P.Rest) (first : Opening) (h : Journal) → P.stands port.old rest first (port_log h) → GoingFits first self.old h → GoingBetween h → result ≡ false
+            → (next : Journal) × P.stands port.new rest first (port_log next) × Keeps first self.new next × IsReadyBehind first h next }
+        ensures unpublished { result ≡ false → self.new.published ≡ false }
+        ensures same { result ≡ false → self.new ≡ record self.old { machine = self.new.machine; flight = self.new.flight; published = self.new.published } }
+    {
+        if !self.begins_with_piece() {
+            self.published = false;
+            return false;
+        }
+        if !self.publish_next(port) {
+            return false;
+        }
+        self.fill();
+        self.published = true;
+        true
+    }
+
+    /// Serves the lines: finishes a task, begins a line, or takes a byte. Where what is next is held up it waits, and where a soft
+    /// limit stops the machine, or has stopped it, the run is ended.
+    #[inline(always)]
+    fn serve_lines<P: EpochPort>(&mut self, port: &mut P) -> Turn
+        requires stands { (rest : P.Rest) × (first : Opening) × (h : Journal) × P.stands port.old rest first (port_log h) × Keeps first self.old h × IsReady first h }
+        requires open { self.old.lines.left ≡ [] → self.old.closing ≡ false }
+        requires unpublished { self.old.published ≡ false }
+        requires flags { self.old.flags ≡ Flags.None }
+        requires unreset { tells_next self.old.lines.left ≡ false → self.old.resetting ≡ false }
+        ensures goes_on { (rest : P.Rest) (first : Opening) (h : Journal) → P.stands port.old rest first (port_log h) → Keeps first self.old h → IsReady first h
+            → WorksOn first (P.stands port.new rest first) result self.old.flags self.new h }
+        ensures going { result ≢ Done }
+    {
+        if self.machine.is_halting() && self.is_held_up() {
+            return self.halt(port);
+        }
+        if self.machine.is_limited() {
+            return self.end_limited(port);
+        }
+        if self.lines.is_done() {
+            return self.next_line(port);
+        }
+        self.finish_task(port)
     }
 
     /// Whether what is next does not go on while the machine is held, or slows down for that.
@@ -151,11 +262,44 @@ impl<const N: usize> Board<N> {
         }
     }
 
+    /// Whether what is next waits for the motion.
+    #[inline]
+    pub(crate) fn awaits_motion(&self) -> bool
+        ensures { result ≡ awaits_motion self.now.lines.left }
+    {
+        matches!(
+            self.lines.todo(),
+            Todo::Rest | Todo::Pause | Todo::Normal | Todo::Finish | Todo::Halt
+        )
+    }
+
+    /// Finishes a task of the line, once the motion has stopped where that is waited for. It is not held up.
+    #[inline(always)]
+    fn finish_task<P: EpochPort>(&mut self, port: &mut P) -> Turn
+        requires stands { (rest : P.Rest) × (first : Opening) × (h : Journal) × P.stands port.old rest first (port_log h) × Keeps first self.old h × IsReady first h × GoesOn first h }
+        requires open { self.old.lines.left ≡ [] → self.old.closing ≡ false }
+        requires unpublished { self.old.published ≡ false }
+        requires flags { self.old.flags ≡ Flags.None }
+        requires unreset { tells_next self.old.lines.left ≡ false → self.old.resetting ≡ false }
+        ensures goes_on { (rest : P.Rest) (first : Opening) (h : Journal) → P.stands port.old rest first (port_log h) → Keeps first self.old h → IsReady first h → GoesOn first h
+            → WorksOn first (P.stands port.new rest first) result self.old.flags self.new h }
+        ensures going { result ≢ Done }
+    {
+        if !self.awaits_motion() {
+            return self.do_task(port);
+        }
+        if let Some(turn) = self.await_motion(port) {
+            return turn;
+        }
+        self.pass();
+        self.do_task(port)
+    }
+
     /// Waits until nothing is left to run, and each tick is done; then the cycle is over. Until then it answers what the turn answers.
     #[inline(never)]
     fn await_motion<P: EpochPort>(&mut self, port: &mut P) -> Option<Turn>
         requires stands { (rest : P.Rest) × (first : Opening) × (h : Journal) × P.stands port.old rest first (port_log h) × Keeps first self.old h × MayAwait first h }
-        requires beat { self.old.beat ≡ Beat.Motion }
+        requires unpublished { self.old.published ≡ false }
         requires flags { self.old.flags ≡ Flags.None }
         ensures waits { IfSome result (λ t. (rest : P.Rest) (first : Opening) (h : Journal) → P.stands port.old rest first (port_log h) → Keeps first self.old h → MayAwait first h
             → WorksOn first (P.stands port.new rest first) t self.old.flags self.new h) }
@@ -201,10 +345,33 @@ impl<const N: usize> Board<N> {
         }
     }
 
+    /// Does the task that is next, where that is no rest, nor the end before the machine has stopped.
+    #[inline(never)]
+    fn do_task<P: EpochPort>(&mut self, port: &mut P) -> Turn
+        requires stands { (rest : P.Rest) × (first : Opening) × (h : Journal) × P.stands port.old rest first (port_log h) × Keeps first self.old h × IsReady first h × GoesOn first h × NeedsNoWait first h }
+        requires open { self.old.lines.left ≡ [] → self.old.closing ≡ false }
+        requires unpublished { self.old.published ≡ false }
+        requires flags { self.old.flags ≡ Flags.None }
+        requires unreset { tells_next self.old.lines.left ≡ false → self.old.resetting ≡ false }
+        ensures goes_on { (rest : P.Rest) (first : Opening) (h : Journal) → P.stands port.old rest first (port_log h) → Keeps first self.old h → IsReady first h → GoesOn first h → NeedsNoWait first h
+            → WorksOn first (P.stands port.new rest first) result self.old.flags self.new h }
+        ensures going { result ≢ Done }
+    {
+        match self.lines.todo() {
+            Todo::Nothing => self.next_line(port),
+            Todo::Tell => self.tell(port),
+            Todo::Move => self.go(port),
+            Todo::Mark(mark) => self.mark(port, mark),
+            Todo::Pause => self.pause(),
+            Todo::Finish => self.finish(port),
+            Todo::Rest | Todo::Normal | Todo::Halt => unreachable!(),
+        }
+    }
+
     /// The machine, which has stopped, is held for the pause that is next.
     fn pause(&mut self) -> Turn
         requires stands { (first : Opening) × (h : Journal) × Keeps first self.old h × IsReady first h × HasStopped first h × IsNextTask first pause h }
-        requires beat { self.old.beat ≡ Beat.Motion }
+        requires unpublished { self.old.published ≡ false }
         requires flags { self.old.flags ≡ Flags.None }
         ensures goes_on { (first : Opening) (h : Journal) → Keeps first self.old h → IsReady first h → HasStopped first h → IsNextTask first pause h
             → (next : Journal) × (port_log next ≡ port_log h) × BoardWorked first result Flags.None self.new h next }
@@ -216,93 +383,23 @@ impl<const N: usize> Board<N> {
         Turn::Did
     }
 
-    /// The byte that was taken belongs to the line that is not begun, or ends it.
+    /// Begins the next line where it was taken whole, and else takes a byte of it. Nothing is left of the line before.
     #[inline(always)]
-    fn keep(&mut self, byte: u8)
-        requires flags { self.old.flags ≡ Flags.None }
-        requires few { self.old.taken < 2 ^ 31 }
-        ensures kept { (first : Opening) (h : Journal) → Keeps first self.old h → MayTake first h → first.lines + length (taken_of h) < 2 ^ 31 → Keeps first self.new (at_port (took byte) ∷ h) }
-        ensures flags { (first : Opening) (h : Journal) → IsFree h → is_greeted h ≡ true → TakesFlags self.new.flags (at_port (took byte) ∷ h) }
-        ensures same { self.new ≡ record self.old { input = self.new.input; flags = self.new.flags; taken = self.new.taken } }
-    {
-        self.taken += 1;
-        if byte == b'\n' {
-            self.input.finish();
-            self.flags = Flags::Both;
-        } else {
-            self.input.push(byte);
-        }
-    }
-
-    /// Starts the queued blocks that wait where a poll found no byte, and tries to publish the first segment of them.
-    fn run_waiting<P: EpochPort>(&mut self, port: &mut P) -> Turn
-        requires stands { (rest : P.Rest) × (first : Opening) × (h : Journal) × P.stands port.old rest first (port_log h) × Keeps first self.old h × HasPolled first h }
-        requires idle { self.old.machine.hold.motion ≡ Idle }
-        requires blocks { has_blocks self.old.machine.plan.blocks ≡ true }
-        requires beat { self.old.beat ≡ Beat.Motion }
-        requires flags { self.old.flags ≡ Flags.None }
-        ensures goes_on { (rest : P.Rest) (first : Opening) (h : Journal) → P.stands port.old rest first (port_log h) → Keeps first self.old h → HasPolled first h
-            → WorksOn first (P.stands port.new rest first) result self.old.flags self.new h }
-        ensures going { result ≢ Done }
-    {
-        self.machine.start(self.jogged);
-        self.run(port)
-    }
-
-    /// What is done where a poll found no byte: queued blocks start.
-    #[inline(never)]
-    fn without_byte<P: EpochPort>(&mut self, port: &mut P) -> Turn
-        requires stands { (rest : P.Rest) × (first : Opening) × (h : Journal) × P.stands port.old rest first (port_log h) × Keeps first self.old h × HasPolled first h }
-        requires beat { self.old.beat ≡ Beat.Motion }
-        requires flags { self.old.flags ≡ Flags.None }
-        ensures goes_on { (rest : P.Rest) (first : Opening) (h : Journal) → P.stands port.old rest first (port_log h) → Keeps first self.old h → HasPolled first h → list_any found_nothing (this_turn h) ≡ true
-            → WorksOn first (P.stands port.new rest first) result self.old.flags self.new h }
-        ensures going { result ≢ Done }
-    {
-        if !self.machine.is_waiting() {
-            return Turn::Wait(On::Byte);
-        }
-        self.run_waiting(port)
-    }
-
-    /// What is done where a poll found the link closed: queued blocks start, and where none waits the run is closed.
-    #[inline(never)]
-    fn close<P: EpochPort>(&mut self, port: &mut P) -> Turn
-        requires stands { (rest : P.Rest) × (first : Opening) × (h : Journal) × P.stands port.old rest first (port_log h) × Keeps first self.old h × HasPolled first h × (has_closed h ≡ true) }
-        requires beat { self.old.beat ≡ Beat.Motion }
+    pub(crate) fn next_line<P: EpochPort>(&mut self, port: &mut P) -> Turn
+        requires stands { (rest : P.Rest) × (first : Opening) × (h : Journal) × P.stands port.old rest first (port_log h) × Keeps first self.old h × IsReady first h × LetsLines first h }
+        requires none { self.old.lines.left ≡ [] }
+        requires open { self.old.closing ≡ false }
+        requires unpublished { self.old.published ≡ false }
         requires flags { self.old.flags ≡ Flags.None }
         requires unreset { self.old.resetting ≡ false }
-        ensures goes_on { (rest : P.Rest) (first : Opening) (h : Journal) → P.stands port.old rest first (port_log h) → Keeps first self.old h → HasPolled first h → has_closed h ≡ true
+        ensures goes_on { (rest : P.Rest) (first : Opening) (h : Journal) → P.stands port.old rest first (port_log h) → Keeps first self.old h → IsReady first h → LetsLines first h
             → WorksOn first (P.stands port.new rest first) result self.old.flags self.new h }
         ensures going { result ≢ Done }
     {
-        if self.machine.is_waiting() {
-            return self.run_waiting(port);
+        if self.input.whole {
+            return self.begin_line(port);
         }
-        self.lines.close();
-        self.closing = true;
-        Turn::Did
-    }
-
-    /// Polls for the next byte.
-    #[inline(always)]
-    fn poll<P: EpochPort>(&mut self, port: &mut P) -> Turn
-        requires stands { (rest : P.Rest) × (first : Opening) × (h : Journal) × P.stands port.old rest first (port_log h) × Keeps first self.old h × IsReady first h × MayPoll first h }
-        requires beat { self.old.beat ≡ Beat.Motion }
-        requires flags { self.old.flags ≡ Flags.None }
-        requires unreset { self.old.resetting ≡ false }
-        ensures goes_on { (rest : P.Rest) (first : Opening) (h : Journal) → P.stands port.old rest first (port_log h) → Keeps first self.old h → IsReady first h → MayPoll first h
-            → WorksOn first (P.stands port.new rest first) result self.old.flags self.new h }
-        ensures going { result ≢ Done }
-    {
-        match port.byte() {
-            ByteIn::Byte(byte) => {
-                self.keep(byte);
-                Turn::Did
-            }
-            ByteIn::Empty => self.without_byte(port),
-            ByteIn::Closed => self.close(port),
-        }
+        self.take_byte(port)
     }
 
     /// Looks how many ticks are done. Where nothing is left to run, and each is done, the cycle is over.
@@ -340,7 +437,7 @@ impl<const N: usize> Board<N> {
     {
         let accepted = self
             .lines
-            .judge(&self.input.kept, found(self.machine.hold.motion));
+            .judge(&self.input.kept, machine_in(self.machine.hold.motion));
         self.jogged = jogs_behind(accepted, self.jogged);
         self.input.clear();
     }
@@ -365,9 +462,9 @@ impl<const N: usize> Board<N> {
 
     /// Begins the line that was taken whole, and tells its first reply where that is next. Queued blocks start before a `$` line.
     #[inline(never)]
-    fn begin<P: EpochPort>(&mut self, port: &mut P) -> Turn
+    fn begin_line<P: EpochPort>(&mut self, port: &mut P) -> Turn
         requires stands { (rest : P.Rest) × (first : Opening) × (h : Journal) × P.stands port.old rest first (port_log h) × Keeps first self.old h × IsReady first h × IsWholeLine first h }
-        requires beat { self.old.beat ≡ Beat.Motion }
+        requires unpublished { self.old.published ≡ false }
         requires flags { self.old.flags ≡ Flags.None }
         requires unreset { self.old.resetting ≡ false }
         ensures goes_on { (rest : P.Rest) (first : Opening) (h : Journal) → P.stands port.old rest first (port_log h) → Keeps first self.old h → IsReady first h → IsWholeLine first h
@@ -382,201 +479,92 @@ impl<const N: usize> Board<N> {
         Turn::Did
     }
 
-    /// What is done where nothing is left of the line before.
+    /// The byte that was taken belongs to the line that is not begun, or ends it.
     #[inline(always)]
-    pub(crate) fn next_line<P: EpochPort>(&mut self, port: &mut P) -> Turn
-        requires stands { (rest : P.Rest) × (first : Opening) × (h : Journal) × P.stands port.old rest first (port_log h) × Keeps first self.old h × IsReady first h × LetsLines first h }
-        requires none { self.old.lines.left ≡ [] }
-        requires open { self.old.closing ≡ false }
-        requires beat { self.old.beat ≡ Beat.Motion }
+    fn keep(&mut self, byte: u8)
+        requires flags { self.old.flags ≡ Flags.None }
+        requires few { self.old.taken < 2 ^ 31 }
+        ensures kept { (first : Opening) (h : Journal) → Keeps first self.old h → MayTake first h → first.lines + length (taken_of h) < 2 ^ 31 → Keeps first self.new (at_port (took byte) ∷ h) }
+        ensures flags { (first : Opening) (h : Journal) → IsFree h → is_greeted h ≡ true → TakesFlags self.new.flags (at_port (took byte) ∷ h) }
+        ensures same { self.new ≡ record self.old { input = self.new.input; flags = self.new.flags; taken = self.new.taken } }
+    {
+        self.taken += 1;
+        if byte == b'\n' {
+            self.input.finish();
+            self.flags = Flags::Both;
+        } else {
+            self.input.push(byte);
+        }
+    }
+
+    /// Starts the queued blocks that wait where a poll found no byte, and tries to publish the first segment of them.
+    fn run_waiting<P: EpochPort>(&mut self, port: &mut P) -> Turn
+        requires stands { (rest : P.Rest) × (first : Opening) × (h : Journal) × P.stands port.old rest first (port_log h) × Keeps first self.old h × HasPolled first h }
+        requires idle { self.old.machine.hold.motion ≡ Idle }
+        requires blocks { has_blocks self.old.machine.plan.blocks ≡ true }
+        requires unpublished { self.old.published ≡ false }
+        requires flags { self.old.flags ≡ Flags.None }
+        ensures goes_on { (rest : P.Rest) (first : Opening) (h : Journal) → P.stands port.old rest first (port_log h) → Keeps first self.old h → HasPolled first h
+            → WorksOn first (P.stands port.new rest first) result self.old.flags self.new h }
+        ensures going { result ≢ Done }
+    {
+        self.machine.start(self.jogged);
+        self.run(port)
+    }
+
+    /// What is done where a poll found no byte: queued blocks start.
+    #[inline(never)]
+    fn without_byte<P: EpochPort>(&mut self, port: &mut P) -> Turn
+        requires stands { (rest : P.Rest) × (first : Opening) × (h : Journal) × P.stands port.old rest first (port_log h) × Keeps first self.old h × HasPolled first h }
+        requires unpublished { self.old.published ≡ false }
+        requires flags { self.old.flags ≡ Flags.None }
+        ensures goes_on { (rest : P.Rest) (first : Opening) (h : Journal) → P.stands port.old rest first (port_log h) → Keeps first self.old h → HasPolled first h → list_any found_nothing (this_turn h) ≡ true
+            → WorksOn first (P.stands port.new rest first) result self.old.flags self.new h }
+        ensures going { result ≢ Done }
+    {
+        if !self.machine.is_waiting() {
+            return Turn::Wait(On::Byte);
+        }
+        self.run_waiting(port)
+    }
+
+    /// What is done where a poll found the link closed: queued blocks start, and where none waits the run is closed.
+    #[inline(never)]
+    fn close<P: EpochPort>(&mut self, port: &mut P) -> Turn
+        requires stands { (rest : P.Rest) × (first : Opening) × (h : Journal) × P.stands port.old rest first (port_log h) × Keeps first self.old h × HasPolled first h × (has_closed h ≡ true) }
+        requires unpublished { self.old.published ≡ false }
         requires flags { self.old.flags ≡ Flags.None }
         requires unreset { self.old.resetting ≡ false }
-        ensures goes_on { (rest : P.Rest) (first : Opening) (h : Journal) → P.stands port.old rest first (port_log h) → Keeps first self.old h → IsReady first h → LetsLines first h
+        ensures goes_on { (rest : P.Rest) (first : Opening) (h : Journal) → P.stands port.old rest first (port_log h) → Keeps first self.old h → HasPolled first h → has_closed h ≡ true
             → WorksOn first (P.stands port.new rest first) result self.old.flags self.new h }
         ensures going { result ≢ Done }
     {
-        if self.input.whole {
-            return self.begin(port);
+        if self.machine.is_waiting() {
+            return self.run_waiting(port);
         }
-        self.poll(port)
+        self.lines.close();
+        self.closing = true;
+        Turn::Did
     }
 
-    /// Does what is next, where that is no rest, nor the end before the machine has stopped.
-    #[inline(never)]
-    fn do_next<P: EpochPort>(&mut self, port: &mut P) -> Turn
-        requires stands { (rest : P.Rest) × (first : Opening) × (h : Journal) × P.stands port.old rest first (port_log h) × Keeps first self.old h × IsReady first h × GoesOn first h × NeedsNoWait first h }
-        requires open { self.old.lines.left ≡ [] → self.old.closing ≡ false }
-        requires beat { self.old.beat ≡ Beat.Motion }
-        requires flags { self.old.flags ≡ Flags.None }
-        requires unreset { tells_next self.old.lines.left ≡ false → self.old.resetting ≡ false }
-        ensures goes_on { (rest : P.Rest) (first : Opening) (h : Journal) → P.stands port.old rest first (port_log h) → Keeps first self.old h → IsReady first h → GoesOn first h → NeedsNoWait first h
-            → WorksOn first (P.stands port.new rest first) result self.old.flags self.new h }
-        ensures going { result ≢ Done }
-    {
-        match self.lines.todo() {
-            Todo::Nothing => self.next_line(port),
-            Todo::Tell => self.tell(port),
-            Todo::Move => self.go(port),
-            Todo::Mark(mark) => self.mark(port, mark),
-            Todo::Pause => self.pause(),
-            Todo::Finish => self.finish(port),
-            Todo::Rest | Todo::Normal | Todo::Halt => unreachable!(),
-        }
-    }
-
-    /// Does what is next, once the motion has stopped where that is waited for. It is not held up.
+    /// Takes the next byte of the line, if one is there: polls for it.
     #[inline(always)]
-    fn proceed<P: EpochPort>(&mut self, port: &mut P) -> Turn
-        requires stands { (rest : P.Rest) × (first : Opening) × (h : Journal) × P.stands port.old rest first (port_log h) × Keeps first self.old h × IsReady first h × GoesOn first h }
-        requires open { self.old.lines.left ≡ [] → self.old.closing ≡ false }
-        requires beat { self.old.beat ≡ Beat.Motion }
+    fn take_byte<P: EpochPort>(&mut self, port: &mut P) -> Turn
+        requires stands { (rest : P.Rest) × (first : Opening) × (h : Journal) × P.stands port.old rest first (port_log h) × Keeps first self.old h × IsReady first h × MayPoll first h }
+        requires unpublished { self.old.published ≡ false }
         requires flags { self.old.flags ≡ Flags.None }
-        requires unreset { tells_next self.old.lines.left ≡ false → self.old.resetting ≡ false }
-        ensures goes_on { (rest : P.Rest) (first : Opening) (h : Journal) → P.stands port.old rest first (port_log h) → Keeps first self.old h → IsReady first h → GoesOn first h
+        requires unreset { self.old.resetting ≡ false }
+        ensures goes_on { (rest : P.Rest) (first : Opening) (h : Journal) → P.stands port.old rest first (port_log h) → Keeps first self.old h → IsReady first h → MayPoll first h
             → WorksOn first (P.stands port.new rest first) result self.old.flags self.new h }
         ensures going { result ≢ Done }
     {
-        if self.lines.is_done() {
-            return self.next_line(port);
-        }
-        if !self.awaits_motion() {
-            return self.do_next(port);
-        }
-        if let Some(turn) = self.await_motion(port) {
-            return turn;
-        }
-        self.pass();
-        self.do_next(port)
-    }
-
-    /// Does what is next, or waits where that is held up. Where a soft limit stops the machine, or has stopped it, the run is ended.
-    #[inline(always)]
-    fn main<P: EpochPort>(&mut self, port: &mut P) -> Turn
-        requires stands { (rest : P.Rest) × (first : Opening) × (h : Journal) × P.stands port.old rest first (port_log h) × Keeps first self.old h × IsReady first h }
-        requires open { self.old.lines.left ≡ [] → self.old.closing ≡ false }
-        requires beat { self.old.beat ≡ Beat.Motion }
-        requires flags { self.old.flags ≡ Flags.None }
-        requires unreset { tells_next self.old.lines.left ≡ false → self.old.resetting ≡ false }
-        ensures goes_on { (rest : P.Rest) (first : Opening) (h : Journal) → P.stands port.old rest first (port_log h) → Keeps first self.old h → IsReady first h
-            → WorksOn first (P.stands port.new rest first) result self.old.flags self.new h }
-        ensures going { result ≢ Done }
-    {
-        if self.machine.is_halting() && self.is_held_up() {
-            return self.halt(port);
-        }
-        if self.machine.is_limited() {
-            return self.end_limited(port);
-        }
-        self.proceed(port)
-    }
-
-    /// Whether the turn begins with a piece: one is in hand, or a segment is due, and the last turn published none.
-    #[inline]
-    fn begins_with_piece(&self) -> bool
-        ensures yes { (first : Opening) (h : Journal) → Keeps first self.now h → result ≡ true → (self.now.beat ≡ Beat.Motion) × HasPiece first h }
-        ensures no { (first : Opening) (h : Journal) → Keeps first self.now h → result ≡ false → self.now.beat ≡ Beat.Motion → HasPiece first h → ⊥ }
-    {
-        matches!(self.beat, Beat::Motion) && self.has_piece()
-    }
-
-    /// Publishes what is in hand or due, and where there is no room for it does what is next. No report is owed.
-    fn publish_first<P: EpochPort>(&mut self, port: &mut P) -> Turn
-        requires stands { (rest : P.Rest) × (first : Opening) × (h : Journal) × P.stands port.old rest first (port_log h) × GoingFits first self.old h × GoingBetween h × HasPiece first h }
-        requires open { self.old.lines.left ≡ [] → self.old.closing ≡ false }
-        requires beat { self.old.beat ≡ Beat.Motion }
-        requires flags { self.old.flags ≡ Flags.None }
-        ensures goes_on { (rest : P.Rest) (first : Opening) (h : Journal) → P.stands port.old rest first (port_log h) → GoingFits first self.old h → GoingBetween h → HasPiece first h
-            → WorksOn first (P.stands port.new rest first) result self.old.flags self.new h }
-        ensures going { result ≢ Done }
-    {
-        let published = self.publish_next(port);
-        if published {
-            self.fill();
-            self.beat = Beat::Main;
-            return Turn::Did;
-        }
-        self.main(port)
-    }
-
-    /// Takes no word of flags: tells a report that is owed, publishes a piece, or does what is next.
-    #[inline(always)]
-    fn go_on<P: EpochPort>(&mut self, port: &mut P) -> Turn
-        requires stands { (rest : P.Rest) × (first : Opening) × (h : Journal) × P.stands port.old rest first (port_log h) × GoingFits first self.old h × GoingBetween h }
-        requires open { self.old.lines.left ≡ [] → self.old.closing ≡ false }
-        requires flags { takes_no_word self.old.flags ≡ true }
-        ensures goes_on { (rest : P.Rest) (first : Opening) (h : Journal) → P.stands port.old rest first (port_log h) → GoingFits first self.old h → GoingBetween h
-            → WorksOn first (P.stands port.new rest first) result self.old.flags self.new h }
-        ensures going { result ≢ Done }
-    {
-        if let Flags::Report(word) = self.flags {
-            self.beat = Beat::Motion;
-            return self.report(port, word);
-        }
-        if self.begins_with_piece() {
-            return self.publish_first(port);
-        }
-        self.beat = Beat::Motion;
-        self.main(port)
-    }
-
-    /// Takes a word of flags where one is to be taken, and else goes on.
-    #[inline(always)]
-    fn take_or_go_on<P: EpochPort>(&mut self, port: &mut P) -> Turn
-        requires stands { (rest : P.Rest) × (first : Opening) × (h : Journal) × P.stands port.old rest first (port_log h) × GoingFits first self.old h × GoingBetween h }
-        requires open { self.old.lines.left ≡ [] → self.old.closing ≡ false }
-        ensures goes_on { (rest : P.Rest) (first : Opening) (h : Journal) → P.stands port.old rest first (port_log h) → GoingFits first self.old h → GoingBetween h
-            → WorksOn first (P.stands port.new rest first) result self.old.flags self.new h }
-        ensures going { result ≢ Done }
-    {
-        match self.flags {
-            Flags::Both => {
-                self.take_changes(port);
-                self.flags = Flags::Requests;
+        match port.byte() {
+            ByteIn::Byte(byte) => {
+                self.keep(byte);
                 Turn::Did
             }
-            Flags::Requests => {
-                self.take_requests(port);
-                Turn::Did
-            }
-            Flags::Report(_) | Flags::None => self.go_on(port),
+            ByteIn::Empty => self.without_byte(port),
+            ByteIn::Closed => self.close(port),
         }
-    }
-
-    /// Does what a turn does.
-    #[inline(always)]
-    fn work<P: EpochPort>(&mut self, port: &mut P) -> Turn
-        requires stands { (rest : P.Rest) × (first : Opening) × (h : Journal) × P.stands port.old rest first (port_log h) × GoingFits first self.old h × GoingBetween h }
-        ensures goes_on { (rest : P.Rest) (first : Opening) (h : Journal) → P.stands port.old rest first (port_log h) → GoingFits first self.old h → GoingBetween h
-            → WorksOn first (P.stands port.new rest first) result self.old.flags self.new h }
-        ensures done { (result ≡ Done) ↔ BoardIsOver self.old }
-        ensures still { BoardIsOver self.old → (self.new ≡ self.old) × (port.new ≡ port.old) }
-    {
-        if self.is_over() {
-            return Turn::Done;
-        }
-        self.take_or_go_on(port)
-    }
-
-    /// Takes a turn: takes a word of flags behind a line feed and behind each wait, and does what that asks for; else publishes
-    /// a piece; else, or where there was no room for it, does the next thing. At most one thing is published. It answers what it
-    /// waits for where the rules allow nothing, and is done once Bye was told. A turn that answers Did and moves nothing lowers
-    /// the board's number, which is less than 16.
-    ///
-    /// No reset may be worked now. One that was asked for, and not dropped, lets no line begin, and the run isn't closed, until
-    /// it may be.
-    #[inline(always)]
-    pub fn turn<P: EpochPort>(&mut self, port: &mut P) -> Turn
-        requires stands { (rest : P.Rest) × (first : Opening) × (h : Journal) × P.stands port.old rest first (port_log h) × EpochFits first self.old h × GoingBetween h × (MayReset first h → ⊥) }
-        ensures goes_on { (rest : P.Rest) (first : Opening) (h : Journal) → P.stands port.old rest first (port_log h) → EpochFits first self.old h → GoingBetween h → (MayReset first h → ⊥)
-            → (next : Journal) × P.stands port.new rest first (port_log next) × EpochFits first self.new next × GoingBetween next × GoingTurned first result self.old self.new h next }
-        ensures done { (result ≡ Done) ↔ BoardIsOver self.old }
-        ensures still { BoardIsOver self.old → (self.new ≡ self.old) × (port.new ≡ port.old) }
-        ensures few { (first : Opening) (h : Journal) → EpochFits first self.old h → board_number first self.old h < 16 }
-    {
-        let turn = self.work(port);
-        if let Turn::Wait(_) = turn {
-            self.await_words();
-        }
-        turn
     }
 }

@@ -1,6 +1,6 @@
 //! How a board takes its words of flags, and waits for a machine that is to be held, or is held.
 
-ghost use Rattle.std.specs.Prelude.{◌≡◌, ◌≢◌, ◌∷◌, [], true, false};
+ghost use Rattle.std.specs.Prelude.{◌≡◌, ◌≢◌, ◌∷◌, true, false};
 ghost use Rattle.code_table.specs.declared.flags.Exec.{Exec as AnyExec};
 ghost use Rattle.code_table.specs.declared.flags.Ovr.{Ovr as AnyOvr};
 ghost use Rattle.feed_hold.specs.declared.Motion.TheVariants.{Held};
@@ -14,7 +14,7 @@ ghost use Rattle.board_rules.specs.Steps.Step.{at_port};
 ghost use Rattle.board_rules.specs.Turns.{is_greeted, owes_report, has_jog_to_start};
 ghost use Rattle.board_turns.specs.Turning.{HasPiece, IsHeldUp, HasSettled, asked, flags_behind, replanned, words_awaited, WorksOn};
 
-use crate::board::{Beat, Board, Flags};
+use crate::board::{Board, Flags};
 use crate::reports::{asks_report, asks_reset, to_obey};
 use bitflags::Flags as _;
 use code_table::Exec;
@@ -108,7 +108,7 @@ impl<const N: usize> Board<N> {
     pub(crate) fn await_stop<P: EpochPort>(&mut self, port: &mut P) -> Turn
         requires stands { (rest : P.Rest) × (first : Opening) × (h : Journal) × P.stands port.old rest first (port_log h) × Keeps first self.old h × IsHeldUp first h × (HasPiece first h → ⊥) }
         requires slows { self.old.machine.hold.motion ≢ Held }
-        requires beat { self.old.beat ≡ Beat.Motion }
+        requires unpublished { self.old.published ≡ false }
         requires flags { self.old.flags ≡ Flags.None }
         ensures goes_on { (rest : P.Rest) (first : Opening) (h : Journal) → P.stands port.old rest first (port_log h) → Keeps first self.old h → IsHeldUp first h → (HasPiece first h → ⊥)
             → WorksOn first (P.stands port.new rest first) result self.old.flags self.new h }
@@ -125,7 +125,7 @@ impl<const N: usize> Board<N> {
     pub(crate) fn await_resume<P: EpochPort>(&mut self, port: &mut P) -> Turn
         requires stands { (rest : P.Rest) × (first : Opening) × (h : Journal) × P.stands port.old rest first (port_log h) × Keeps first self.old h × IsHeldUp first h × (HasPiece first h → ⊥) }
         requires held { self.old.machine.hold.motion ≡ Held }
-        requires beat { self.old.beat ≡ Beat.Motion }
+        requires unpublished { self.old.published ≡ false }
         requires flags { self.old.flags ≡ Flags.None }
         ensures goes_on { (rest : P.Rest) (first : Opening) (h : Journal) → P.stands port.old rest first (port_log h) → Keeps first self.old h → IsHeldUp first h → (HasPiece first h → ⊥)
             → WorksOn first (P.stands port.new rest first) result self.old.flags self.new h }
@@ -146,7 +146,7 @@ impl<const N: usize> Board<N> {
     #[inline(never)]
     pub(crate) fn halt<P: EpochPort>(&mut self, port: &mut P) -> Turn
         requires stands { (rest : P.Rest) × (first : Opening) × (h : Journal) × P.stands port.old rest first (port_log h) × Keeps first self.old h × IsHeldUp first h }
-        requires beat { self.old.beat ≡ Beat.Motion }
+        requires unpublished { self.old.published ≡ false }
         requires flags { self.old.flags ≡ Flags.None }
         ensures goes_on { (rest : P.Rest) (first : Opening) (h : Journal) → P.stands port.old rest first (port_log h) → Keeps first self.old h → IsHeldUp first h
             → WorksOn first (P.stands port.new rest first) result self.old.flags self.new h }

@@ -20,7 +20,7 @@ ghost use Rattle.board_machine.specs.Machines.{marks_cut};
 ghost use Rattle.flight.specs.Flights.{flight_room};
 ghost use Rattle.board_turns.specs.Turning.{IsNextMove, HasPiece, IsReady, MayRun, MayHaveLooked, MayHaveTold, MayFinish, NoneFits, HasAdded, HasFilled, Tried, HasTried, GoesOn, WorksOn};
 
-use crate::board::{Beat, Board, Flags};
+use crate::board::{Board, Flags};
 use board_lines::Answered;
 use board_machine::is_cut;
 use epoch_ports::EpochPort;
@@ -157,7 +157,7 @@ impl<const N: usize> Board<N> {
     /// Tries to publish what is in hand or due, and answers the turn: where there is no room for it, that is waited for.
     pub(crate) fn run<P: EpochPort>(&mut self, port: &mut P) -> Turn
         requires stands { (rest : P.Rest) × (first : Opening) × (h : Journal) × P.stands port.old rest first (port_log h) × Keeps first self.old h × MayRun first h × HasPiece first h }
-        requires beat { self.old.beat ≡ Beat.Motion }
+        requires unpublished { self.old.published ≡ false }
         requires flags { self.old.flags ≡ Flags.None }
         ensures goes_on { (rest : P.Rest) (first : Opening) (h : Journal) → P.stands port.old rest first (port_log h) → Keeps first self.old h → MayRun first h → HasPiece first h
             → WorksOn first (P.stands port.new rest first) result self.old.flags self.new h }
@@ -168,7 +168,7 @@ impl<const N: usize> Board<N> {
         if !published {
             return Turn::Wait(On::SegmentRoom);
         }
-        self.beat = Beat::Main;
+        self.published = true;
         Turn::Did
     }
 
@@ -209,7 +209,7 @@ impl<const N: usize> Board<N> {
     pub(crate) fn tell<P: EpochPort>(&mut self, port: &mut P) -> Turn
         requires stands { (rest : P.Rest) × (first : Opening) × (h : Journal) × P.stands port.old rest first (port_log h) × Keeps first self.old h × IsReady first h }
         requires next { (reply : AnyReply) × IsNextOf (tell reply) self.old.lines.left }
-        requires beat { self.old.beat ≡ Beat.Motion }
+        requires unpublished { self.old.published ≡ false }
         requires flags { self.old.flags ≡ Flags.None }
         ensures goes_on { (rest : P.Rest) (first : Opening) (h : Journal) → P.stands port.old rest first (port_log h) → Keeps first self.old h → IsReady first h
             → WorksOn first (P.stands port.new rest first) result self.old.flags self.new h }
@@ -250,7 +250,7 @@ impl<const N: usize> Board<N> {
     /// Adds the moves that are next, or runs what is planned where they have no room.
     pub(crate) fn go<P: EpochPort>(&mut self, port: &mut P) -> Turn
         requires stands { (rest : P.Rest) × (first : Opening) × (h : Journal) × P.stands port.old rest first (port_log h) × Keeps first self.old h × IsReady first h × GoesOn first h × IsNextMove first h }
-        requires beat { self.old.beat ≡ Beat.Motion }
+        requires unpublished { self.old.published ≡ false }
         requires flags { self.old.flags ≡ Flags.None }
         ensures goes_on { (rest : P.Rest) (first : Opening) (h : Journal) → P.stands port.old rest first (port_log h) → Keeps first self.old h → IsReady first h → GoesOn first h → IsNextMove first h
             → WorksOn first (P.stands port.new rest first) result self.old.flags self.new h }
@@ -268,7 +268,7 @@ impl<const N: usize> Board<N> {
         requires stands { (rest : P.Rest) × (first : Opening) × (h : Journal) × P.stands port.old rest first (port_log h) × Keeps first self.old h × IsReady first h }
         requires next { IsNextOf (ask (a_mark mark)) self.old.lines.left }
         requires mark { IsMark mark }
-        requires beat { self.old.beat ≡ Beat.Motion }
+        requires unpublished { self.old.published ≡ false }
         requires flags { self.old.flags ≡ Flags.None }
         ensures goes_on { (rest : P.Rest) (first : Opening) (h : Journal) → P.stands port.old rest first (port_log h) → Keeps first self.old h → IsReady first h
             → WorksOn first (P.stands port.new rest first) result self.old.flags self.new h }
@@ -285,7 +285,7 @@ impl<const N: usize> Board<N> {
     /// Makes the end, and tries to publish it.
     pub(crate) fn finish<P: EpochPort>(&mut self, port: &mut P) -> Turn
         requires stands { (rest : P.Rest) × (first : Opening) × (h : Journal) × P.stands port.old rest first (port_log h) × Keeps first self.old h × MayRun first h × MayFinish first h × IsNextTask first finish h }
-        requires beat { self.old.beat ≡ Beat.Motion }
+        requires unpublished { self.old.published ≡ false }
         requires flags { self.old.flags ≡ Flags.None }
         ensures goes_on { (rest : P.Rest) (first : Opening) (h : Journal) → P.stands port.old rest first (port_log h) → Keeps first self.old h → MayRun first h → MayFinish first h → IsNextTask first finish h
             → WorksOn first (P.stands port.new rest first) result self.old.flags self.new h }

@@ -1,6 +1,6 @@
 //! How a board tells status reports.
 
-ghost use Rattle.std.specs.Prelude.{◌≡◌, ◌≢◌, Bool, true, cond, nat_lt};
+ghost use Rattle.std.specs.Prelude.{◌≡◌, ◌≢◌, true, false, cond, nat_lt};
 ghost use Rattle.std.specs.List.{list_any};
 ghost use Rattle.outside.specs.declared.Turn.TheVariants.{Did, Done};
 ghost use Rattle.flight.specs.Flights.{Flies};
@@ -15,7 +15,7 @@ ghost use Rattle.board_turns.specs.Boards.{Keeps};
 ghost use Rattle.board_turns.specs.Turning.{BoardWorked, WorksOn, to_obey};
 ghost use Rattle.board_turns.specs.Reporting.{HasAskedRoom, HasObserved, IsBehind, IsReported, IsTold, IsToReport, LacksRoom, MayObeyNow, obeying};
 
-use crate::board::{Beat, Board, Flags};
+use crate::board::{Board, Flags};
 use bitflags::Flags as _;
 use board_machine::Machine;
 use code_table::Exec;
@@ -152,7 +152,7 @@ impl<const N: usize> Board<N> {
     /// is waited for. The report is still owed.
     fn go_on_owing<P: EpochPort>(&mut self, port: &mut P) -> Turn
         requires stands { (rest : P.Rest) × (first : Opening) × (h : Journal) × P.stands port.old rest first (port_log h) × Keeps first self.old h × LacksRoom first h }
-        requires beat { self.old.beat ≡ Beat.Motion }
+        requires unpublished { self.old.published ≡ false }
         ensures goes_on { (rest : P.Rest) (first : Opening) (h : Journal) (was : AnyFlags) → P.stands port.old rest first (port_log h) → Keeps first self.old h → LacksRoom first h
             → (next : Journal) × P.stands port.new rest first (port_log next) × BoardWorked first result was self.new h next × (result ≡ Did → list_any moving (this_turn next) ≡ true) }
         ensures going { result ≢ Done }
@@ -167,7 +167,7 @@ impl<const N: usize> Board<N> {
             return Turn::Wait(On::ReplyRoom);
         }
         self.flags = Flags::Report(None);
-        self.beat = Beat::Main;
+        self.published = true;
         Turn::Did
     }
 
@@ -176,7 +176,7 @@ impl<const N: usize> Board<N> {
     #[inline(never)]
     pub(crate) fn report<P: EpochPort>(&mut self, port: &mut P, word: Option<Exec>) -> Turn
         requires stands { (rest : P.Rest) × (first : Opening) × (h : Journal) × P.stands port.old rest first (port_log h) × Keeps first self.old h × IsToReport first word h }
-        requires beat { self.old.beat ≡ Beat.Motion }
+        requires unpublished { self.old.published ≡ false }
         ensures goes_on { (rest : P.Rest) (first : Opening) (h : Journal) (was : AnyFlags) → P.stands port.old rest first (port_log h) → Keeps first self.old h → IsToReport first word h
             → WorksOn first (P.stands port.new rest first) result was self.new h }
         ensures going { result ≢ Done }

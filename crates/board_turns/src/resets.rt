@@ -11,7 +11,7 @@ ghost use Rattle.board_rules.specs.Steps.{Journal, port_log, taken_of};
 ghost use Rattle.board_lines.specs.Inputs.{Reads};
 ghost use Rattle.board_turns.specs.Boards.{EpochFits, GoingBetween};
 
-use crate::board::{Beat, Board, Flags};
+use crate::board::{Board, Flags};
 use board_lines::Answered;
 use flight::Flight;
 use line_interpreter::Todo;
@@ -56,7 +56,7 @@ impl<const N: usize> Board<N> {
           resetting = false;
           taken = 0;
           greeted = false;
-          beat = Beat.Motion;
+          published = false;
           closing = false;
           jogged = false;
           alarmed = false;
@@ -69,7 +69,7 @@ impl<const N: usize> Board<N> {
         self.resetting = false;
         self.taken = 0;
         self.greeted = false;
-        self.beat = Beat::Motion;
+        self.published = false;
         self.closing = false;
         self.jogged = false;
         self.alarmed = false;

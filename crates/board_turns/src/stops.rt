@@ -13,7 +13,7 @@ ghost use Rattle.run_rules.specs.Work.Task.{halt};
 ghost use Rattle.board_turns.specs.Boards.{Keeps};
 ghost use Rattle.board_turns.specs.Turning.{BoardWorked, ComesOf, HasHalted, IsAtLimit, IsFoundStopped, IsInAlarm, IsReady, IsUncut, WorksOn};
 
-use crate::board::{Beat, Board, Flags};
+use crate::board::{Board, Flags};
 use epoch_ports::EpochPort;
 use line_interpreter::Todo;
 use outside::{On, Turn};
@@ -100,7 +100,7 @@ impl<const N: usize> Board<N> {
     /// Publishes what is in hand or due, and waits until each tick is done. Then what is planned is dropped, and the alarm is told.
     fn halt_at_limit<P: EpochPort>(&mut self, port: &mut P) -> Turn
         requires stands { (rest : P.Rest) × (first : Opening) × (h : Journal) × P.stands port.old rest first (port_log h) × Keeps first self.old h × IsReady first h × (is_limited (motion_of first h) ≡ true) × IsNextTask first halt h }
-        requires beat { self.old.beat ≡ Beat.Motion }
+        requires unpublished { self.old.published ≡ false }
         requires flags { self.old.flags ≡ Flags.None }
         ensures goes_on { (rest : P.Rest) (first : Opening) (h : Journal) → P.stands port.old rest first (port_log h) → Keeps first self.old h → IsReady first h → is_limited (motion_of first h) ≡ true → IsNextTask first halt h
             → WorksOn first (P.stands port.new rest first) result self.old.flags self.new h }
@@ -121,7 +121,7 @@ impl<const N: usize> Board<N> {
         requires stands { (first : Opening) × (h : Journal) × Keeps first self.old h × IsReady first h × (left_of first h ≡ []) }
         requires alarmed { self.old.alarmed ≡ true }
         requires open { self.old.closing ≡ false }
-        requires beat { self.old.beat ≡ Beat.Motion }
+        requires unpublished { self.old.published ≡ false }
         requires flags { self.old.flags ≡ Flags.None }
         ensures goes_on { (first : Opening) (h : Journal) → Keeps first self.old h → IsReady first h → left_of first h ≡ []
             → (next : Journal) × (port_log next ≡ port_log h) × BoardWorked first result self.old.flags self.new h next }
@@ -138,7 +138,7 @@ impl<const N: usize> Board<N> {
     pub(crate) fn end_limited<P: EpochPort>(&mut self, port: &mut P) -> Turn
         requires stands { (rest : P.Rest) × (first : Opening) × (h : Journal) × P.stands port.old rest first (port_log h) × Keeps first self.old h × IsReady first h × (is_limited (motion_of first h) ≡ true) }
         requires open { self.old.lines.left ≡ [] → self.old.closing ≡ false }
-        requires beat { self.old.beat ≡ Beat.Motion }
+        requires unpublished { self.old.published ≡ false }
         requires flags { self.old.flags ≡ Flags.None }
         requires unreset { tells_next self.old.lines.left ≡ false → self.old.resetting ≡ false }
         ensures goes_on { (rest : P.Rest) (first : Opening) (h : Journal) → P.stands port.old rest first (port_log h) → Keeps first self.old h → IsReady first h → is_limited (motion_of first h) ≡ true

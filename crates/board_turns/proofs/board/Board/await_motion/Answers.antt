@@ -51,7 +51,7 @@ returns-then-done-self-clause-waits g c = λ rest first h stands k may.
     let none = blocks_are first s h c.has_blocks.result k c.has_blocks.ensures ∙ c.if-has_blocks.false in (
       at_port (loaded done) ∷ h,
       c.done.ensures.done rest first h stands k.conducted,
-      waits_for_motion first s h done k may c.requires.beat c.requires.flags (c.done.ensures.known rest first h stands k.conducted) hand none c.if-done-self.true,
+      waits_for_motion first s h done k may c.requires.unpublished c.requires.flags (c.done.ensures.known rest first h stands k.conducted) hand none c.if-done-self.true,
     )
 
 -- src/board.rt:274:9

@@ -23,7 +23,7 @@ returns-then-self-clause-goes_on g c = λ rest first h stands k halted none.
       taken n.0 n.1,
       subst (λ (x : Journal). g.P.EpochPort.stands c.take_requests.new.port rest first (port_log x)) is n.3,
       did_ask first c.take_requests.new.self c.args.self.now.flags n.0 h n.1 (subst (λ (x : Journal). Keeps first c.take_requests.new.self x) is n.4) halted n.2 owed
-          (ap (λ (b : Board _). b.beat) same ∙ c.requires.beat) (n.5 ∙ ap (λ b. flags_behind b n.0) owed) c.requires.flags,
+          (ap (λ (b : Board _). b.published) same ∙ c.requires.unpublished) (n.5 ∙ ap (λ b. flags_behind b n.0) owed) c.requires.flags,
     )
 
 pub returns-then-is_held-clause-goes_on : goal.returns-then-is_held-clause-goes_on
@@ -36,7 +36,7 @@ returns-then-is_held-clause-goes_on g c = λ rest first h stands k halted none.
       obeyed first n.0 n.1,
       subst (λ (x : Journal). g.P.EpochPort.stands c.take_requests.new.port rest first (port_log x)) is n.3,
       waits_for_resume first c.take_requests.new.self c.args.self.now.flags n.0 h n.1 keeps halted n.2 (sym k.machine.motion_is ∙ c.requires.held)
-          (sym keeps.machine.motion_is ∙ c.is_held.ensures.0 c.if-is_held.true) unowed (ap (λ (b : Board _). b.beat) same ∙ c.requires.beat) (n.5 ∙ ap (λ b. flags_behind b n.0) unowed),
+          (sym keeps.machine.motion_is ∙ c.is_held.ensures.0 c.if-is_held.true) unowed (ap (λ (b : Board _). b.published) same ∙ c.requires.unpublished) (n.5 ∙ ap (λ b. flags_behind b n.0) unowed),
     )
 
 pub returns-clause-goes_on : goal.returns-clause-goes_on
@@ -50,5 +50,5 @@ returns-clause-goes_on g c = λ rest first h stands k halted none.
       subst (λ (x : Journal). g.P.EpochPort.stands c.take_requests.new.port rest first (port_log x)) is n.3,
       did_resume first c.take_requests.new.self c.args.self.now.flags n.0 h n.1 keeps halted n.2 (sym k.machine.motion_is ∙ c.requires.held)
           (λ held. absurd (let e = sym c.if-is_held.false ∙ c.is_held.ensures.1 (keeps.machine.motion_is ∙ held) in cc))
-          unowed (ap (λ (b : Board _). b.beat) same ∙ c.requires.beat) (n.5 ∙ ap (λ b. flags_behind b n.0) unowed) c.requires.flags,
+          unowed (ap (λ (b : Board _). b.published) same ∙ c.requires.unpublished) (n.5 ∙ ap (λ b. flags_behind b n.0) unowed) c.requires.flags,
     )

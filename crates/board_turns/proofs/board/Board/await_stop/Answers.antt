@@ -11,7 +11,7 @@ returns-then-has_slowed_down-clause-goes_on g c rest first h stands k halted non
       n.0,
       n.1,
       waits_for_stop first c.settle.new.self c.args.self.now.flags h n.0 n.2 halted n.3 (slowed_is first c.settle.new.self n.0 n.2 (c.has_slowed_down.ensures.0 c.if-has_slowed_down.true))
-          (ap (λ (b : Board _). b.beat) same ∙ c.requires.beat) (ap (λ (b : Board _). b.flags) same ∙ c.requires.flags),
+          (ap (λ (b : Board _). b.published) same ∙ c.requires.unpublished) (ap (λ (b : Board _). b.flags) same ∙ c.requires.flags),
     )
 
 pub returns-clause-goes_on : goal.returns-clause-goes_on
@@ -23,5 +23,5 @@ returns-clause-goes_on g c rest first h stands k halted none =
       n.1,
       did_settle first c.settle.new.self c.args.self.now.flags h n.0 n.2 halted n.3 slowed
           (λ s. absurd (let e = sym c.if-has_slowed_down.false ∙ c.has_slowed_down.ensures.1 (slowed_now first c.settle.new.self n.0 n.2 s) in cc))
-          (ap (λ (b : Board _). b.beat) same ∙ c.requires.beat) (ap (λ (b : Board _). b.flags) same ∙ c.requires.flags) c.requires.flags,
+          (ap (λ (b : Board _). b.published) same ∙ c.requires.unpublished) (ap (λ (b : Board _). b.flags) same ∙ c.requires.flags) c.requires.flags,
     )

@@ -8,7 +8,7 @@ pub returns-clause-goes_on : goal.returns-clause-goes_on
 returns-clause-goes_on g c = λ rest first h stands keeps polled closed.
     let s = c.args.self.now in
     let none = none_waiting first s h keeps (c.is_waiting.ensures.no c.if-is_waiting.false) in
-    (closing ∷ h, stands, closes_worked first s _ h (closes first s _ h keeps (sym keeps.resetting_is ∙ c.requires.unreset) (may_close first h polled closed) c.close.ensures) polled none c.requires.beat c.requires.flags c.requires.flags)
+    (closing ∷ h, stands, closes_worked first s _ h (closes first s _ h keeps (sym keeps.resetting_is ∙ c.requires.unreset) (may_close first h polled closed) c.close.ensures) polled none c.requires.unpublished c.requires.flags c.requires.flags)
 
 pub run_waiting-requires : goal.run_waiting-requires
 run_waiting-requires g c =
@@ -22,7 +22,7 @@ run_waiting-requires g c =
           (
             waits.1,
             (
-              c.requires.beat,
+              c.requires.unpublished,
               c.requires.flags,
             ),
           ),

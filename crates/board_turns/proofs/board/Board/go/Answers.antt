@@ -42,7 +42,7 @@ returns-clause-goes_on g c = λ rest first h stands keeps ready goes move.
     let few = ready.few (uncounted first h (none_asked (left_of first h) (a_move move.0) (is_reply_back h) move.1)) in
     let quiet = ready.quiet.quiet in
     let room = sym (c.if-is_full.ensures ∙ full_is first c.args.self.now h keeps) in
-    let beat = ap (λ (b : Board _). b.beat) c.fill.ensures.same ∙ c.requires.beat in
+    let unpublished = ap (λ (b : Board _). b.published) c.fill.ensures.same ∙ c.requires.unpublished in
     let none = ap (λ (b : Board _). b.flags) c.fill.ensures.same ∙ c.requires.flags in
     let taken = takes_none c.fill.new.self n.0 none (free_passed first h n.0 n.2.alone.passes (free_of h ready.quiet)) in
-    (n.0, rw n.2.alone.port stands, did_filled first _ _ h h n.0 [] refl refl n.1 beat taken n.2 ready.quiet.worked (omega arith) ready.unpolled few (inl (n.2.moved move room)))
+    (n.0, rw n.2.alone.port stands, did_filled first _ _ h h n.0 [] refl refl n.1 unpublished taken n.2 ready.quiet.worked (omega arith) ready.unpolled few (inl (n.2.moved move room)))

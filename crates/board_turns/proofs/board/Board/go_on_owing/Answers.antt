@@ -12,7 +12,7 @@ returns-then-not-has_piece-clause-goes_on g c rest first h was stands k l =
     let s = c.args.self.now in (
       h,
       stands,
-      waits_idle first s was h k l (λ has. absurd (let e = sym c.if-not-has_piece.true ∙ (c.has_piece.ensures first h (other_flags first s Both h k)).1 has in cc)) c.requires.beat,
+      waits_idle first s was h k l (λ has. absurd (let e = sym c.if-not-has_piece.true ∙ (c.has_piece.ensures first h (other_flags first s Both h k)).1 has in cc)) c.requires.unpublished,
       λ e. absurd cc,
     )
 
@@ -40,10 +40,10 @@ returns-then-not-published-clause-goes_on g c rest first h was stands k l =
     let both = other_flags first c.args.self.now Both h k in
     let n = c.publish_next-published.ensures.goes_on rest first h stands both ((c.has_piece.ensures first h both).0 c.if-not-has_piece.false) l.words in
     let f = c.fill.ensures.filled first n.0 n.2 in
-    let beat = ap (λ (b : Board _). b.beat) c.fill.ensures.same ∙ (ap (λ (b : Board _). b.beat) c.publish_next-published.ensures.same ∙ c.requires.beat) in
+    let unpublished = ap (λ (b : Board _). b.published) c.fill.ensures.same ∙ (ap (λ (b : Board _). b.published) c.publish_next-published.ensures.same ∙ c.requires.unpublished) in
     let flags = ap (λ (b : Board _). b.flags) c.fill.ensures.same ∙ ap (λ (b : Board _). b.flags) c.publish_next-published.ensures.same in
     let tried = subst (λ b. (HasTried first) b h n.0) c.if-not-published.true n.3 in
-    (f.0, rw f.2.alone.port n.1, waits_handed first c.fill.new.self was h n.0 f.0 f.1 l tried f.2 beat flags, λ e. absurd cc)
+    (f.0, rw f.2.alone.port n.1, waits_handed first c.fill.new.self was h n.0 f.0 f.1 l tried f.2 unpublished flags, λ e. absurd cc)
 
 -- src/reports.rt:99:5
 pub returns-clause-goes_on : goal.returns-clause-goes_on

@@ -38,7 +38,7 @@ returns-then-done-self-clause-goes_on g c rest first h stands k ready is next =
     let done = c.done.result in (
       at_port (loaded done) ∷ h,
       c.done.ensures.done rest first h stands k.conducted,
-      waits_at_limit first s h done k ready is next (λ piece. absurd (let e = sym c.if-has_piece.false ∙ (c.has_piece.ensures first h k).1 piece in cc)) c.requires.beat c.requires.flags
+      waits_at_limit first s h done k ready is next (λ piece. absurd (let e = sym c.if-has_piece.false ∙ (c.has_piece.ensures first h k).1 piece in cc)) c.requires.unpublished c.requires.flags
           (c.done.ensures.known rest first h stands k.conducted) c.if-done-self.true,
     )
 
@@ -68,7 +68,7 @@ tell-requires g c =
         (
           alarm_next first c.drop_plan.new.self r.2 mid n.0 n.1 refl n.2 (halting_left first r.2 r.4.conducted r.6 r.7),
           (
-            ap (λ (b : Board _). b.beat) c.drop_plan.ensures.same ∙ c.requires.beat,
+            ap (λ (b : Board _). b.published) c.drop_plan.ensures.same ∙ c.requires.unpublished,
             ap (λ (b : Board _). b.flags) c.drop_plan.ensures.same ∙ c.requires.flags,
           ),
         ),

@@ -28,7 +28,7 @@ returns-clause-judged g c = λ first h k may.
     let b = before_of first h in
     let since : Since = record { moved = b.moved; jog_moved = b.jog_moved; jogged = b.jogged; alarmed = b.alarmed } in
     let j = c.judge-accepted.ensures.becomes since (open_of h) k.input.kept_is in
-    let found_so : c.found.result ≡ machine_in (motion_of first h) = c.found.ensures ∙ ap machine_in k.machine.motion_is in
+    let found_so : c.machine_in.result ≡ machine_in (motion_of first h) = c.machine_in.ensures ∙ ap machine_in k.machine.motion_is in
     let before : stands_before c.args.self.now.lines since ≡ b = ap (λ (s : State). before_line c.args.self.now.lines.number s since) k.lines.state_is ∙ ap (λ (n : ℕ). before_line n b.state since) k.lines.number_is in
     let found = subst (λ (x : Before). Found (machine_in (motion_of first h)) x (open_of h) j.0) before
     (subst (λ (m : AnyMachine). Found m (stands_before c.args.self.now.lines since) (open_of h) j.0) found_so j.1) in

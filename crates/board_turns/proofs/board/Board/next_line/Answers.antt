@@ -2,8 +2,8 @@ use Rattle.std.proofs.Common.{arith, rules}
 use Rattle.board_turns.proofs.Nexts.{may_poll, whole_line}
 use Rattle.board_turns.proofs.board.Board.next_line.Goals as goal
 
-pub poll-requires : goal.poll-requires
-poll-requires g c = (
+pub take_byte-requires : goal.take_byte-requires
+take_byte-requires g c = (
   omega arith,
   (
     let r = c.requires.stands in let first = r.1 in
@@ -20,10 +20,10 @@ poll-requires g c = (
 
 pub returns-clause-goes_on : goal.returns-clause-goes_on
 returns-clause-goes_on g c = λ rest first h stands k ready goes.
-    c.poll.ensures.goes_on rest first h stands k ready (may_poll first c.args.self.now h k ready goes c.requires.none c.requires.«open» c.if-self.false)
+    c.take_byte.ensures.goes_on rest first h stands k ready (may_poll first c.args.self.now h k ready goes c.requires.none c.requires.«open» c.if-self.false)
 
-pub begin-requires : goal.begin-requires
-begin-requires g c = (
+pub begin_line-requires : goal.begin_line-requires
+begin_line-requires g c = (
   omega arith,
   (
     let r = c.requires.stands in let first = r.1 in
@@ -40,4 +40,4 @@ begin-requires g c = (
 
 pub returns-then-self-clause-goes_on : goal.returns-then-self-clause-goes_on
 returns-then-self-clause-goes_on g c = λ rest first h stands k ready goes.
-    c.begin.ensures.goes_on rest first h stands k ready (whole_line first c.args.self.now h k goes c.requires.none c.requires.«open» c.if-self.true)
+    c.begin_line.ensures.goes_on rest first h stands k ready (whole_line first c.args.self.now h k goes c.requires.none c.requires.«open» c.if-self.true)

@@ -23,5 +23,5 @@ returns-clause-goes_on g c first h k ready stopped task =
     let n = c.fill.ensures.filled first (paused ∷ h) keeps in (
       n.0,
       n.2.alone.port,
-      paused_filled first _ s h n.0 k ready task n.2 n.1 (ap (λ (b : Board _). b.beat) c.fill.ensures.same ∙ c.requires.beat) (ap (λ (b : Board _). b.flags) c.fill.ensures.same ∙ c.requires.flags),
+      paused_filled first _ s h n.0 k ready task n.2 n.1 (ap (λ (b : Board _). b.published) c.fill.ensures.same ∙ c.requires.unpublished) (ap (λ (b : Board _). b.flags) c.fill.ensures.same ∙ c.requires.flags),
     )

@@ -39,8 +39,8 @@ pub returns-clause-goes_on : goal.returns-clause-goes_on
 returns-clause-goes_on g c rest first h was stands k to =
     let word = c.args.word in
     let t = c.tell_report-told.ensures.goes_on rest first h stands k to in
-    let beat = ap (λ (b : Board _). b.beat) c.obey_waiting.ensures.same ∙ (ap (λ (b : Board _). b.beat) c.tell_report-told.ensures.same ∙ c.requires.beat) in (
+    let unpublished = ap (λ (b : Board _). b.published) c.obey_waiting.ensures.same ∙ (ap (λ (b : Board _). b.published) c.tell_report-told.ensures.same ∙ c.requires.unpublished) in (
       obeying first word t.0,
       stands_behind first (λ l. g.P.EpochPort.stands c.tell_report-told.new.port rest first l) word t.0 t.1,
-      did_report first c.obey_waiting.new.self was word h t.0 (c.obey_waiting.ensures.goes_on first t.0 t.2 (may_obey_now first c.tell_report-told.new.self c.tell_report-told.result word t.0 t.2 t.3)) (subst (λ b. (IsReported first) b word t.0) c.if-not-told.false t.3) t.4 beat,
+      did_report first c.obey_waiting.new.self was word h t.0 (c.obey_waiting.ensures.goes_on first t.0 t.2 (may_obey_now first c.tell_report-told.new.self c.tell_report-told.result word t.0 t.2 t.3)) (subst (λ b. (IsReported first) b word t.0) c.if-not-told.false t.3) t.4 unpublished,
     )

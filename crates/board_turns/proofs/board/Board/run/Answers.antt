@@ -8,10 +8,10 @@ pub returns-then-not-published-clause-goes_on : goal.returns-then-not-published-
 returns-then-not-published-clause-goes_on g c rest first h stands k may has =
     let m = c.publish_next-published.ensures.goes_on rest first h stands k has (free_of h may.quiet).obeyed in
     let n = c.fill.ensures.filled first m.0 m.2 in
-    let beat = ap (λ (x : Board _). x.beat) c.fill.ensures.same ∙ ap (λ (x : Board _). x.beat) c.publish_next-published.ensures.same ∙ c.requires.beat in
+    let unpublished = ap (λ (x : Board _). x.published) c.fill.ensures.same ∙ ap (λ (x : Board _). x.published) c.publish_next-published.ensures.same ∙ c.requires.unpublished in
     let none = ap (λ (x : Board _). x.flags) c.fill.ensures.same ∙ ap (λ (x : Board _). x.flags) c.publish_next-published.ensures.same ∙ c.requires.flags in
     let tried = subst (λ b. (HasTried first) b h m.0) c.if-not-published.true m.3 in
-    (n.0, rw n.2.alone.port m.1, handed_back first _ _ h m.0 n.0 may tried n.2 n.1 beat none)
+    (n.0, rw n.2.alone.port m.1, handed_back first _ _ h m.0 n.0 may tried n.2 n.1 unpublished none)
 
 pub returns-clause-goes_on : goal.returns-clause-goes_on
 returns-clause-goes_on g c rest first h stands k may has =

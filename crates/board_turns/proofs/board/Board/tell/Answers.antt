@@ -56,7 +56,7 @@ returns-in_default-clause-goes_on g c = λ rest first h stands keeps ready.
     let s = c.args.self.now in
     let reply = c.reply-reply.result in
     let back = c.in_default.ensures.full rest first (port_log h) stands in
-    (at_port no_reply_room ∷ h, back, told_later first _ s h reply keeps ready (is_next first s h (tell reply) keeps c.reply-reply.ensures.next) c.requires.beat c.requires.flags)
+    (at_port no_reply_room ∷ h, back, told_later first _ s h reply keeps ready (is_next first s h (tell reply) keeps c.reply-reply.ensures.next) c.requires.unpublished c.requires.flags)
 
 pub fill-requires : goal.fill-requires
 fill-requires g c = (
@@ -84,7 +84,7 @@ returns-clause-goes_on g c = λ rest first h stands keeps ready.
     let one = publishes_one (at_port (answered r)) (this_turn h) refl in
     let quiet = ready.quiet.quiet in
     let worked = worked_behind (at_port (answered r)) h mid refl (record { no_changes = refl; none_planned = refl }) refl refl ready.quiet.worked in
-    let beat = ap (λ (b : Board _). b.beat) c.fill.ensures.same ∙ ap (λ (b : Board _). b.beat) c.told.ensures.same ∙ c.requires.beat in
+    let unpublished = ap (λ (b : Board _). b.published) c.fill.ensures.same ∙ ap (λ (b : Board _). b.published) c.told.ensures.same ∙ c.requires.unpublished in
     let none = ap (λ (b : Board _). b.flags) c.fill.ensures.same ∙ ap (λ (b : Board _). b.flags) c.told.ensures.same ∙ c.requires.flags in
     let taken = takes_none c.fill.new.self n.0 none (free_passed first mid n.0 n.2.alone.passes freed) in
-    (n.0, rw (n.2.alone.port, sym said_is) stood, did_filled first _ _ h mid n.0 (at_port (answered r) ∷ []) refl refl n.1 beat taken n.2 worked (omega (arith, one, quiet)) ready.unpolled few (inl (n.2.alone.passes.moves refl)))
+    (n.0, rw (n.2.alone.port, sym said_is) stood, did_filled first _ _ h mid n.0 (at_port (answered r) ∷ []) refl refl n.1 unpublished taken n.2 worked (omega (arith, one, quiet)) ready.unpolled few (inl (n.2.alone.passes.moves refl)))

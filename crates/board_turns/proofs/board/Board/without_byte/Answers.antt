@@ -5,7 +5,7 @@ use Rattle.board_turns.proofs.board.Board.without_byte.Goals as goal
 pub returns-then-not-is_waiting-clause-goes_on : goal.returns-then-not-is_waiting-clause-goes_on
 returns-then-not-is_waiting-clause-goes_on g c = λ rest first h stands keeps polled found.
     let s = c.args.self.now in
-    (h, stands, waits_for_byte first s.flags s h keeps polled found (none_waiting first s h keeps (c.is_waiting.ensures.no c.if-not-is_waiting.true)) c.requires.beat c.requires.flags)
+    (h, stands, waits_for_byte first s.flags s h keeps polled found (none_waiting first s h keeps (c.is_waiting.ensures.no c.if-not-is_waiting.true)) c.requires.unpublished c.requires.flags)
 
 pub run_waiting-requires : goal.run_waiting-requires
 run_waiting-requires g c =
@@ -18,7 +18,7 @@ run_waiting-requires g c =
           (
             waits.1,
             (
-              c.requires.beat,
+              c.requires.unpublished,
               c.requires.flags,
             ),
           ),

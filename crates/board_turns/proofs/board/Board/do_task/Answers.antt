@@ -9,7 +9,7 @@ use Rattle.std.proofs.Common.{arith, rules, ap, sym, subst}
 use Rattle.board_turns.specs.declared.board.Flags.{Flags}
 use Rattle.board_turns.specs.Turning.{BoardWorked}
 use Rattle.board_turns.proofs.Steps.{is_next}
-use Rattle.board_turns.proofs.board.Board.do_next.Goals as goal
+use Rattle.board_turns.proofs.board.Board.do_task.Goals as goal
 
 pub finish-requires : goal.finish-requires
 finish-requires g c = (

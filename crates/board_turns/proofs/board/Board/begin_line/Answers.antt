@@ -1,7 +1,7 @@
 use Rattle.std.proofs.Common.{arith, ap, ◌∙◌}
 use Rattle.board_turns.specs.declared.board.Board.{Board}
 use Rattle.board_turns.proofs.Begins.{looked_whole, begun_unowed, begun_untold, has_spoken, did_begin_line, port_begun}
-use Rattle.board_turns.proofs.board.Board.begin.Goals as goal
+use Rattle.board_turns.proofs.board.Board.begin_line.Goals as goal
 
 pub look-requires : goal.look-requires
 look-requires g c =
@@ -53,11 +53,11 @@ returns-clause-goes_on g c = λ rest first h stands k ready whole.
     let same = port_begun first line.0 mid.0 line.1 line.3 ∙ mid.3.port in
     let told = c.tell_first.ensures.goes_on rest first line.1 (rw same seen.1) line.2 (begun_unowed first line.0 mid.0 line.1 mid.2 line.3) (begun_untold first line.0 mid.0 line.1 mid.2 line.3) in
     let next = c.fill.ensures.filled first told.0 told.2 in
-    let beat = ap (λ (b : Board _). b.beat) c.fill.ensures.same ∙ ap (λ (b : Board _). b.beat) c.tell_first.ensures.same ∙ ap (λ (b : Board _). b.beat) c.judge.ensures.same
-    ∙ ap (λ (b : Board _). b.beat) c.start_before_line.ensures.same ∙ ap (λ (b : Board _). b.beat) c.look.ensures.same ∙ c.requires.beat in
+    let unpublished = ap (λ (b : Board _). b.published) c.fill.ensures.same ∙ ap (λ (b : Board _). b.published) c.tell_first.ensures.same ∙ ap (λ (b : Board _). b.published) c.judge.ensures.same
+    ∙ ap (λ (b : Board _). b.published) c.start_before_line.ensures.same ∙ ap (λ (b : Board _). b.published) c.look.ensures.same ∙ c.requires.unpublished in
     let no_word = ap (λ (b : Board _). b.flags) c.fill.ensures.same ∙ ap (λ (b : Board _). b.flags) c.tell_first.ensures.same ∙ ap (λ (b : Board _). b.flags) c.judge.ensures.same
     ∙ ap (λ (b : Board _). b.flags) c.start_before_line.ensures.same ∙ ap (λ (b : Board _). b.flags) c.look.ensures.same ∙ c.requires.flags in (
       next.0,
       rw next.2.alone.port told.1,
-      did_begin_line first c.args.self.now.flags c.fill.new.self h seen.0 mid.0 told.0 next.0 line.0 ready whole seen.3.passes mid.3 (has_spoken first line.0 mid.0 line.1 told.0 line.3 told.3) next.1 beat no_word next.2,
+      did_begin_line first c.args.self.now.flags c.fill.new.self h seen.0 mid.0 told.0 next.0 line.0 ready whole seen.3.passes mid.3 (has_spoken first line.0 mid.0 line.1 told.0 line.3 told.3) next.1 unpublished no_word next.2,
     )

@@ -7,7 +7,7 @@ use Rattle.board_turns.specs.declared.board.Board.{Board}
 use Rattle.board_turns.proofs.PortSteps.{polled_empty, polled_closed}
 use Rattle.board_turns.proofs.Ends.{works_on, free_of}
 use Rattle.board_turns.proofs.Nexts.{took_worked, polled_none, polled_end}
-use Rattle.board_turns.proofs.board.Board.poll.Goals as goal
+use Rattle.board_turns.proofs.board.Board.take_byte.Goals as goal
 
 pub without_byte-requires : goal.without_byte-requires
 without_byte-requires g c = (
@@ -44,8 +44,8 @@ returns-in-Byte-clause-goes_on g c = λ rest first h stands keeps ready may.
     let few = c.byte.ensures.few b c.in-Byte.is rest first (port_log h) stands in
     let kept = c.keep.ensures.kept first h keeps (record { polls = may; few = omega (arith, few) }) few in
     let takes = c.keep.ensures.flags first h (free_of h ready.quiet) (greeted_free first h keeps.conducted may.all_done) in
-    let beat = ap (λ (s : Board _). s.beat) c.keep.ensures.same ∙ c.requires.beat in
-    (at_port (took b) ∷ h, c.byte.ensures.byte b c.in-Byte.is rest first (port_log h) stands, took_worked first c.args.self.now.flags _ b h kept takes ready may beat)
+    let unpublished = ap (λ (s : Board _). s.published) c.keep.ensures.same ∙ c.requires.unpublished in
+    (at_port (took b) ∷ h, c.byte.ensures.byte b c.in-Byte.is rest first (port_log h) stands, took_worked first c.args.self.now.flags _ b h kept takes ready may unpublished)
 
 pub returns-in-Empty-clause-goes_on : goal.returns-in-Empty-clause-goes_on
 returns-in-Empty-clause-goes_on g c = λ rest first h stands keeps ready may.
