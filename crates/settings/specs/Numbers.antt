@@ -1,5 +1,5 @@
 -- The settings by their numbers.
-use Rattle.std.specs.Prelude.{ℕ, ◌+◌, ◌/◌, ◌≤◌, Bool, false, not, ◌&&◌, ◌==◌, nat_le, if◌then◌else◌, List, [], ◌∷◌, ◌++◌, map, find, is_some, pos, int_lt, nat_abs}
+use Rattle.std.specs.Prelude.{ℕ, ◌+◌, ◌/◌, ◌≤◌, Bool, true, false, not, ◌&&◌, ◌==◌, nat_le, if◌then◌else◌, List, [], ◌∷◌, ◌++◌, map, find, is_some, pos, int_lt, nat_abs}
 use Rattle.std.specs.Option.{option_map_or}
 use Rattle.std.specs.declared.option.Option.{Option}
 use Rattle.units.specs.Truths.{one_if}
@@ -68,6 +68,16 @@ abbrev pub kept : Keeping → Decimal → ℕ
 kept Whole v = nat_abs v.micro / 1000000
 kept Switch v = nat_abs v.micro / 1000000
 kept Thousandths v = nat_abs v.micro / 1000
+
+-- whether the whole part counts alone
+abbrev pub is_kept_whole : Keeping → Bool
+is_kept_whole Whole = true
+is_kept_whole Switch = true
+is_kept_whole Thousandths = false
+
+-- the setting with a number is a whole number
+abbrev pub is_whole : ℕ → Bool
+is_whole n = option_map_or (λ row. is_kept_whole row.keeping) (row_of n) false
 
 -- what the setting is then: a switch is on if the number isn't 0
 abbrev pub shown : Keeping → ℕ → ℕ

@@ -3,7 +3,7 @@
 
 ghost use Rattle.std.specs.Prelude.{◌≡◌, ◌≤◌, ◌&&◌, false, nat_le, int_lt, pos, Some, None, IsTrue, OnOk, OnErr, IfOk, IfErr};
 ghost use Rattle.code_table.specs.Tables.{value_of};
-ghost use Rattle.settings.specs.Numbers.{values, defaults, kept, shown, set_refusal, value_set, with_value, can_have_at, IsSettings};
+ghost use Rattle.settings.specs.Numbers.{values, defaults, is_kept_whole, is_whole, kept, shown, set_refusal, value_set, with_value, can_have_at, IsSettings};
 
 mod laws;
 
@@ -79,6 +79,16 @@ macro_rules! take_row {
     };
 }
 
+/// Whether the setting with a number is a whole number.
+macro_rules! whole_row {
+    (($n:ident) $($number:literal $keeping:ident $low:literal..=$high:literal, $($field:ident).+;)+) => {
+        match $n {
+            $($number => is_kept_whole(Keeping::$keeping),)+
+            _ => false,
+        }
+    };
+}
+
 /// A value as the type of a setting that keeps it.
 macro_rules! as_kept {
     (Whole $value:expr) => { $value as u8 };
@@ -94,6 +104,20 @@ macro_rules! write_row {
             _ => unreachable!(),
         }
     };
+}
+
+/// Whether the whole part of a value is kept, or whether that isn't 0.
+fn is_kept_whole(keeping: Keeping) -> bool
+    ensures { result ≡ is_kept_whole keeping }
+{
+    matches!(keeping, Keeping::Whole | Keeping::Switch)
+}
+
+/// Whether the value of the setting with a number is a whole number. That of the others has three decimals.
+pub fn is_whole(n: u16) -> bool
+    ensures { result ≡ is_whole n }
+{
+    with_rows!(whole_row(n))
 }
 
 /// What is kept of a value.

@@ -1,10 +1,11 @@
 -- The texts of replies.
-use Rattle.std.specs.Prelude.{ℕ, ◌+◌, ◌/◌, ◌<◌, ◌≤◌, ◌^◌, ◌==◌, ◌||◌, if◌then◌else◌, ℤ, pos, nat_abs, List, [], ◌∷◌, ◌++◌, get_or, codes, decimal}
+use Rattle.std.specs.Prelude.{ℕ, ◌+◌, ◌/◌, ◌<◌, ◌≤◌, ◌^◌, ◌==◌, if◌then◌else◌, ℤ, pos, nat_abs, List, [], ◌∷◌, ◌++◌, get_or, codes, decimal}
 use Rattle.std.specs.List.{join_with_byte}
 use Rattle.units.specs.declared.Nm3.{Nm3}
 use Rattle.units.specs.Fixed.{fixed3}
 use Rattle.units.specs.Limits.{IsFeed}
 use Rattle.modal_state.specs.Modes.{IsModal}
+use Rattle.settings.specs.Numbers.{is_whole}
 use Rattle.modal_state.specs.declared.MotionMode.{MotionMode}
 use Rattle.modal_state.specs.declared.MotionMode.TheVariants.{G0, G1, G80}
 use Rattle.modal_state.specs.declared.SpindleMode.{SpindleMode}
@@ -24,9 +25,9 @@ message_text ProgramEnd = codes "[MSG:Pgm End]"
 message_text ResetToContinue = codes "[MSG:Reset to continue]"
 message_text Locked = codes "[MSG:'$H'|'$X' to unlock]"
 
--- settings 10 and 20 are whole numbers, the others have three decimals
+-- the value of a setting, as a whole number or with three decimals
 abbrev pub setting_value : ℕ → ℕ → List ℕ
-setting_value n value = if n == 10 || n == 20 then decimal value else fixed3 (pos value)
+setting_value n value = if is_whole n then decimal value else fixed3 (pos value)
 
 abbrev pub setting_text : ℕ → ℕ → List ℕ
 setting_text n value = codes "$" ++ decimal n ++ codes "=" ++ setting_value n value

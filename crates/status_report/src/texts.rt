@@ -12,6 +12,7 @@ use crate::reports::put_report;
 use crate::{Message, Modes, Reply};
 use itoa::Buffer;
 use modal_state::{Modal, MotionMode, SpindleMode};
+use settings::is_whole;
 use units::{Nm3, Text, append, nm_to_thousandths, put_fixed3};
 
 /// Appends a blank and a word for which there is room.
@@ -55,7 +56,7 @@ fn put_setting(n: u16, value: u64, out: &mut Text)
     ensures len { array_vec_len out.new ≤ array_vec_len out.old + 64 }
 {
     put_numbered(b"$", u64::from(n), out);
-    if n == 10 || n == 20 {
+    if is_whole(n) {
         put_numbered(b"=", value, out);
         return;
     }
