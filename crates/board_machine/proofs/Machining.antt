@@ -2,7 +2,6 @@
 use Rattle.std.proofs.Common.{◌≡◌, ℕ, ◌+◌, ◌-◌, ◌<◌, ◌≤◌, ◌↔◌, ◌==◌, Bool, true, false, List, [], ◌∷◌, ◌++◌, length, Some, None, refl, sym, ap, ◌∙◌, subst, arith}
 use Rattle.std.proofs.lemmas.Bool.Decides.{nat_tests}
 use Rattle.std.specs.Option.{option_to_list}
-use Rattle.std.proofs.lemmas.List.{length-map}
 use Rattle.feed_hold.specs.declared.Motion.{Motion}
 use Rattle.feed_hold.specs.declared.Motion.TheVariants as motions
 use Rattle.line_geom.specs.declared.Cap.TheVariants.{Free}
@@ -17,17 +16,14 @@ use Rattle.plan_rules.specs.declared.Mode.{Mode}
 use Rattle.planner_runs.specs.Runs.{cleared, with_move}
 use Rattle.planner_runs.proofs.Runs.{block_added}
 use Rattle.step_line.specs.Asking.{IsPlannedMove}
-use Rattle.step_line.proofs.Order.{length_after}
 use Rattle.feed_hold.specs.Motions.{is_going}
 use Rattle.planner_runs.specs.Moving.{is_full, has_blocks}
 use Rattle.step_line.specs.declared.Piece.{Piece}
 use Rattle.step_line.specs.declared.Piece.TheVariants as pieces
-use Rattle.step_line.specs.declared.Record.TheVariants as kinds
 use Rattle.step_line.specs.declared.Segment.{Segment}
 use Rattle.step_line.specs.declared.planned_move.PlannedMove.{PlannedMove}
-use Rattle.step_line.specs.Events.{events_after}
-use Rattle.step_line.specs.Finishing.{ticks_together, tick_count}
-use Rattle.step_line.proofs.Finished.{together_on}
+use Rattle.step_line.specs.Finishing.{ticks_together}
+use Rattle.step_line.proofs.Finished.{segment_ticks, together_on}
 use Rattle.board_machine.specs.declared.machine.Machine.{Machine}
 use Rattle.board_machine.specs.Machines.{Runs, mode_in, settled, observed}
 
@@ -56,9 +52,6 @@ put {N} m mv g after p now in_hand given planned room is same e r = record {
   where
     b : Block
     b = record { line = mv.line; mv = mv.mv; rate = mv.rate; geom = g; prepared = 0; entry = Free }
-
-segment_ticks : (s : Segment) → tick_count (pieces.Segment s) ≡ s.n
-segment_ticks s = length-map (events_after s.mv s.first s.n) kinds.Event ∙ length_after s.mv s.first s.n
 
 -- a segment is taken into the hand
 pub taken : {N : ℕ} (m : Machine N) (s : Segment) (mode : Mode) (after p : Planned) (now : Motion) (given : List Piece) → mode ≡ mode_in m.hold.motion → IsNext m.plan mode s

@@ -2,22 +2,18 @@
 use Rattle.std.proofs.Common.{◌≡◌, ℕ, suc, ◌-◌, ◌≤◌, ◌<◌, Bool, true, false, cond, nat_lt, List, [], ◌∷◌, ◌++◌, length, sym, refl, ap, ◌∙◌, arith}
 use Rattle.std.specs.List.{flat_map, filter, All}
 use Rattle.std.proofs.lemmas.Bool.Decides.{nat_tests}
-use Rattle.std.proofs.lemmas.List.{length-map}
 use Rattle.std.proofs.lemmas.List.Elements.{All-head, All-tail}
 use Rattle.step_line.specs.declared.Segment.{Segment}
 use Rattle.step_line.specs.declared.Piece.{Piece}
 use Rattle.step_line.specs.declared.Piece.TheVariants as pieces
 use Rattle.step_line.specs.declared.Record.{Record}
-use Rattle.step_line.specs.declared.Record.TheVariants as kinds
-use Rattle.step_line.specs.Events.{events_after}
 use Rattle.step_line.specs.Pieces.{ticks_of}
 use Rattle.step_line.specs.Finishing.{tick_count, ticks_together, unfinished}
-use Rattle.step_line.proofs.Order.{length_after}
-use Rattle.step_line.proofs.Finished.{together}
+use Rattle.step_line.proofs.Finished.{segment_ticks as of_segment, together}
 use Rattle.flight.specs.Flights.{has_ticks, EndsWithin}
 
 pub segment_ticks : (s : Segment) → s.n ≡ tick_count (pieces.Segment s)
-segment_ticks s = sym (length-map (events_after s.mv s.first s.n) kinds.Event ∙ length_after s.mv s.first s.n)
+segment_ticks s = sym (of_segment s)
 
 abbrev pub Ticking : Piece → Type 0
 Ticking p = has_ticks p ≡ true

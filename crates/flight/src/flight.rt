@@ -10,19 +10,8 @@ ghost use Rattle.flight.specs.Places.{moved_by};
 ghost use Rattle.flight.specs.Flights.{IsFit, BeginsAt};
 
 use std::marker::Model;
-use step_line::{Piece, position_after};
+use step_line::{Piece, position_after, tick_count};
 use units::{Move, Steps3};
-
-/// How many ticks a piece has.
-fn tick_count(piece: &Piece) -> u32
-    ensures { result ≡ tick_count piece.now }
-{
-    match piece {
-        Piece::Segment(segment) => segment.n,
-        Piece::Mark(_) => 1,
-        Piece::End => 0,
-    }
-}
 
 /// Where the machine is once so many ticks of a piece are done, from the place where it begins: after so many events of a
 /// move.

@@ -3,7 +3,6 @@
 ghost use Rattle.std.specs.Prelude.{◌≡◌, ◌≤◌, ◌+◌, ◌↔◌, true, false, [], length, IfOk};
 ghost use Rattle.serial_ring.specs.Lists.{IsRoom};
 ghost use Rattle.status_report.specs.Answering.{reply_room};
-ghost use Rattle.step_line.specs.Finishing.{tick_count};
 ghost use Rattle.list_ports.specs.Joining.{Joined, one_if_some};
 
 use bitflags::Flags;
@@ -52,17 +51,6 @@ impl<const RX: usize> Model for Lists<RX> {
     ghost view = { λ l. record { bytes = l.bytes.items; closed = l.closed; stored = l.stored; mark = l.mark; replies = l.replies.items; exec = l.exec.0; override = l.overrides.0; pieces = l.pieces.items; left = l.left; done = l.done; stop = l.stop } };
 
     ghost invariant = { λ l. AreSized RX l.bytes.capacity l.replies.capacity l.pieces.capacity l.replies.items };
-}
-
-/// How many ticks a piece has.
-pub(crate) fn ticks(piece: &Piece) -> u32
-    ensures { result ≡ tick_count piece.now }
-{
-    match piece {
-        Piece::Segment(segment) => segment.n,
-        Piece::Mark(_) => 1,
-        Piece::End => 0,
-    }
 }
 
 impl<const RX: usize> Lists<RX> {

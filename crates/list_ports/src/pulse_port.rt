@@ -12,9 +12,8 @@ ghost use Rattle.pulse_engine.specs.Logs.PieceEvent.{asked, got, none, halted};
 ghost use Rattle.list_ports.specs.Joining.{Joined};
 
 use crate::Lists;
-use crate::lists::ticks;
 use pulse_engine::PulsePort;
-use step_line::Piece;
+use step_line::{Piece, tick_count};
 
 impl<const RX: usize> PulsePort for Lists<RX> {
     /// What the host and the board have done.
@@ -51,7 +50,7 @@ impl<const RX: usize> PulsePort for Lists<RX> {
         ensures found { result ≡ slice_get self.old.pieces 0 }
     {
         let piece = self.pieces.pop_front()?;
-        self.left = ticks(&piece);
+        self.left = tick_count(&piece);
         Some(piece)
     }
 

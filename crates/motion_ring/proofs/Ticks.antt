@@ -1,25 +1,18 @@
 -- The ticks of pieces that came in turn.
 use Rattle.std.proofs.Common.{◌≡◌, ℕ, zero, suc, ◌+◌, ◌-◌, ◌<◌, ◌≤◌, true, false, List, [], ◌∷◌, ◌++◌, length, drop, reverse, refl, ap, subst, ◌∙◌, arith, lt_of_not-le}
 use native.Mathlib.Decide.{dec_le}
-use Rattle.std.proofs.lemmas.List.{length-map}
 use Rattle.std.proofs.lemmas.Grind.{reverse_onto}
 use Rattle.step_line.specs.declared.Piece.{Piece}
-use Rattle.step_line.specs.declared.Segment.{Segment}
 use Rattle.step_line.specs.declared.Piece.TheVariants as pieces
-use Rattle.step_line.specs.declared.Record.TheVariants as kinds
-use Rattle.step_line.specs.Events.{events_after}
 use Rattle.step_line.specs.Ordering.{ComesNext, InTurn, has_ended}
 use Rattle.step_line.specs.Finishing.{tick_count, ticks_together, unfinished}
-use Rattle.step_line.proofs.Order.{length_after}
+pub use Rattle.step_line.proofs.Finished.{segment_ticks}
 use Rattle.step_line.proofs.Finished.{together, together_on, all_done, one_more_behind, end_is_finished}
 use Rattle.motion_ring.specs.declared.view.MotionSight.{MotionSight}
 use Rattle.motion_ring.specs.Ticks.{unfinished_of}
 use Rattle.motion_ring.specs.Sides.{published_in, ticks_at, unfinished_in, room_from}
 use Rattle.motion_ring.specs.Rule.{IsKnown, saw_halt}
 use Rattle.motion_ring.proofs.Sides.{going_since}
-
-pub segment_ticks : (s : Segment) → tick_count (pieces.Segment s) ≡ s.n
-segment_ticks s = length-map (events_after s.mv s.first s.n) kinds.Event ∙ length_after s.mv s.first s.n
 
 -- a piece that is no end has a tick
 pub has_tick : (h : List Piece) (p : Piece) → ComesNext h p → has_ended (p ∷ h) ≡ false → 0 < tick_count p

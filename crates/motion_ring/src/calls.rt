@@ -19,7 +19,7 @@ use outside::OutOfMemory;
 use shared_rings::place_behind;
 use std::alloc::Global;
 use std::sync::Arc;
-use step_line::Piece;
+use step_line::{Piece, tick_count};
 
 /// The word that counts the pieces published.
 const HEAD: usize = 0;
@@ -33,17 +33,6 @@ const HALTED: usize = 65;
 const WORDS: usize = 66;
 
 const SLOTS: usize = 6;
-
-/// How many ticks a piece has.
-fn tick_count(piece: &Piece) -> u64
-    ensures { result ≡ tick_count piece.now }
-{
-    match piece {
-        Piece::Segment(segment) => segment.n as u64,
-        Piece::Mark(_) => 1,
-        Piece::End => 0,
-    }
-}
 
 /// A ring with no piece in it, and its two ends.
 pub fn motion(alloc: Global) -> Result<(SegOut, SegIn), OutOfMemory>
@@ -99,7 +88,7 @@ impl SegOut {
         self.head += 1;
         self.slot = place_behind(self.slot, SLOTS);
         self.before = [self.ticks, self.before[0], self.before[1], self.before[2]];
-        self.ticks += tick_count(&p);
+        self.ticks += tick_count(&p) as u64;
         Ok(())
     }
 
@@ -174,7 +163,7 @@ impl SegIn {
         let piece = shared.exchange(&mut self.seat, self.slot, None).unwrap();
         self.taken += 1;
         self.slot = place_behind(self.slot, SLOTS);
-        self.left = tick_count(&piece);
+        self.left = tick_count(&piece) as u64;
         Some(piece)
     }
 

@@ -1,7 +1,6 @@
 //! A whole reset, turn by turn, over a port that finds nothing at every other look.
 
 ghost use Rattle.std.specs.Prelude.{◌≡◌};
-ghost use Rattle.step_line.specs.Finishing.{tick_count};
 ghost use Rattle.reset_work.specs.Tapes.{IsTape, IsWorkedOn};
 
 use crate::{Counts, ResetWork};
@@ -12,7 +11,7 @@ use outside::{On, Turn};
 use run_rules::State;
 use serial_ring::ByteIn;
 use status_report::Reply;
-use step_line::Piece;
+use step_line::{Piece, tick_count};
 
 /// A port with three bytes, a mark behind them, and a pulse that has done all but the last piece.
 #[derive(Drop)]
@@ -24,17 +23,6 @@ struct Tape {
     done: u64,
     /// The next look finds nothing.
     late: bool,
-}
-
-/// How many ticks a piece has.
-fn ticks_of(piece: &Piece) -> u64
-    ensures { result ≡ tick_count piece.now }
-{
-    match piece {
-        Piece::Segment(segment) => segment.n as u64,
-        Piece::Mark(_) => 1,
-        Piece::End => 0,
-    }
 }
 
 impl Tape {
@@ -91,7 +79,7 @@ impl BoardPort for Tape {
 
     fn publish(&mut self, p: Piece) -> Result<(), Piece> {
         self.done = self.ticks;
-        self.ticks += ticks_of(&p);
+        self.ticks += tick_count(&p) as u64;
         Ok(())
     }
 

@@ -2,12 +2,19 @@
 use Rattle.std.proofs.Common.{◌≡◌, ℕ, suc, ◌+◌, ◌-◌, ◌<◌, ◌≤◌, Bool, true, false, cond, nat_lt, List, [], ◌∷◌, ◌++◌, length, ◌↔◌, refl, ap, ◌∙◌, arith}
 use Rattle.std.specs.List.{flat_map}
 use Rattle.std.proofs.lemmas.Bool.Decides.{nat_tests}
-use Rattle.std.proofs.lemmas.List.{length-append}
+use Rattle.std.proofs.lemmas.List.{length-append, length-map}
 use Rattle.std.proofs.lemmas.List.Concat.{flat_map-append, flat_map-cons}
 use Rattle.step_line.specs.declared.Piece.{Piece}
 use Rattle.step_line.specs.declared.Piece.TheVariants as pieces
+use Rattle.step_line.specs.declared.Record.TheVariants as kinds
+use Rattle.step_line.specs.declared.Segment.{Segment}
+use Rattle.step_line.specs.Events.{events_after}
 use Rattle.step_line.specs.Pieces.{ticks_of}
 use Rattle.step_line.specs.Finishing.{tick_count, ticks_together, unfinished}
+use Rattle.step_line.proofs.Order.{length_after}
+
+pub segment_ticks : (s : Segment) → tick_count (pieces.Segment s) ≡ s.n
+segment_ticks s = length-map (events_after s.mv s.first s.n) kinds.Event ∙ length_after s.mv s.first s.n
 
 pub together : (p : Piece) (ps : List Piece) → ticks_together (p ∷ ps) ≡ tick_count p + ticks_together ps
 together p ps = ap length (flat_map-cons ticks_of p ps) ∙ length-append (ticks_of p) (flat_map ticks_of ps)

@@ -1,11 +1,13 @@
-//! Where a move is after some of its events.
+//! Where a move is after some of its events, and how many ticks a piece has.
 
 ghost use Rattle.std.specs.Prelude.{◌≡◌, ◌≤◌, ◌<◌, nat_abs, ◌-ℤ◌, ◌+ℤ◌};
 ghost use Rattle.units.specs.Lengths.{IsCoordinate, IsPlace, IsMove};
 ghost use Rattle.units.specs.Rounding.{with_sign_of};
 ghost use Rattle.units.specs.Counting.{count, events_of};
+ghost use Rattle.step_line.specs.Finishing.{tick_count};
 ghost use Rattle.step_line.specs.Places.{axis_after, place_after};
 
+use crate::Piece;
 use units::{Counts, Move, Steps3};
 
 /// How many of an axis's a steps are made after k of n events.
@@ -52,4 +54,16 @@ pub fn position_after(mv: &Move, k: u32) -> Steps3
     let y = axis_place(mv.from.y, mv.to.y, count_of(counts.y, n, k));
     let z = axis_place(mv.from.z, mv.to.z, count_of(counts.z, n, k));
     Steps3 { x, y, z }
+}
+
+/// How many ticks a piece has: one for each event of a segment, and one for a mark.
+#[inline]
+pub fn tick_count(piece: &Piece) -> u32
+    ensures { result ≡ tick_count piece.now }
+{
+    match piece {
+        Piece::Segment(segment) => segment.n,
+        Piece::Mark(_) => 1,
+        Piece::End => 0,
+    }
 }

@@ -9,4 +9,4 @@ returns-clause-next g c far h joined all = let v = sym c.self.view_is in (piece_
 pub returns-clause-some : goal.returns-clause-some
 returns-clause-some g c far h joined all =
     let v = sym c.self.view_is in
-    rw (c.pop_front.ensures.items, c.ticks-self-inside.ensures) (piece_got _ _ _ _ (rw v at joined) _ _ (first_is _ _ c.in_ok-piece.ensures.value) all).0
+    rw (c.pop_front.ensures.items, c.tick_count-self-inside.ensures) (piece_got _ _ _ _ (rw v at joined) _ _ (first_is _ _ c.in_ok-piece.ensures.value) all).0
