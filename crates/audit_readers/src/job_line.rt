@@ -7,6 +7,7 @@ ghost use Rattle.run_texts.specs.Sent.{is_reset};
 ghost use Rattle.audit_rules.specs.Scanned.{is_hold, may_cut};
 
 use arrayvec::ArrayVec;
+use gcode_words::realtime_bytes::{CANCEL, HOLD, RESET};
 use gcode_words::{Stripped, Stripper};
 use std::marker::Model;
 
@@ -85,15 +86,15 @@ impl JobLine {
         ensures few_held { self.new.holds ≤ self.old.holds + 1 }
     {
         match byte {
-            0x18 => {
+            RESET => {
                 self.kept.clear();
                 self.resets += 1;
             }
-            b'!' => {
+            HOLD => {
                 self.cuts += 1;
                 self.holds += 1;
             }
-            0x85 => self.cuts += 1,
+            CANCEL => self.cuts += 1,
             _ => {}
         }
     }

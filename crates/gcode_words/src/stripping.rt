@@ -8,6 +8,7 @@ ghost use Rattle.gcode_words.specs.declared.stripping.Comment.{Comment};
 ghost use Rattle.gcode_words.specs.declared.stripping.Comment.TheVariants.{Outside, Paren, Semicolon};
 ghost use Rattle.gcode_words.specs.declared.stripping.Stripped.{Stripped};
 
+use crate::realtime_bytes::{HOLD, QUERY, RESET, RESUME};
 use std::marker::Model;
 
 /// Whether all that is kept of a line fits a `LineBuf`.
@@ -57,7 +58,7 @@ fn answer_outside(byte: u8) -> Stripped
     ensures goes_on { result ≢ Stripped.LineEnd }
 {
     match byte {
-        0x18 | b'?' | b'!' | b'~' | 0x80.. => Stripped::Realtime(byte),
+        RESET | QUERY | HOLD | RESUME | 0x80.. => Stripped::Realtime(byte),
         0..=b' ' | b'/' => Stripped::Nothing,
         _ => Stripped::Keep(byte.to_ascii_uppercase()),
     }

@@ -11,11 +11,9 @@ ghost use Rattle.stream_host.specs.declared.line.Asking.TheVariants.{Nothing};
 ghost use Rattle.stream_host.specs.Hosts.{HasLine, KeepsDue, is_over};
 
 use arrayvec::ArrayVec;
+use gcode_words::realtime_bytes::RESET;
 use gcode_words::{Stripped, Stripper};
 use status_report::Reply;
-
-/// The realtime byte that resets the machine.
-const RESET: u8 = 0x18;
 
 /// What has come of a line: where the stripper stands in it, the first 127 bytes kept behind its last reset, whether there were
 /// ever more, and whether any byte came; the realtime byte that is to be raised before it goes on, if any; whether it is

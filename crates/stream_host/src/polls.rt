@@ -10,7 +10,7 @@ ghost use Rattle.stream_host.specs.Hosts.{HostFits};
 
 use crate::host::Host;
 use crate::ports::HostPort;
-use crate::realtime::RESUME;
+use gcode_words::realtime_bytes::RESUME;
 
 /// So many polls in a row that find no reply are enough to resume the machine.
 const EMPTY_POLLS: u16 = 4096;

@@ -5,17 +5,7 @@ ghost use Rattle.stream_host.specs.Conduct.{waits_for_lines};
 ghost use Rattle.stream_host.specs.Holding.{held_after};
 ghost use Rattle.stream_host.specs.Jobs.{resume};
 
-/// The realtime byte that holds the machine.
-const HOLD: u8 = b'!';
-
-/// The realtime byte that resumes the machine.
-pub(crate) const RESUME: u8 = b'~';
-
-/// The realtime byte that asks for a report.
-const QUERY: u8 = b'?';
-
-/// The realtime byte that cancels a jog.
-const CANCEL: u8 = 0x85;
+use gcode_words::realtime_bytes::{CANCEL, HOLD, QUERY, RESUME};
 
 /// Whether a realtime byte is raised only once each line before its own is answered: a `?` is, and the cancel of a jog.
 pub(crate) fn waits_for_lines(byte: u8) -> bool

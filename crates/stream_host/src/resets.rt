@@ -4,10 +4,8 @@ ghost use Rattle.std.specs.Prelude.{◌≡◌, ◌+◌, ◌^◌, ◌<◌, false,
 ghost use Rattle.stream_host.specs.Hosts.{awaits_by, begins_by, with_banner};
 ghost use Rattle.stream_host.specs.Jobs.{is_reset};
 
+use gcode_words::realtime_bytes::RESET;
 use status_report::Reply;
-
-/// The realtime byte that resets the machine.
-const RESET: u8 = 0x18;
 
 /// How many resets were raised, and how many Banners were got; and whether the mark of the next reset is stored.
 #[derive(Drop)]
