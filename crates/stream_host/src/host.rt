@@ -351,7 +351,8 @@ impl Host {
         Turn::Did
     }
 
-    /// Takes one step of sending, or none behind an alarm.
+    /// Takes one step of sending: marks and raises a byte that is due, or goes on with the line if no Banner is awaited. Behind an alarm
+    /// nothing more is sent.
     fn send<P: HostPort, So: Source>(&mut self, port: &mut P, job: &mut So) -> Turn
         requires shown { HasShown self.old.text }
         requires stands { (rest : P.Rest) × (h : Journal) × P.stands port.old rest (port_log h) × HostFits P.room self.old h × HasPolled h }
@@ -363,7 +364,13 @@ impl Host {
         if self.alarm {
             return self.send_no_more(port);
         }
-        self.send_on(port, job)
+        if let Some(byte) = self.line.due {
+            return self.raise_due(port, byte);
+        }
+        if self.resets.awaits() {
+            return Turn::Wait(On::Answer);
+        }
+        self.send_line(port, job)
     }
 
     /// Raises a byte that is due, a reset behind its mark, which is stored in a turn of its own. Where it is too early, a reply is
@@ -387,25 +394,6 @@ impl Host {
         }
         self.raise(port, byte);
         Turn::Did
-    }
-
-    /// Takes one step of sending: marks and raises a byte, or goes on with the line where no Banner is awaited.
-    fn send_on<P: HostPort, So: Source>(&mut self, port: &mut P, job: &mut So) -> Turn
-        requires calm { self.old.alarm ≡ false }
-        requires shown { HasShown self.old.text }
-        requires stands { (rest : P.Rest) × (h : Journal) × P.stands port.old rest (port_log h) × HostFits P.room self.old h × HasPolled h }
-        ensures goes_on { (rest : P.Rest) (h : Journal) → P.stands port.old rest (port_log h) → HostFits P.room self.old h → HasPolled h
-            → (next : Journal) × P.stands port.new rest (port_log next) × HostWorked P.room result self.old self.new h next
-            × ((console : SinkState) → HostTellsOn self.old self.new h next (So.state job.old) (So.state job.new) console console) }
-        ensures going { result ≢ Turn.Done }
-    {
-        if let Some(byte) = self.line.due {
-            return self.raise_due(port, byte);
-        }
-        if self.resets.awaits() {
-            return Turn::Wait(On::Answer);
-        }
-        self.send_line(port, job)
     }
 
     /// Stores a byte, scans, reads once nothing is awaited, or closes the link. Where it may do none, a reply is waited for.
@@ -445,8 +433,8 @@ impl Host {
         Turn::Did
     }
 
-    /// What is done where a poll found no reply: the text that waits is written, else the sending goes on.
-    fn without_reply<P: HostPort, So: Source, Co: Sink>(
+    /// Where a poll found no reply, writes the text that waits, and else takes one step of sending.
+    fn write_or_send<P: HostPort, So: Source, Co: Sink>(
         &mut self,
         port: &mut P,
         job: &mut So,
@@ -497,7 +485,7 @@ impl Host {
                 if self.count_poll(port) {
                     return Turn::Did;
                 }
-                self.without_reply(port, job, console)
+                self.write_or_send(port, job, console)
             }
         }
     }

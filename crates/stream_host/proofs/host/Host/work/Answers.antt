@@ -29,8 +29,8 @@ returns-then-count_poll-clause-goes_on g c = λ rest h stands f between.
       tells_resumed c.args.self.now _ resume t.0 h _ _ c.count_poll.ensures.text,
     )
 
-pub without_reply-requires : goal.without_reply-requires
-without_reply-requires g c =
+pub write_or_send-requires : goal.write_or_send-requires
+write_or_send-requires g c =
     let r = c.requires.stands in
     let n = c.count_poll.ensures.counted c.if-count_poll.false in
     record { stands = (r.0, at_port no_reply ∷ r.1, rw n.0 (c.in-None.ensures.none r.0 (port_log r.1) r.2), n.1 _ r.1 r.3, has_polled r.1 r.4) }
@@ -38,7 +38,7 @@ without_reply-requires g c =
 pub returns-else-count_poll-clause-goes_on : goal.returns-else-count_poll-clause-goes_on
 returns-else-count_poll-clause-goes_on g c = λ rest h stands f between.
     let counted = c.count_poll.ensures.counted c.if-count_poll.false in
-    let n = c.without_reply.ensures.goes_on rest (at_port no_reply ∷ h) (rw counted.0 (c.in-None.ensures.none rest (port_log h) stands)) (counted.1 _ h f) (has_polled h between) in
+    let n = c.write_or_send.ensures.goes_on rest (at_port no_reply ∷ h) (rw counted.0 (c.in-None.ensures.none rest (port_log h) stands)) (counted.1 _ h f) (has_polled h between) in
     (n.0, n.1, worked_on _ c.args.self.now _ _ h n.0 c.count_poll.ensures.text n.2, tells_polled c.args.self.now _ _ h n.0 _ _ _ _ c.count_poll.ensures.text n.3)
 
 pub take_reply-requires-clause-fits : goal.take_reply-requires-clause-fits
@@ -93,7 +93,7 @@ pub returns-in-Some-clause-still : goal.returns-in-Some-clause-still
 returns-in-Some-clause-still g c = λ rests. absurd (not_both _ c.if-self.false rests.bye)
 
 pub returns-else-count_poll-clause-done : goal.returns-else-count_poll-clause-done
-returns-else-count_poll-clause-done g c = (λ e. absurd (c.without_reply.ensures.going e), λ rests. absurd (not_both _ c.if-self.false rests.bye))
+returns-else-count_poll-clause-done g c = (λ e. absurd (c.write_or_send.ensures.going e), λ rests. absurd (not_both _ c.if-self.false rests.bye))
 
 pub returns-else-count_poll-clause-still : goal.returns-else-count_poll-clause-still
 returns-else-count_poll-clause-still g c = λ rests. absurd (not_both _ c.if-self.false rests.bye)

@@ -1,5 +1,5 @@
 use Rattle.stream_host.proofs.Turns.{did_alone, asked_now, worked_asked, tells_asked, did_goes_on}
-use Rattle.stream_host.proofs.host.Host.without_reply.Goals as goal
+use Rattle.stream_host.proofs.host.Host.write_or_send.Goals as goal
 
 pub returns-then-shows-clause-goes_on : goal.returns-then-shows-clause-goes_on
 returns-then-shows-clause-goes_on g c = λ rest h stands f polled.
