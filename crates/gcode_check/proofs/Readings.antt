@@ -17,7 +17,7 @@ use Rattle.modal_state.specs.Modes.{IsParser, offset_of, program_ended}
 use Rattle.settings.specs.declared.Settings.{Settings}
 use Rattle.line_words.specs.Letters.{G, L, P}
 use Rattle.line_words.specs.Codes.{rows_of, has_g, code_in}
-use Rattle.line_words.specs.Given.{given, whole_given, is_over, names_axis}
+use Rattle.line_words.specs.Given.{given, whole_given, exceeds, names_axis}
 use Rattle.line_words.specs.LineModes.{system_of, coordinates}
 use Rattle.line_words.specs.Targets.{targets, targets_home, targets_motion, named, line_offset, target}
 use Rattle.line_words.specs.WordRefusals.{words_refusal}
@@ -153,7 +153,7 @@ no_row : (p : Parser) (ws : List Word) → line_refusal p ws ≡ None → system
 unfolding line_refusal
 no_row p ws e = row_passes (line_rows p ws) 4 (0, false) e (omega arith)
 
-number_in : (o : Option ℕ) (line : ℕ) → is_over 6 o ≡ false → IsServed line → IsServed (let n = unwrap_or o 0 in if n == 0 then line else n)
+number_in : (o : Option ℕ) (line : ℕ) → exceeds 6 o ≡ false → IsServed line → IsServed (let n = unwrap_or o 0 in if n == 0 then line else n)
 number_in None line small served = served
 number_in (Some n) line small served = by_test (n == 0) refl
   where
@@ -167,7 +167,7 @@ when false c e f = absurd cc
 
 set_served : (p : Parser) (ws : List Word) → IsParser p → has_g (code 10 0) ws ≡ true → line_refusal p ws ≡ None → IsServed (set_system p ws)
 set_served p ws valid e none =
-    number_in (whole_given P ws) (system_of p ws) (when (has_g (code 10 0) ws) (is_over 6 (whole_given P ws)) e (no_row p ws none)) (line_system p ws valid)
+    number_in (whole_given P ws) (system_of p ws) (when (has_g (code 10 0) ws) (exceeds 6 (whole_given P ws)) e (no_row p ws none)) (line_system p ws valid)
 
 -- ---- the offsets that a line sets
 

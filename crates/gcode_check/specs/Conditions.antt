@@ -13,7 +13,7 @@ use Rattle.modal_state.specs.declared.Parser.{Parser}
 use Rattle.settings.specs.declared.Settings.{Settings}
 use Rattle.line_words.specs.Letters.{I, J, K, L, P, R}
 use Rattle.line_words.specs.Codes.{has_g}
-use Rattle.line_words.specs.Given.{stands, whole_given, is_over, line_number_out_of_range, names_axis}
+use Rattle.line_words.specs.Given.{stands, whole_given, exceeds, line_number_out_of_range, names_axis}
 use Rattle.line_words.specs.LineModes.{motion_of, feed_of}
 use Rattle.line_words.specs.Targets.{moves, targets}
 use Rattle.travel_limits.specs.Reach.{is_far, leave_travel}
@@ -41,7 +41,7 @@ system_offset_without_system ws = has_g (code 10 0) ws && not (stands P ws) && n
 
 -- P over 6
 abbrev pub system_out_of_range : List Word → Bool
-system_out_of_range ws = has_g (code 10 0) ws && is_over 6 (whole_given P ws)
+system_out_of_range ws = has_g (code 10 0) ws && exceeds 6 (whole_given P ws)
 
 -- neither L2 without R nor L20
 abbrev pub system_offset_unsupported : List Word → Bool

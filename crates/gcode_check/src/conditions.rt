@@ -14,7 +14,7 @@ use crate::offsets::{has_l, new_offset};
 use code_table::Code;
 use line_words::commands::{G4, G10, G53, G92};
 use line_words::{
-    Line, feed_of, is_over, line_number_out_of_range, motion_of, moves, names_axis, whole_given,
+    Line, exceeds, feed_of, line_number_out_of_range, motion_of, moves, names_axis, whole_given,
 };
 use modal_state::{MotionMode, Parser};
 use travel_limits::is_far;
@@ -55,7 +55,7 @@ fn system_offset_without_system(line: &Line<'_>) -> bool
 fn system_out_of_range(line: &Line<'_>) -> bool
     ensures { result ≡ system_out_of_range line.now }
 {
-    line.has(G10) && is_over(6, whole_given(b'P', line))
+    line.has(G10) && exceeds(6, whole_given(b'P', line))
 }
 
 fn system_offset_unsupported(line: &Line<'_>) -> bool

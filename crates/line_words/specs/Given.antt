@@ -23,13 +23,13 @@ given letter ws = option_map (λ w. w.value) (find (λ w. w.letter == letter) ws
 abbrev pub whole_given : ℕ → List Word → Option ℕ
 whole_given letter ws = option_map whole_part (given letter ws)
 
-abbrev pub is_over : ℕ → Option ℕ → Bool
-is_over bound None = false
-is_over bound (Some n) = nat_lt bound n
+abbrev pub exceeds : ℕ → Option ℕ → Bool
+exceeds bound None = false
+exceeds bound (Some n) = nat_lt bound n
 
 -- N over 10,000,000
 abbrev pub line_number_out_of_range : List Word → Bool
-line_number_out_of_range ws = is_over 10000000 (whole_given N ws)
+line_number_out_of_range ws = exceeds 10000000 (whole_given N ws)
 
 abbrev pub names_axis : List Word → Bool
 names_axis ws = stands X ws || stands Y ws || stands Z ws

@@ -18,7 +18,7 @@ pub use laws::{
 };
 pub use line::Line;
 pub use modes::{
-    feed_of, flood_of, inch_of, is_over, length_given, line_number_out_of_range, motion_of,
+    exceeds, feed_of, flood_of, inch_of, length_given, line_number_out_of_range, motion_of,
     names_axis, plane_of, relative_of, rpm_of, spindle_of, system_of, tool_of, whole_given,
 };
 pub use words::is_code;

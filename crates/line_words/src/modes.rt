@@ -5,7 +5,7 @@ ghost use Rattle.std.specs.Map.{lookup};
 ghost use Rattle.units.specs.Limits.{IsFeed};
 ghost use Rattle.modal_state.specs.Modes.{IsParser};
 ghost use Rattle.line_words.specs.Codes.{is_negative};
-ghost use Rattle.line_words.specs.Given.{is_value_letter, given, whole_given, is_over, line_number_out_of_range, names_axis, IsSoundValue};
+ghost use Rattle.line_words.specs.Given.{is_value_letter, given, whole_given, exceeds, line_number_out_of_range, names_axis, IsSoundValue};
 ghost use Rattle.line_words.specs.LineModes.{motions, planes, inches, distances, coordinates, spindles, coolants, motion_of, plane_of, inch_of, relative_of, system_of, spindle_of, flood_of, length_in, feed_of, rpm_of, tool_of};
 ghost use Rattle.line_words.specs.Targets.{IsLength};
 
@@ -222,8 +222,8 @@ pub fn whole_given(letter: u8, line: &Line<'_>) -> Option<u32>
 }
 
 /// Whether a number stands that is over a bound.
-pub fn is_over(bound: u32, number: Option<u32>) -> bool
-    ensures { result ≡ is_over bound number }
+pub fn exceeds(bound: u32, number: Option<u32>) -> bool
+    ensures { result ≡ exceeds bound number }
 {
     match number {
         Some(number) => number > bound,
@@ -235,7 +235,7 @@ pub fn is_over(bound: u32, number: Option<u32>) -> bool
 pub fn line_number_out_of_range(line: &Line<'_>) -> bool
     ensures { result ≡ line_number_out_of_range line.now }
 {
-    is_over(10_000_000, whole_given(b'N', line))
+    exceeds(10_000_000, whole_given(b'N', line))
 }
 
 /// The spindle speed after a line.
