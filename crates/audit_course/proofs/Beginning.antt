@@ -34,7 +34,7 @@ use Rattle.audit_course.specs.declared.LastTask.TheVariants.{Nothing}
 use Rattle.audit_course.specs.declared.Progress.{Progress}
 use Rattle.audit_course.specs.declared.judge.CourseJudge.{CourseJudge}
 use Rattle.audit_course.specs.Progressing.{last_behind, has_ticks, has_halt, IsNew}
-use Rattle.audit_course.specs.SoFar.{GoesTo, HasJudged, OfLine, MayBegin, Knows, FindsRight, FindsStill, left_to_tell}
+use Rattle.audit_course.specs.SoFar.{GoesTo, HasJudged, OfLine, IsBare, MayBegin, Knows, FindsRight, FindsStill, left_to_tell}
 use Rattle.audit_course.proofs.Going.{by_line, by_broken}
 use Rattle.audit_course.proofs.Finding.{still_may, stands_becomes, busy_becomes, locked_becomes}
 use Rattle.audit_course.proofs.Outcomes.{SaysOf, becomes_says, locked_says}
@@ -150,6 +150,7 @@ line_begun j k kept o w first sent replies records s b judged kind jogged locked
       let a = asked_more j first sent replies records s b.done (sym (ap (λ (x : CourseJudge). x.lost) is) ∙ e) in
       (ap (λ (rs : List Record). rs ++ ticks_for o) a.0 ∙ ap (λ (ts : List Task). ticks_of_all (asks ts)) (sym left), ap (λ (ms : List PlannedMove). ms ++ moves_of (asks o.work)) a.1 ∙ ap (λ (ts : List Task). moves_of (asks ts)) (sym left));
   is_made = is_made;
+  untouched = λ u t. absurd (let f : false ≡ true = sym answered ∙ u in cc);
   loses = record {
     closed = s.loses.closed;
     others = s.loses.others;
@@ -190,6 +191,10 @@ line_begun j k kept o w first sent replies records s b judged kind jogged locked
 
 -- ---- a line that a reset keeps from its answer
 
+bare_made : (j : CourseJudge) (first : State) (sent : List Sent) (replies : List Reply) (records : List Record) (s : HasJudged j first sent replies records) → j.unanswered ≡ false → IsMade s.since s.made (making j.part s.ticks s.moves)
+bare_made j first sent replies records s answered =
+    subst (λ (os : List Outcome). IsMade os s.made (making j.part s.ticks s.moves)) (ap (λ (os : List Outcome). s.since ++ os) (s.none_begun answered) ∙ append-nil s.since) s.is_made
+
 broken_of : (j k : CourseJudge) (p : Point) (hand : List Outcome) (kept : List ℕ) (o : Outcome) (w : Interpreting) → OfLine j p hand → MayBegin j → IsJudged j p false kept o w k.line → k.work ≡ w → kind_told k.line.accepted ≡ kind_told Code
     → k.moved ≡ j.moved → k.jog_moved ≡ j.jog_moved → k.unanswered ≡ true → k.in_hand ≡ true → k.jogged ≡ j.jogged → OfLine k (behind_broken p o) []
 broken_of j k p hand kept o w was b judged work kind moved jog_moved broken in_hand jogged = record {
@@ -225,7 +230,7 @@ broken_of j k p hand kept o w was b judged work kind moved jog_moved broken in_h
 
 pub line_broken : (j k : CourseJudge) (kept : List ℕ) (o : Outcome) (w : Interpreting) (first : State) (sent : List Sent) (replies : List Reply) (records : List Record) (s : HasJudged j first sent replies records)
     → MayBegin j → IsJudged j s.point false kept o w k.line → kind_told k.line.accepted ≡ kind_told Code
-    → k ≡ record j { work = w; has_line = true; unanswered = true; in_hand = true; line = k.line }
+    → k ≡ record j { work = w; has_line = true; unanswered = true; touched = false; in_hand = true; line = k.line }
     → HasJudged k first (sent ++ a_text kept ∷ []) replies records
 line_broken j k kept o w first sent replies records s b judged kind is = record {
   point = behind_broken s.point o;
@@ -250,6 +255,8 @@ line_broken j k kept o w first sent replies records s b judged kind is = record 
       (ap (λ (rs : List Record). rs ++ ticks_for o) a.0 ∙ ap (λ (ts : List Task). ticks_of_all (asks ts)) (sym left), ap (λ (ms : List PlannedMove). ms ++ moves_of (asks o.work)) a.1 ∙ ap (λ (ts : List Task). moves_of (asks ts)) (sym left));
   is_made = subst (λ (os : List Outcome). IsMade os s.made (making k.part (s.ticks ++ ticks_for o) (s.moves ++ moves_of (asks o.work)))) (append_assoc s.since s.begun (o ∷ []))
       (subst (λ (m : Making). IsMade ((s.since ++ s.begun) ++ o ∷ []) s.made m) same (line_made (s.since ++ s.begun) s.made (making j.part s.ticks s.moves) o s.is_made));
+  untouched = λ u t. subst (λ (x : Known). IsBare s.since s.made x.latest) (sym (ap (λ (x : CourseJudge). x.part) is))
+      (record { making = making j.part s.ticks s.moves; is = bare_made j first sent replies records s b.answered; out = refl; head = refl });
   loses = record {
     closed = s.loses.closed;
     others = s.loses.others;
@@ -334,12 +341,12 @@ pub line_unanswered : (j : CourseJudge) (machine : Machine) (w : Interpreting) (
     → HasJudged j first sent replies records → MayBegin j
     → ((since : Since) → (o : Outcome) × Found machine (stands_before j.work since) kept o × (w ≡ record { state = o.next; number = j.work.number + 1; left = o.work }) × (kind_told accepted ≡ o.kind))
     → FindsStill j machine kept → IsNew l → l.accepted ≡ Code
-    → HasJudged (record j { work = w; has_line = true; unanswered = true; in_hand = true; line = l }) first (sent ++ a_text kept ∷ []) replies records
+    → HasJudged (record j { work = w; has_line = true; unanswered = true; touched = false; in_hand = true; line = l }) first (sent ++ a_text kept ∷ []) replies records
 line_unanswered j machine w l accepted kept first sent replies records s b judged finds new code =
     let o = judged (since_at s.point) in
     let found : Found machine s.point.before kept o.0 = subst (λ (x : Before). Found machine x kept o.0) (stands_there j first sent replies records s b) o.1 in
     let becomes = finds s.point (known_at j first sent replies records s b) o.0 found in
-    line_broken j (record j { work = w; has_line = true; unanswered = true; in_hand = true; line = l }) kept o.0 w first sent replies records s b
+    line_broken j (record j { work = w; has_line = true; unanswered = true; touched = false; in_hand = true; line = l }) kept o.0 w first sent replies records s b
     (record { becomes = becomes; says = says_still s.point kept o.0 becomes; work = o.2; is_new = new }) (ap kind_told code) refl
 
 -- ---- how the machine is found

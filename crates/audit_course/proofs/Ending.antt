@@ -4,6 +4,7 @@ use Rattle.std.specs.List.{AllByRecursion, list_any}
 use Rattle.std.proofs.lemmas.List.{take-append-le, take-append-drop}
 use Rattle.std.proofs.lemmas.List.Elements.{filter-append}
 use Rattle.flight.specs.Places.{origin}
+use Rattle.legal_heads.specs.Speeds.{MayStop}
 use Rattle.legal_heads.specs.Whole.{events_among, is_event}
 use Rattle.status_report.specs.declared.Reply.{Reply}
 use Rattle.step_line.specs.Asking.{ticks_of_all, moves_of, ticks_among}
@@ -22,7 +23,7 @@ use Rattle.line_interpreter.specs.Lefts.{greeting}
 use Rattle.part_making.specs.Judging.{Known, nothing_known, making}
 use Rattle.run_texts.specs.Courses.{Reset, IsCut, IsReset, behind_cut, behind_the_reset, reset_state}
 use Rattle.run_texts.specs.Left.{part_of}
-use Rattle.run_texts.specs.Making.{IsMade}
+use Rattle.run_texts.specs.Making.{IsMade, nothing_yet}
 use Rattle.run_texts.specs.Parts.{ending_record}
 use Rattle.run_texts.specs.Parts.Ending.{by_cut, by_reset, by_end}
 use Rattle.run_texts.specs.Points.{Point, opening}
@@ -37,7 +38,7 @@ use Rattle.audit_course.specs.declared.LastTask.TheVariants.{Nothing}
 use Rattle.audit_course.specs.declared.Progress.{Progress}
 use Rattle.audit_course.specs.declared.judge.CourseJudge.{CourseJudge}
 use Rattle.audit_course.specs.Progressing.{last_behind, has_ticks, has_halt, fresh}
-use Rattle.audit_course.specs.SoFar.{GoesTo, HasJudged, IsOver, AddsReset, OfLine, MayLose, MayCut, MayReset, MayEnd, left_to_tell}
+use Rattle.audit_course.specs.SoFar.{GoesTo, HasJudged, IsBare, IsOver, AddsReset, OfLine, MayLose, MayCut, MayReset, MayEnd, left_to_tell}
 use Rattle.audit_course.proofs.Going.{by_a_cut, by_a_reset, at_end}
 use Rattle.audit_course.proofs.Outcomes.{telling_halts}
 use Rattle.audit_course.proofs.Parting.{idle_owes}
@@ -146,14 +147,26 @@ mark_events records r e =
 
 -- ---- a cut
 
+-- what is made of the answered lines, where no record is of another one
+bare_by : (j : CourseJudge) (first : State) (sent : List Sent) (replies : List Reply) (records : List Record) (s : HasJudged j first sent replies records) (u : Bool) → j.unanswered ≡ u → (j.unanswered ≡ true → j.touched ≡ false)
+    → IsBare s.since s.made j.part.latest
+bare_by j first sent replies records s true u untouched = s.untouched u (untouched u)
+bare_by j first sent replies records s false u untouched = record {
+  making = making j.part s.ticks s.moves;
+  is = subst (λ (os : List Outcome). IsMade os s.made (making j.part s.ticks s.moves)) (ap (λ (os : List Outcome). s.since ++ os) (s.none_begun u) ∙ append-nil s.since) s.is_made;
+  out = refl;
+  head = refl;
+}
+
 pub part_cut : (j : CourseJudge) (k : ℕ) (w : Interpreting) (state : State) (first : State) (sent : List Sent) (replies : List Reply) (records : List Record) (s : HasJudged j first sent replies records)
-    → MayCut j k → state ≡ (at_place j.place (record s.point.before { state = j.state })).state → w ≡ record j.work { state = state }
+    → MayCut j k → state ≡ (at_place j.place (record s.point.before { state = j.state })).state
+    → w.left ≡ j.work.left → w.number ≡ j.work.number → (j.unanswered ≡ false → w.state ≡ state)
     → HasJudged (record j { work = w; state = state; part = nothing_known; cuts = j.cuts + 1; has_line = false; lost = false; jogs = true; unsettled = true }) first sent replies (records ++ ending_record (by_cut k j.place) ∷ [])
-part_cut j k w state first sent replies records s may state_is is = record {
+part_cut j k w state first sent replies records s may state_is same_left number_is work_is = record {
   point = behind_cut j.place s.point;
-  number = s.number ∙ sym (ap (λ (i : Interpreting). i.number) is);
+  number = s.number ∙ sym number_is;
   state = ap (λ (x : State). (at_place j.place (record s.point.before { state = x })).state) s.state ∙ sym state_is;
-  same_state = λ e. sym (ap (λ (i : Interpreting). i.state) is);
+  same_state = λ e. sym (work_is e);
   locked = s.locked;
   has_line = refl;
   unanswered = s.unanswered;
@@ -169,25 +182,22 @@ part_cut j k w state first sent replies records s may state_is is = record {
   moves = [];
   asked = λ e. (sym (ap (λ (ts : List Task). ticks_of_all (asks ts)) left), sym (ap (λ (ts : List Task). moves_of (asks ts)) left));
   is_made = begins;
+  untouched = λ u e. record { making = nothing_yet; is = begins; out = refl; head = refl };
   loses = record { closed = []; others = []; split = refl; over = omega arith; jogs = λ e. tt; unsettled = λ e. tt };
   alarm = λ e. absurd (let f : true ≡ false = sym e ∙ calm_point j s.point s.hand s.line may.ends.done may.calm in cc);
   events = s.events ∙ sym (mark_events records (ending_record (by_cut k j.place)) refl);
   back = λ n more told rest last g.
       let before = s.back (n + 1) more told (ending_record (by_cut k j.place) ∷ rest) last
-      (subst (λ (os : List Outcome). GoesTo s.point s.since os s.from (n + 1) more told (s.made ++ ending_record (by_cut k j.place) ∷ rest) last) (sym none)
-      (by_a_cut s.point last s.since [] s.from n k j.place more told s.made rest is_cut recorded g)) in
+      (by_a_cut s.point last s.since s.begun s.from n k j.place more told s.made rest is_cut recorded g) in
       subst (λ (rs : List Record). GoesTo (opening first) [] [] origin (n + (j.cuts + 1)) (sent ++ more) (replies ++ (cond j.unanswered [] (tells w.left) ++ told)) rs last) (sym (append_assoc records (ending_record (by_cut k j.place) ∷ []) rest))
       (subst (λ (c : ℕ). GoesTo (opening first) [] [] origin c (sent ++ more) (replies ++ (cond j.unanswered [] (tells w.left) ++ told)) (records ++ ending_record (by_cut k j.place) ∷ rest) last) (sums n j.cuts)
       (subst (λ (rs : List Reply). GoesTo (opening first) [] [] origin ((n + 1) + j.cuts) (sent ++ more) (replies ++ (rs ++ told)) (records ++ ending_record (by_cut k j.place) ∷ rest) last) (to_tell j may.ends.done ∙ sym left_none) before));
 } where
   left : w.left ≡ []
-  left = ap (λ (i : Interpreting). i.left) is ∙ may.ends.done
+  left = same_left ∙ may.ends.done
 
   left_none : cond j.unanswered [] (tells w.left) ≡ []
-  left_none = ap (λ (ts : List Task). cond j.unanswered [] (tells ts)) left ∙ ap (λ (u : Bool). cond u [] (tells [])) may.answered
-
-  none : s.begun ≡ []
-  none = s.none_begun may.answered
+  left_none = ap (λ (ts : List Task). cond j.unanswered [] (tells ts)) same_left ∙ to_tell j may.ends.done
 
   sums : (n c : ℕ) → (n + 1) + c ≡ n + (c + 1)
   sums n c = omega arith
@@ -195,16 +205,16 @@ part_cut j k w state first sent replies records s may state_is is = record {
   is_cut : IsCut s.point k
   is_cut = record { free = calm_point j s.point s.hand s.line may.ends.done may.calm; number = s.number ∙ may.number; has_line = s.has_line ∙ may.has_line }
 
-  made_here : IsMade (s.since ++ []) s.made (making j.part s.ticks s.moves)
-  made_here = subst (λ (os : List Outcome). IsMade (s.since ++ os) s.made (making j.part s.ticks s.moves)) none s.is_made
+  bare : IsBare s.since s.made j.part.latest
+  bare = bare_by j first sent replies records s j.unanswered refl may.untouched
 
-  recorded : IsRecorded s.from (part_of s.since [] (by_cut k j.place)) s.made
-  recorded = finishes s.from (part_of s.since [] (by_cut k j.place)) s.made (record {
-    making = making j.part s.ticks s.moves;
-    is = made_here;
+  recorded : IsRecorded s.from (part_of s.since s.begun (by_cut k j.place)) s.made
+  recorded = finishes s.from (part_of s.since s.begun (by_cut k j.place)) s.made (record {
+    making = bare.making;
+    is = subst (λ (os : List Outcome). IsMade os s.made bare.making) (sym (append-nil s.since)) bare.is;
     may = (
-      may.out,
-      may.may,
+      bare.out ∙ may.out,
+      subst MayStop (sym bare.head) may.may,
       subst (λ (os : List Outcome). LosesJogsAlone (length (ticks_among s.made)) os) (sym (append-nil s.since))
           (jogs_alone j s.since s.made (with_hand j s.since s.hand s.made s.loses (s.line.none may.ends.closed).0) may.jogs),
       s.stands,
@@ -232,9 +242,7 @@ part_cut j k w state first sent replies records s may state_is is = record {
     unsettles = s.line.unsettles;
     none = λ e. (refl, (s.line.none may.ends.closed).1);
     are = tt;
-  } where
-    same_left : w.left ≡ j.work.left
-    same_left = ap (λ (i : Interpreting). i.left) is
+  }
 
 -- ---- a reset
 
@@ -324,6 +332,7 @@ part_reset j k dropped alarm locked lines w state first sent replies records s m
     sym (ap (λ (ts : List Task). moves_of (asks ts)) left ∙ ap moves_of (telling_asks (greeting alarm locked))),
   );
   is_made = begins;
+  untouched = λ u e. absurd cc;
   loses = record { closed = []; others = []; split = refl; over = omega arith; jogs = λ e. tt; unsettled = λ e. tt };
   alarm = λ e. absurd cc;
   events = s.events ∙ sym (mark_events records (kinds.Mark (ResetMark k)) refl);
@@ -418,11 +427,9 @@ pub cut_made : (j : CourseJudge) (k : ℕ) (w : Interpreting) (state : State) (p
     → w ≡ record j.work { state = record j.work.state { parser = rebased j.work.state.parser j.place j.work.state.settings.limits.per_mm } } → part ≡ nothing_known
     → HasJudged (record j { work = w; state = state; part = part; cuts = j.cuts + 1; has_line = false; lost = false; jogs = true; unsettled = true }) first sent replies (records ++ ending_record (by_cut k j.place) ∷ [])
 cut_made j k w state part first sent replies records s may state_is work part_is =
-    let same : j.work.state ≡ j.state = sym (s.same_state may.answered) in
-    let here : w ≡ record j.work { state = state } =
-    work ∙ ap (λ (x : State). record j.work { state = record x { parser = rebased x.parser j.place x.settings.limits.per_mm } }) same ∙ ap (λ (x : State). record j.work { state = x }) (sym state_is) in
     subst (λ (x : Known). HasJudged (record j { work = w; state = state; part = x; cuts = j.cuts + 1; has_line = false; lost = false; jogs = true; unsettled = true }) first sent replies (records ++ ending_record (by_cut k j.place) ∷ [])) (sym part_is)
-    (part_cut j k w state first sent replies records s may state_is here)
+    (part_cut j k w state first sent replies records s may state_is (ap (λ (i : Interpreting). i.left) work) (ap (λ (i : Interpreting). i.number) work)
+    (λ e. ap (λ (i : Interpreting). i.state) work ∙ ap (λ (x : State). record x { parser = rebased x.parser j.place x.settings.limits.per_mm }) (sym (s.same_state e)) ∙ sym state_is))
 
 pub reset_made : (j : CourseJudge) (k dropped : ℕ) (alarm locked : Bool) (w : Interpreting) (state : State) (part : Known) (line : Progress)
     → MayReset j k alarm → locked ≡ (alarm || j.locked) → state ≡ reset_state j.place j.state

@@ -33,6 +33,7 @@ opened w state part line = record {
   locked = false;
   has_line = false;
   unanswered = false;
+  touched = false;
   lost = false;
   in_hand = false;
   jogs = true;
@@ -85,6 +86,7 @@ opens_so_far first w state part line state_is work number left part_is new accep
   moves = [];
   asked = λ e. (sym (ap (λ (ts : List Task). ticks_of_all (asks ts)) left), sym (ap (λ (ts : List Task). moves_of (asks ts)) left));
   is_made = subst (λ (k : Known). IsMade [] [] (making k [] [])) (sym part_is) begins;
+  untouched = λ u t. absurd cc;
   loses = record { closed = []; others = []; split = refl; over = omega arith; jogs = λ e. tt; unsettled = λ e. tt };
   alarm = λ e. absurd cc;
   events = refl;

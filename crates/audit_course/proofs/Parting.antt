@@ -71,7 +71,7 @@ same_line j k p hand o work line moved jog_moved jogged unanswered in_hand = rec
 
 pub record_taken : (j : CourseJudge) (r : Record) (part : Known) (place : Steps3) (events : ℕ) (first : State) (sent : List Sent) (replies : List Reply) (records : List Record) → HasJudged j first sent replies records
     → Goes j.part r part → place ≡ moved_by j.place (r ∷ []) → events ≡ j.events + length (events_among (r ∷ []))
-    → HasJudged (record j { part = part; place = place; events = events }) first sent replies (records ++ r ∷ [])
+    → HasJudged (record j { part = part; place = place; events = events; touched = true }) first sent replies (records ++ r ∷ [])
 record_taken j r part place events first sent replies records s goes here count = record {
   point = s.point;
   number = s.number;
@@ -81,7 +81,7 @@ record_taken j r part place events first sent replies records s goes here count 
   has_line = s.has_line;
   unanswered = s.unanswered;
   hand = s.hand;
-  line = same_line j (record j { part = part; place = place; events = events }) s.point s.hand s.line refl refl refl refl refl refl refl;
+  line = same_line j (record j { part = part; place = place; events = events; touched = true }) s.point s.hand s.line refl refl refl refl refl refl refl;
   since = s.since;
   begun = s.begun;
   none_begun = s.none_begun;
@@ -92,6 +92,7 @@ record_taken j r part place events first sent replies records s goes here count 
   moves = s.moves;
   asked = s.asked;
   is_made = made_on (s.since ++ s.begun) s.made j.part part s.ticks s.moves r s.is_made goes;
+  untouched = λ u e. absurd cc;
   loses = record {
     closed = s.loses.closed;
     others = s.loses.others;
@@ -206,6 +207,7 @@ line_closed j l moved jog_moved jogs unsettled first sent replies records s done
   moves = s.moves;
   asked = s.asked;
   is_made = s.is_made;
+  untouched = s.untouched;
   loses = record { closed = loses.closed; others = loses.others; split = loses.split; over = loses.over; jogs = loses.jogs; unsettled = loses.unsettled };
   alarm = s.alarm;
   events = s.events;
@@ -243,33 +245,36 @@ idle_loses j jogs unsettled first sent replies records s i = record {
 
 -- and else the line at hand may have
 pub other_loses : (j : CourseJudge) (first : State) (sent : List Sent) (replies : List Reply) (records : List Record) (s : HasJudged j first sent replies records) → j.work.left ≡ []
-    → MayLose (record j { jogs = j.jogs && (accepted_jog (kind_told j.line.accepted) || not j.line.asks); unsettled = j.unsettled && (j.unanswered || stays_on j.line) }) s.since [] s.made
+    → MayLose (record j { jogs = j.jogs && (j.unanswered || (accepted_jog (kind_told j.line.accepted) || not j.line.asks)); unsettled = j.unsettled && (j.unanswered || stays_on j.line) }) s.since [] s.made
 other_loses j first sent replies records s done = record {
   closed = s.loses.closed;
   others = s.loses.others ++ s.hand;
   split = s.loses.split ∙ append_assoc s.loses.closed s.loses.others s.hand ∙ sym (append-nil (s.loses.closed ++ (s.loses.others ++ s.hand)));
   over = s.loses.over;
   jogs = λ e.
-      let b = by_and j.jogs (accepted_jog (kind_told j.line.accepted) || not j.line.asks) e in
-      all_join (λ o. (accepted_jog o.kind || not (has_ticks o.work)) ≡ true) s.loses.others s.hand (s.loses.jogs b.0)
-      (all_by _ (λ o. (accepted_jog o.kind || not (has_ticks o.work)) ≡ true)
-      (λ o is. ap (λ k. accepted_jog k || not (has_ticks o.work)) is.2 ∙ ap (λ (ts : List Task). accepted_jog (kind_told j.line.accepted) || not (has_ticks ts)) is.0
-      ∙ ap (λ (t : Bool). accepted_jog (kind_told j.line.accepted) || not t) (sym ticks) ∙ b.1) s.hand s.line.are);
+      let b = by_and j.jogs (j.unanswered || (accepted_jog (kind_told j.line.accepted) || not j.line.asks)) e in
+      all_join (λ o. (accepted_jog o.kind || not (has_ticks o.work)) ≡ true) s.loses.others s.hand (s.loses.jogs b.0) (by_jogs j.unanswered refl b.1);
   unsettled = λ e.
       let b = by_and j.unsettled (j.unanswered || stays_on j.line) e in
       all_join (λ o. o.settles ≡ false) s.loses.others s.hand (s.loses.unsettled b.0) (by_answer j.unanswered refl b.1);
 } where
+  ticks : j.line.asks ≡ has_ticks s.line.work
+  ticks = sym (or_none j.line.asks) ∙ ap (λ (ts : List Task). j.line.asks || has_ticks ts) (sym done) ∙ s.line.ticks
+
+  by_jogs : (u : Bool) → j.unanswered ≡ u → (u || (accepted_jog (kind_told j.line.accepted) || not j.line.asks)) ≡ true → AllByRecursion (λ o. (accepted_jog o.kind || not (has_ticks o.work)) ≡ true) s.hand
+  by_jogs true u e = subst (λ (os : List Outcome). AllByRecursion (λ (o : Outcome). (accepted_jog o.kind || not (has_ticks o.work)) ≡ true) os) (sym (s.line.unheld u)) tt
+  by_jogs false u e = all_by _ (λ o. (accepted_jog o.kind || not (has_ticks o.work)) ≡ true)
+      (λ o is. ap (λ k. accepted_jog k || not (has_ticks o.work)) is.2 ∙ ap (λ (ts : List Task). accepted_jog (kind_told j.line.accepted) || not (has_ticks ts)) is.0
+      ∙ ap (λ (t : Bool). accepted_jog (kind_told j.line.accepted) || not t) (sym ticks) ∙ e) s.hand s.line.are
+
   by_answer : (u : Bool) → j.unanswered ≡ u → (u || stays_on j.line) ≡ true → AllByRecursion (λ o. o.settles ≡ false) s.hand
   by_answer true u e = subst (λ (os : List Outcome). AllByRecursion (λ (o : Outcome). o.settles ≡ false) os) (sym (s.line.unheld u)) tt
   by_answer false u e = all_by _ (λ o. o.settles ≡ false) (λ o is. is.1 ∙ stays_so j s.point s.hand s.line done e) s.hand s.line.are
 
-  ticks : j.line.asks ≡ has_ticks s.line.work
-  ticks = sym (or_none j.line.asks) ∙ ap (λ (ts : List Task). j.line.asks || has_ticks ts) (sym done) ∙ s.line.ticks
-
 -- ---- as the code has it
 
 abbrev jogs_now : CourseJudge → Bool → Bool
-jogs_now j idle = idle || (j.jogs && (accepted_jog (kind_told j.line.accepted) || not j.line.asks))
+jogs_now j idle = idle || (j.jogs && (j.unanswered || (accepted_jog (kind_told j.line.accepted) || not j.line.asks)))
 
 abbrev unsettled_now : CourseJudge → Bool → Bool
 unsettled_now j idle = idle || (j.unsettled && (j.unanswered || stays_on j.line))

@@ -19,7 +19,7 @@ use Rattle.line_interpreter.specs.declared.tasks.Todo.{Todo}
 use Rattle.line_interpreter.specs.declared.tasks.Todo.TheVariants as todos
 use Rattle.step_line.specs.declared.Mark.{Mark}
 use Rattle.part_making.specs.declared.Item.TheVariants as items
-use Rattle.part_making.specs.Judging.{Known, making, item_ticks, item_moves}
+use Rattle.part_making.specs.Judging.{Known, Traced, making, item_ticks, item_moves}
 use Rattle.part_making.specs.declared.Item.{Item}
 use Rattle.part_making.proofs.Refused.{asked as asked_next}
 use Rattle.run_texts.specs.Making.{Making, IsMade}
@@ -30,7 +30,7 @@ use Rattle.audit_course.specs.declared.LastTask.TheVariants.{Nothing, Rest}
 use Rattle.audit_course.specs.declared.Progress.{Progress}
 use Rattle.audit_course.specs.declared.judge.CourseJudge.{CourseJudge}
 use Rattle.audit_course.specs.Progressing.{last_behind, asks_ticks, has_ticks, is_halt, has_halt, Counts, IsUnseen, IsItemOf}
-use Rattle.audit_course.specs.SoFar.{GoesTo, HasJudged, OfLine, left_to_tell}
+use Rattle.audit_course.specs.SoFar.{GoesTo, HasJudged, OfLine, IsBare, left_to_tell}
 use Rattle.audit_course.proofs.Saying.{last_on, or_on}
 
 -- ---- a task is done
@@ -84,9 +84,9 @@ pub task_done : (j : CourseJudge) (t : Task) (w : Interpreting) (l : Progress) (
     → IsNextOf t j.work.left → w ≡ record j.work { left = drop 1 j.work.left } → Counts j.line l t
     → left_to_tell j ≡ now ++ cond j.unanswered [] (tells (drop 1 j.work.left))
     → (lost ≡ false → (ticks ≡ ticks_of_all (asks (drop 1 j.work.left))) × (moves ≡ moves_of (asks (drop 1 j.work.left))))
-    → IsMade (s.since ++ s.begun) s.made (making part ticks moves)
+    → IsMade (s.since ++ s.begun) s.made (making part ticks moves) → part.latest ≡ j.part.latest
     → HasJudged (record j { work = w; line = l; part = part; lost = lost }) first sent (replies ++ now) records
-task_done j t w l part lost first sent replies now records ticks moves s next is counts tell_now asked made = record {
+task_done j t w l part lost first sent replies now records ticks moves s next is counts tell_now asked made latest = record {
   point = s.point;
   number = s.number ∙ sym (ap (λ (i : Interpreting). i.number) is);
   state = s.state;
@@ -108,6 +108,7 @@ task_done j t w l part lost first sent replies now records ticks moves s next is
       let a = asked e in
       (a.0 ∙ ap (λ (ts : List Task). ticks_of_all (asks ts)) (sym left), a.1 ∙ ap (λ (ts : List Task). moves_of (asks ts)) (sym left));
   is_made = made;
+  untouched = λ u e. subst (λ (x : Option Traced). IsBare s.since s.made x) (sym latest) (s.untouched u e);
   loses = record { closed = s.loses.closed; others = s.loses.others; split = s.loses.split; over = s.loses.over; jogs = s.loses.jogs; unsettled = s.loses.unsettled };
   alarm = s.alarm;
   events = s.events;
@@ -140,7 +141,7 @@ reply_told j r w l first sent replies records s next answered is counts =
     task_done j (tell r) w l j.part j.lost first sent replies (r ∷ []) records s.ticks s.moves s next is counts
     (ap (λ (ts : List Task). cond j.unanswered [] (tells ts)) next ∙ first_told j.unanswered r (tells (drop 1 j.work.left)) answered)
     (λ e. let a = s.asked e in (a.0 ∙ ap (λ (ts : List Task). ticks_of_all (asks ts)) next, a.1 ∙ ap (λ (ts : List Task). moves_of (asks ts)) next))
-    s.is_made
+    s.is_made refl
 
 none_cond : (u : Bool) → ◌≡◌ {A = List Reply} (cond u [] []) []
 none_cond true = refl
@@ -171,7 +172,7 @@ quiet_done j t w l first sent replies records s next quiet is counts =
       a.0 ∙ ap (λ (ts : List Task). ticks_of_all (asks ts)) next ∙ quiet_ticks t (drop 1 j.work.left) quiet.ticks,
       a.1 ∙ ap (λ (ts : List Task). moves_of (asks ts)) next ∙ quiet_moves t (drop 1 j.work.left) quiet.moves,
     ))
-    s.is_made)
+    s.is_made refl)
 
 ask_told : (u : Bool) (t : Task) (ts : List Task) → told_by t ≡ [] → cond u [] (tells (t ∷ ts)) ≡ cond u [] (tells ts)
 ask_told u t ts e = ap (λ (rs : List Reply). cond u [] (rs ++ tells ts)) e
@@ -193,7 +194,7 @@ item_asked j t item w l part first sent replies records s next of kept none part
     (task_done j t w l part j.lost first sent replies [] records (ticks_of_all (asks rest)) (moves_of (asks rest)) s next is counts
     (ap (λ (ts : List Task). cond j.unanswered [] (tells ts)) next ∙ ask_told j.unanswered t rest of.told)
     (λ e. (refl, refl))
-    (subst (λ (m : Making). IsMade (s.since ++ s.begun) s.made m) same s.is_made))
+    (subst (λ (m : Making). IsMade (s.since ++ s.begun) s.made m) same s.is_made) (ap (λ (k : Known). k.latest) part_is))
 
 -- what a task asks for is not recorded before the part ends
 pub task_lost : (j : CourseJudge) (t : Task) (w : Interpreting) (l : Progress) (first : State) (sent : List Sent) (replies : List Reply) (records : List Record) → HasJudged j first sent replies records
@@ -204,7 +205,7 @@ task_lost j t w l first sent replies records s next told is counts =
     (task_done j t w l j.part true first sent replies [] records s.ticks s.moves s next is counts
     (ap (λ (ts : List Task). cond j.unanswered [] (tells ts)) next ∙ ask_told j.unanswered t (drop 1 j.work.left) told)
     (λ e. absurd cc)
-    s.is_made)
+    s.is_made refl)
 
 -- ---- which tasks are so
 

@@ -1,6 +1,7 @@
 -- A course so far, as its judge knows it.
 use Rattle.std.specs.Prelude.{◌≡◌, ◌≤◌, ℕ, ◌+◌, Bool, true, false, cond, not, ◌&&◌, ◌||◌, List, [], ◌∷◌, ◌++◌, length, map}
 use Rattle.std.specs.List.{AllByRecursion, list_any}
+use Rattle.std.specs.declared.option.Option.{Option}
 use Rattle.units.specs.declared.Steps3.{Steps3}
 use Rattle.flight.specs.Places.{moved_by, origin}
 use Rattle.legal_heads.specs.Whole.{events_among}
@@ -17,10 +18,10 @@ use Rattle.run_rules.specs.Reports.{raises_alarm}
 use Rattle.run_rules.specs.Work.{Task, Outcome, tells, asks, has_moves, accepted_code, accepted_jog}
 use Rattle.line_interpreter.specs.Desks.{kind_told}
 use Rattle.legal_heads.specs.Speeds.{MayStop}
-use Rattle.part_making.specs.Judging.{making, owed_of, coming_of, head_of}
+use Rattle.part_making.specs.Judging.{Traced, making, owed_of, coming_of, head_of}
 use Rattle.run_texts.specs.Courses.{Passed, Follows, cuts_in}
 use Rattle.run_texts.specs.Left.{behind_lines}
-use Rattle.run_texts.specs.Making.{IsMade}
+use Rattle.run_texts.specs.Making.{Making, IsMade}
 use Rattle.run_texts.specs.Parts.{parts_of}
 use Rattle.run_texts.specs.Points.{Point, BecomesAt, opening}
 use Rattle.run_texts.specs.Recorded.{AreRecorded, ticks_for_all}
@@ -79,6 +80,13 @@ pub record MayLose (j : CourseJudge) (since hand : List Outcome) (made : List Re
   pub jogs : j.jogs ≡ true → AllByRecursion (λ o. (accepted_jog o.kind || not (has_ticks o.work)) ≡ true) others
   pub unsettled : j.unsettled ≡ true → AllByRecursion (λ o. o.settles ≡ false) others
 
+-- This is made of the answered lines alone, and this is its last head: no record is of another line.
+pub record IsBare (since : List Outcome) (made : List Record) (latest : Option Traced) : Type 0 where
+  pub making : Making
+  pub is : IsMade since made making
+  pub out : making.coming ≡ coming_of latest
+  pub head : making.latest ≡ head_of latest
+
 -- ---- so far
 
 -- From the opening on the judge was told of these lines and resets, replies and records. A course leads through them, and
@@ -103,6 +111,7 @@ pub record HasJudged (j : CourseJudge) (first : State) (sent : List Sent) (repli
   pub moves : List PlannedMove
   pub asked : j.lost ≡ false → (ticks ≡ ticks_of_all (asks j.work.left)) × (moves ≡ moves_of (asks j.work.left))
   pub is_made : IsMade (since ++ begun) made (making j.part ticks moves)
+  pub untouched : j.unanswered ≡ true → j.touched ≡ false → IsBare since made j.part.latest
   pub loses : MayLose j since hand made
   pub alarm : point.before.alarmed ≡ true → list_any raises_alarm since ≡ true
   pub events : j.events ≡ length (events_among records)
@@ -180,10 +189,10 @@ pub record IsClosed (j : CourseJudge) : Type 0 where
   pub done : j.work.left ≡ []
   pub closed : j.in_hand ≡ false
 
--- a cut may end a part behind line k
+-- A cut may end a part behind line k. A line that is not answered is dropped whole.
 pub record MayCut (j : CourseJudge) (k : ℕ) : Type 0 where
   pub ends : IsClosed j
-  pub answered : j.unanswered ≡ false
+  pub untouched : j.unanswered ≡ true → j.touched ≡ false
   pub calm : j.line.halts ≡ false
   pub has_line : j.has_line ≡ true
   pub number : j.work.number ≡ k + 1

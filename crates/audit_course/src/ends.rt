@@ -32,12 +32,19 @@ fn locks(alarm: bool, was: bool) -> bool
 }
 
 impl CourseJudge {
+    /// Whether no record was told since the last line was begun, where that is not answered. A cut drops such a line whole.
+    fn is_untouched(&self) -> bool
+        ensures { result ≡ true → self.now.unanswered ≡ true → self.now.touched ≡ false }
+    {
+        !self.unanswered || !self.touched
+    }
+
     /// Whether a part may be cut behind this line.
     fn may_cut(&self, k: u32) -> bool
         requires { IsClosed self.now }
         ensures { IsTrue result → MayCut self.now k }
     {
-        !self.unanswered
+        self.is_untouched()
             && !self.line.halts
             && self.has_line
             && u64::from(self.work.number()) == u64::from(k) + 1
@@ -62,7 +69,7 @@ impl CourseJudge {
         self.unsettled = true;
     }
 
-    /// The mark of a cut comes, behind this line: whether it may.
+    /// The mark of a cut comes, behind this line: whether it may. The line may stay without its answer.
     pub fn cut(&mut self, k: u32) -> bool
         ensures { IsTrue result → AddsRecord self.old self.new (kinds.Mark (CutMark k)) }
     {

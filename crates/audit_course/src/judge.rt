@@ -52,6 +52,8 @@ pub struct CourseJudge {
     pub(crate) has_line: bool,
     /// The last line is not answered.
     pub(crate) unanswered: bool,
+    /// A record was told since that line was begun.
+    pub(crate) touched: bool,
     /// Something that a line asks for is not recorded before the part ends.
     pub(crate) lost: bool,
     /// A line is at hand.
@@ -159,6 +161,7 @@ impl CourseJudge {
             locked: false,
             has_line: false,
             unanswered: false,
+            touched: false,
             lost: false,
             in_hand: false,
             jogs: true,

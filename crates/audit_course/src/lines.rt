@@ -33,11 +33,11 @@ fn still_locked(was: bool, unlocked: bool) -> bool
     was && !unlocked
 }
 
-/// Whether no answered line settles at the last: it does not, or is not answered.
-fn leaves_none(unanswered: bool, stays: bool) -> bool
-    ensures { result ≡ (unanswered || stays) }
+/// Whether this is so of the last line, or that is not answered.
+fn if_answered(unanswered: bool, is_so: bool) -> bool
+    ensures { result ≡ (unanswered || is_so) }
 {
-    unanswered || stays
+    unanswered || is_so
 }
 
 /// Whether something may be left out: where nothing is owed, or it may be of the lines before and of this one.
@@ -80,7 +80,7 @@ impl Progress {
     fn moved_now(&self, unanswered: bool, of_kind: bool, before: bool) -> bool
         ensures { result ≡ moved_now unanswered of_kind self.now before }
     {
-        leaves_none(unanswered, self.stays_on()) && (of_kind && self.moves || before)
+        if_answered(unanswered, self.stays_on()) && (of_kind && self.moves || before)
     }
 
     /// No line is at hand, whether or not the machine was halted.
@@ -117,11 +117,15 @@ impl CourseJudge {
     {
         let idle = self.is_idle();
         let line = self.line;
-        self.jogs = may_lose(idle, self.jogs, line.loses_jogs());
+        self.jogs = may_lose(
+            idle,
+            self.jogs,
+            if_answered(self.unanswered, line.loses_jogs()),
+        );
         self.unsettled = may_lose(
             idle,
             self.unsettled,
-            leaves_none(self.unanswered, line.stays_on()),
+            if_answered(self.unanswered, line.stays_on()),
         );
         self.moved = line.moved_now(self.unanswered, line.is_code(), self.moved);
         self.jog_moved = line.moved_now(self.unanswered, line.is_jog(), self.jog_moved);
@@ -179,12 +183,13 @@ impl CourseJudge {
         let _ = self.work.judge(line, machine);
         self.has_line = true;
         self.unanswered = true;
+        self.touched = false;
         self.in_hand = true;
         self.line = Progress::begin(Accepted::Code);
     }
 
     /// A line is begun that a reset keeps from its answer: whether it may be. Then it is the line at hand, and the next
-    /// that may come is a reset.
+    /// that may come is a reset, or a cut that drops it whole.
     pub fn begin_unanswered(&mut self, line: &KeptLine) -> bool
         ensures { IsTrue result → (kept : List ℕ) → IsKept line.now kept → AddsSent self.old self.new (a_text kept ∷ []) }
     {

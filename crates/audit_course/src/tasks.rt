@@ -158,6 +158,7 @@ impl CourseJudge {
         }
         self.place = place;
         self.events += count;
+        self.touched = true;
         true
     }
 }

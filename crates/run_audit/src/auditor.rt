@@ -468,7 +468,7 @@ impl Auditor {
     /// Whether this record asks for a line that is begun and not answered.
     fn may_be_begun(&self, record: &Record) -> bool {
         match record {
-            Record::Mark(Mark::Reset(k)) => *k == self.course.number(),
+            Record::Mark(Mark::Reset(k) | Mark::Cut(k)) => *k == self.course.number(),
             record => !is_ending(record),
         }
     }

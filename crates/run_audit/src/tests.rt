@@ -159,6 +159,18 @@ fn holds_behind_an_alarm_may_cut(rt: HostRuntime) -> Result<(), Fail> {
     Ok(())
 }
 
+/// A jog that waits is cut, and a reset keeps it from its answer.
+#[test]
+fn waiting_jogs_are_cut_unanswered(rt: HostRuntime) -> Result<(), Fail> {
+    let console = b"\r\nGrbl 1.1h ['$' for help]\r\nok\r\nALARM:3\r\n\
+        \r\nGrbl 1.1h ['$' for help]\r\n[MSG:'$H'|'$X' to unlock]\r\nok\r\n";
+    let job = b"$J=G91X0.02F500\n$J=G91X0.02F500\n!\x18\n";
+    let steps =
+        b"s 1 1 0 226951\nX+\ns 1 1 80000 160000\nX+\ns 1 1 80000 226951\nX+\nX 2\nZ 2\nE\n";
+    assert_eq!(rt; found(&rt, job, console, steps)?, Audit::Fits { events: 3 });
+    Ok(())
+}
+
 #[test]
 fn words_are_three(rt: HostRuntime) -> Result<(), Fail> {
     let mut job = MemSource::new(b"", 1, &[]);
