@@ -1,5 +1,5 @@
 -- A line is begun.
-use Rattle.std.proofs.Common.{◌≡◌, ℕ, ◌+◌, Bool, true, false, cond, not, ◌&&◌, ◌||◌, List, [], ◌∷◌, ◌++◌, append-nil, append_assoc, refl, sym, ap, ◌∙◌, subst}
+use Rattle.std.proofs.Common.{◌≡◌, ℕ, ◌+◌, Bool, true, false, cond, not, ◌&&◌, ◌||◌, List, [], ◌∷◌, ◌++◌, append-nil, append_assoc, refl, sym, ap, ◌∙◌, subst, arith}
 use Rattle.std.specs.List.{list_any}
 use Rattle.flight.specs.Places.{origin}
 use Rattle.status_report.specs.declared.Reply.{Reply}
@@ -34,8 +34,9 @@ use Rattle.audit_course.specs.declared.LastTask.TheVariants.{Nothing}
 use Rattle.audit_course.specs.declared.Progress.{Progress}
 use Rattle.audit_course.specs.declared.judge.CourseJudge.{CourseJudge}
 use Rattle.audit_course.specs.Progressing.{last_behind, has_ticks, has_halt, IsNew}
-use Rattle.audit_course.specs.SoFar.{GoesTo, HasJudged, OfLine, IsBare, MayBegin, Knows, FindsRight, FindsStill, left_to_tell}
+use Rattle.audit_course.specs.SoFar.{GoesTo, HasJudged, OfLine, IsBare, EndsLate, MayBegin, Knows, FindsRight, FindsStill, left_to_tell}
 use Rattle.audit_course.proofs.Going.{by_line, by_broken}
+use Rattle.audit_course.proofs.Forced.{comes_before, behind_made, forced_line, forced_broken}
 use Rattle.audit_course.proofs.Finding.{still_may, stands_becomes, busy_becomes, locked_becomes}
 use Rattle.audit_course.proofs.Outcomes.{SaysOf, becomes_says, locked_says}
 
@@ -169,6 +170,18 @@ line_begun j k kept o w first sent replies records s b judged kind jogged locked
       (subst (λ (ss : List Sent). GoesTo (opening first) [] [] origin (n + j.cuts) ss (replies ++ (left_to_tell k ++ told)) (records ++ rest) last) (sym (append_assoc sent (a_text kept ∷ []) more))
       (subst (λ (rs : List Reply). GoesTo (opening first) [] [] origin (n + j.cuts) (sent ++ a_text kept ∷ more) (replies ++ rs) (records ++ rest) last)
       (ap (λ (rs : List Reply). rs ++ (tells o.work ++ told)) (none_to_tell j b) ∙ ap (λ (rs : List Reply). rs ++ told) (sym tell)) before));
+  forth = λ n more told rest last may g.
+      let cuts : k.cuts ≡ j.cuts = ap (λ (x : CourseJudge). x.cuts) is in
+      let tell : left_to_tell k ≡ tells o.work = ap (λ (u : Bool). cond u [] (tells k.work.left)) answered ∙ ap tells left in
+      let late : EndsLate (j.work.number + 1) rest = subst (λ (m : ℕ). EndsLate m rest) (ap (λ (i : Interpreting). i.number) work) may.late in
+      forced_line s.point last s.since s.begun s.from n kept o more told (s.made ++ rest) (no_alarm j s.point s.hand s.line b) judged.becomes
+      (behind_made (s.point.before.number + 1) s.made rest s.is_made.inside (subst (λ (m : ℕ). EndsLate (m + 1) rest) (sym s.number) late))
+      (s.forth n (a_text kept ∷ more) (tells o.work ++ told) rest last
+      (record { late = comes_before j.work.number (j.work.number + 1) rest (omega arith) late; resets = λ u. absurd (let f : false ≡ true = sym b.answered ∙ u in cc) })
+      (subst (λ (rs : List Reply). GoesTo (opening first) [] [] origin (n + j.cuts) (sent ++ a_text kept ∷ more) (replies ++ rs) (records ++ rest) last)
+      (sym (ap (λ (rs : List Reply). rs ++ (tells o.work ++ told)) (none_to_tell j b) ∙ ap (λ (rs : List Reply). rs ++ told) (sym tell)))
+      (subst (λ (ss : List Sent). GoesTo (opening first) [] [] origin (n + j.cuts) ss (replies ++ (left_to_tell k ++ told)) (records ++ rest) last) (append_assoc sent (a_text kept ∷ []) more)
+      (subst (λ (c : ℕ). GoesTo (opening first) [] [] origin (n + c) ((sent ++ a_text kept ∷ []) ++ more) (replies ++ (left_to_tell k ++ told)) (records ++ rest) last) cuts g))));
 } where
   work : k.work ≡ record { state = o.next; number = j.work.number + 1; left = o.work }
   work = ap (λ (x : CourseJudge). x.work) is ∙ judged.work
@@ -275,6 +288,18 @@ line_broken j k kept o w first sent replies records s b judged kind is = record 
       (subst (λ (ss : List Sent). GoesTo (opening first) [] [] origin (n + j.cuts) ss (replies ++ (left_to_tell k ++ told)) (records ++ rest) last) (sym (append_assoc sent (a_text kept ∷ []) more))
       (subst (λ (rs : List Reply). GoesTo (opening first) [] [] origin (n + j.cuts) (sent ++ a_text kept ∷ more) (replies ++ (rs ++ told)) (records ++ rest) last)
       (none_to_tell j b ∙ sym tell) before));
+  forth = λ n more told rest last may g.
+      let cuts : k.cuts ≡ j.cuts = ap (λ (x : CourseJudge). x.cuts) is in
+      let tell : left_to_tell k ≡ [] = ap (λ (u : Bool). cond u [] (tells k.work.left)) broken in
+      let late : EndsLate (j.work.number + 1) rest = subst (λ (m : ℕ). EndsLate m rest) (ap (λ (i : Interpreting). i.number) work) may.late in
+      forced_broken s.point last s.since s.begun s.from n kept o more told (s.made ++ rest) (no_alarm j s.point s.hand s.line b) judged.becomes
+      (behind_made (s.point.before.number + 1) s.made rest s.is_made.inside (subst (λ (m : ℕ). EndsLate (m + 1) rest) (sym s.number) late)) (may.resets broken)
+      (s.forth n (a_text kept ∷ more) told rest last
+      (record { late = comes_before j.work.number (j.work.number + 1) rest (omega arith) late; resets = λ u. absurd (let f : false ≡ true = sym b.answered ∙ u in cc) })
+      (subst (λ (rs : List Reply). GoesTo (opening first) [] [] origin (n + j.cuts) (sent ++ a_text kept ∷ more) (replies ++ (rs ++ told)) (records ++ rest) last)
+      (tell ∙ sym (none_to_tell j b))
+      (subst (λ (ss : List Sent). GoesTo (opening first) [] [] origin (n + j.cuts) ss (replies ++ (left_to_tell k ++ told)) (records ++ rest) last) (append_assoc sent (a_text kept ∷ []) more)
+      (subst (λ (c : ℕ). GoesTo (opening first) [] [] origin (n + c) ((sent ++ a_text kept ∷ []) ++ more) (replies ++ (left_to_tell k ++ told)) (records ++ rest) last) cuts g))));
 } where
   work : k.work ≡ record { state = o.next; number = j.work.number + 1; left = o.work }
   work = ap (λ (x : CourseJudge). x.work) is ∙ judged.work

@@ -4,6 +4,7 @@ use Rattle.std.specs.List.{AllByRecursion, list_any}
 use Rattle.std.proofs.lemmas.List.{take-append-le, take-append-drop}
 use Rattle.std.proofs.lemmas.List.Elements.{filter-append}
 use Rattle.flight.specs.Places.{origin}
+use Rattle.units.specs.declared.Steps3.{Steps3}
 use Rattle.legal_heads.specs.Speeds.{MayStop}
 use Rattle.legal_heads.specs.Whole.{events_among, is_event}
 use Rattle.status_report.specs.declared.Reply.{Reply}
@@ -40,6 +41,7 @@ use Rattle.audit_course.specs.declared.judge.CourseJudge.{CourseJudge}
 use Rattle.audit_course.specs.Progressing.{last_behind, has_ticks, has_halt, fresh}
 use Rattle.audit_course.specs.SoFar.{GoesTo, HasJudged, IsBare, IsOver, AddsReset, OfLine, MayLose, MayCut, MayReset, MayEnd, left_to_tell}
 use Rattle.audit_course.proofs.Going.{by_a_cut, by_a_reset, at_end}
+use Rattle.audit_course.proofs.Forced.{forced_cut, forced_reset, reset_begins}
 use Rattle.audit_course.proofs.Outcomes.{telling_halts}
 use Rattle.audit_course.proofs.Parting.{idle_owes}
 use Rattle.audit_course.proofs.Saying.{none_asked}
@@ -192,6 +194,15 @@ part_cut j k w state first sent replies records s may state_is same_left number_
       subst (λ (rs : List Record). GoesTo (opening first) [] [] origin (n + (j.cuts + 1)) (sent ++ more) (replies ++ (cond j.unanswered [] (tells w.left) ++ told)) rs last) (sym (append_assoc records (ending_record (by_cut k j.place) ∷ []) rest))
       (subst (λ (c : ℕ). GoesTo (opening first) [] [] origin c (sent ++ more) (replies ++ (cond j.unanswered [] (tells w.left) ++ told)) (records ++ ending_record (by_cut k j.place) ∷ rest) last) (sums n j.cuts)
       (subst (λ (rs : List Reply). GoesTo (opening first) [] [] origin ((n + 1) + j.cuts) (sent ++ more) (replies ++ (rs ++ told)) (records ++ ending_record (by_cut k j.place) ∷ rest) last) (to_tell j may.ends.done ∙ sym left_none) before));
+  forth = λ n more told rest last follow g.
+      let few : j.work.number ≤ k + 1 = (let e = may.number in omega (arith, e)) in
+      let here : GoesTo (opening first) [] [] origin ((n + 1) + j.cuts) (sent ++ more) (replies ++ (left_to_tell j ++ told)) (records ++ ending_record (by_cut k j.place) ∷ rest) last =
+      subst (λ (rs : List Reply). GoesTo (opening first) [] [] origin ((n + 1) + j.cuts) (sent ++ more) (replies ++ (rs ++ told)) (records ++ ending_record (by_cut k j.place) ∷ rest) last) (left_none ∙ sym (to_tell j may.ends.done))
+      (subst (λ (c : ℕ). GoesTo (opening first) [] [] origin c (sent ++ more) (replies ++ (cond j.unanswered [] (tells w.left) ++ told)) (records ++ ending_record (by_cut k j.place) ∷ rest) last) (sym (sums n j.cuts))
+      (subst (λ (rs : List Record). GoesTo (opening first) [] [] origin (n + (j.cuts + 1)) (sent ++ more) (replies ++ (cond j.unanswered [] (tells w.left) ++ told)) rs last) (append_assoc records (ending_record (by_cut k j.place) ∷ []) rest) g)) in
+      subst (λ (x : Steps3). GoesTo (behind_cut x s.point) [] [] x n more told rest last) (sym s.stands)
+      (forced_cut s.point last s.since s.begun s.from n k more told s.made rest s.is_made.inside (s.number ∙ may.number)
+      (s.forth (n + 1) more told (ending_record (by_cut k j.place) ∷ rest) last (record { late = few; resets = follow.resets }) here));
 } where
   left : w.left ≡ []
   left = same_left ∙ may.ends.done
@@ -346,6 +357,18 @@ part_reset j k dropped alarm locked lines w state first sent replies records s m
       (ap (λ (ss : List Sent). sent ++ ss) (sym (append_assoc (map a_text lines) (a_stop ∷ []) more)) ∙ sym (append_assoc sent (map a_text lines ++ a_stop ∷ []) more))
       (subst (λ (rs : List Reply). GoesTo (opening first) [] [] origin (n + j.cuts) (sent ++ (map a_text lines ++ a_stop ∷ more)) (replies ++ rs) (records ++ kinds.Mark (ResetMark k) ∷ rest) last)
       (ap (λ (rs : List Reply). rs ++ (told_at_reset (reset_here j k dropped alarm locked) ++ told)) (to_tell j may.ends.done) ∙ ap (λ (rs : List Reply). rs ++ told) (sym greets)) before));
+  forth = λ n more told rest last follow g.
+      let r = reset_here j k dropped alarm locked in
+      let few : j.work.number ≤ k + 1 = (let e = may.number in omega (arith, e)) in
+      let here : GoesTo (opening first) [] [] origin (n + j.cuts) (sent ++ (map a_text lines ++ a_stop ∷ more)) (replies ++ (left_to_tell j ++ (told_at_reset r ++ told))) (records ++ kinds.Mark (ResetMark k) ∷ rest) last =
+      subst (λ (rs : List Reply). GoesTo (opening first) [] [] origin (n + j.cuts) (sent ++ (map a_text lines ++ a_stop ∷ more)) (replies ++ rs) (records ++ kinds.Mark (ResetMark k) ∷ rest) last)
+      (sym (ap (λ (rs : List Reply). rs ++ (told_at_reset r ++ told)) (to_tell j may.ends.done) ∙ ap (λ (rs : List Reply). rs ++ told) (sym greets)))
+      (subst (λ (ss : List Sent). GoesTo (opening first) [] [] origin (n + j.cuts) ss (replies ++ (tells w.left ++ told)) (records ++ kinds.Mark (ResetMark k) ∷ rest) last)
+      (sym (ap (λ (ss : List Sent). sent ++ ss) (sym (append_assoc (map a_text lines) (a_stop ∷ []) more)) ∙ sym (append_assoc sent (map a_text lines ++ a_stop ∷ []) more)))
+      (subst (λ (rs : List Record). GoesTo (opening first) [] [] origin (n + j.cuts) ((sent ++ (map a_text lines ++ a_stop ∷ [])) ++ more) (replies ++ (tells w.left ++ told)) rs last) (append_assoc records (kinds.Mark (ResetMark k) ∷ []) rest) g)) in
+      subst (λ (ss : List Sent). GoesTo (behind_the_reset r s.point) [] [] j.place n ss told rest last) (behind_so lines more)
+      (forced_reset s.point last s.since s.begun s.from n r (map a_text lines ++ a_stop ∷ more) told s.made rest s.is_made.inside (is_reset more) s.stands
+      (s.forth n (map a_text lines ++ a_stop ∷ more) (told_at_reset r ++ told) (kinds.Mark (ResetMark k) ∷ rest) last (record { late = few; resets = λ u. reset_begins alarm _ told }) here));
 } where
   left : w.left ≡ telling (greeting alarm locked)
   left = ap (λ (i : Interpreting). i.left) is

@@ -1,9 +1,12 @@
 pub mod Going
 pub mod Saying
 pub mod Outcomes
+pub mod Forced
 pub mod Finding
 pub mod Passing
 pub mod Beginning
 pub mod Parting
 pub mod Ending
 pub mod Opening
+pub mod FirstPart
+pub mod Refused

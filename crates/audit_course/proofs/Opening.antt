@@ -93,6 +93,9 @@ opens_so_far first w state part line state_is work number left part_is new accep
   back = λ n more told rest last g.
       subst (λ (rs : List Reply). GoesTo (opening first) [] [] origin (n + 0) more (rs ++ told) rest last) (sym (ap tells left))
       (subst (λ (c : ℕ). GoesTo (opening first) [] [] origin c more told rest last) (plus_none n) g);
+  forth = λ n more told rest last may g.
+      subst (λ (c : ℕ). GoesTo (opening first) [] [] origin c more told rest last) (sym (plus_none n))
+      (subst (λ (rs : List Reply). GoesTo (opening first) [] [] origin (n + 0) more (rs ++ told) rest last) (ap tells left) g);
 } where
   plus_none : (n : ℕ) → n ≡ n + 0
   plus_none n = omega arith

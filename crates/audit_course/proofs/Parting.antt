@@ -13,16 +13,17 @@ use Rattle.legal_heads.specs.Whole.{is_event}
 use Rattle.step_line.specs.declared.Record.{Record}
 use Rattle.step_line.specs.declared.Record.TheVariants as kinds
 use Rattle.run_rules.specs.declared.State.{State}
-use Rattle.run_rules.specs.Reports.{settles}
 use Rattle.run_rules.specs.Work.{Task, Outcome, asks, has_moves, accepted_code, accepted_jog}
 use Rattle.line_interpreter.specs.Desks.{kind_told}
 use Rattle.line_interpreter.specs.Interpreting.{Interpreting}
 use Rattle.part_making.specs.Judging.{Known, Goes, making, rest_of, all_ticks}
 use Rattle.run_texts.specs.Making.{IsMade}
+use Rattle.run_texts.specs.Parts.{is_ending}
 use Rattle.run_texts.specs.Points.{Point, opening}
 use Rattle.run_texts.specs.Sent.{Sent}
 use Rattle.part_making.proofs.Ending.{entered}
 use Rattle.part_making.proofs.Refused.{made_on}
+use Rattle.audit_course.proofs.Forced.{behind_made}
 use Rattle.audit_course.specs.declared.LastTask.{LastTask}
 use Rattle.audit_course.specs.declared.LastTask.TheVariants.{Nothing, Move, Rest}
 use Rattle.audit_course.specs.declared.Progress.{Progress}
@@ -69,6 +70,12 @@ same_line j k p hand o work line moved jog_moved jogged unanswered in_hand = rec
   are = subst (λ (l : Progress). AllByRecursion (λ (x : Outcome). (x.work ≡ o.work) × (x.settles ≡ o.settles) × (x.kind ≡ kind_told l.accepted)) hand) (sym line) o.are;
 }
 
+goes_inside : (k now : Known) (r : Record) → Goes k r now → is_ending r ≡ false
+goes_inside k now (kinds.Event b) g = refl
+goes_inside k now (kinds.Head h) g = refl
+goes_inside k now (kinds.Mark m) g = (g [] []).inside
+goes_inside k now kinds.End g = absurd (g [] [])
+
 pub record_taken : (j : CourseJudge) (r : Record) (part : Known) (place : Steps3) (events : ℕ) (first : State) (sent : List Sent) (replies : List Reply) (records : List Record) → HasJudged j first sent replies records
     → Goes j.part r part → place ≡ moved_by j.place (r ∷ []) → events ≡ j.events + length (events_among (r ∷ []))
     → HasJudged (record j { part = part; place = place; events = events; touched = true }) first sent replies (records ++ r ∷ [])
@@ -108,6 +115,10 @@ record_taken j r part place events first sent replies records s goes here count 
   back = λ n more told rest last g.
       subst (λ (rs : List Record). GoesTo (opening first) [] [] origin (n + j.cuts) (sent ++ more) (replies ++ (left_to_tell j ++ told)) rs last) (sym (append_assoc records (r ∷ []) rest))
       (s.back n more told (r ∷ rest) last (subst (λ (rs : List Record). GoesTo s.point s.since s.begun s.from n more told rs last) (append_assoc s.made (r ∷ []) rest) g));
+  forth = λ n more told rest last may g.
+      subst (λ (rs : List Record). GoesTo s.point s.since s.begun s.from n more told rs last) (sym (append_assoc s.made (r ∷ []) rest))
+      (s.forth n more told (r ∷ rest) last (record { late = behind_made j.work.number (r ∷ []) rest (goes_inside j.part part r goes, tt) may.late; resets = may.resets })
+      (subst (λ (rs : List Record). GoesTo (opening first) [] [] origin (n + j.cuts) (sent ++ more) (replies ++ (left_to_tell j ++ told)) rs last) (append_assoc records (r ∷ []) rest) g));
 }
 
 -- ---- the line at hand is over
@@ -212,6 +223,7 @@ line_closed j l moved jog_moved jogs unsettled first sent replies records s done
   alarm = s.alarm;
   events = s.events;
   back = s.back;
+  forth = λ n more told rest last may. s.forth n more told rest last (record { late = may.late; resets = may.resets });
 } where
   moves_done : j.line.moves ≡ true → has_moves s.line.work ≡ true
   moves_done m = sym s.line.moves ∙ ap (λ (b : Bool). b || has_moves j.work.left) m

@@ -1,5 +1,5 @@
 -- A judge goes on: task by task, and by a line that is begun.
-use Rattle.std.proofs.Common.{◌≡◌, ◌+◌, Bool, true, false, cond, not, ◌&&◌, ◌||◌, List, [], ◌∷◌, ◌++◌, drop, append-nil, append_assoc, refl, sym, ap, ◌∙◌, subst, IsTrue, ◌↔◌, None, Some}
+use Rattle.std.proofs.Common.{◌≡◌, ℕ, ◌+◌, Bool, true, false, cond, not, ◌&&◌, ◌||◌, List, [], ◌∷◌, ◌++◌, drop, append-nil, append_assoc, refl, sym, ap, ◌∙◌, subst, IsTrue, ◌↔◌, None, Some}
 use Rattle.std.specs.declared.option.Option.{Option}
 use Rattle.std.specs.List.{AllByRecursion}
 use Rattle.std.proofs.lemmas.Grind.{flat_map-append}
@@ -26,11 +26,10 @@ use Rattle.run_texts.specs.Making.{Making, IsMade}
 use Rattle.run_texts.specs.Points.{Point, opening}
 use Rattle.run_texts.specs.Sent.{Sent}
 use Rattle.audit_course.specs.declared.LastTask.{LastTask}
-use Rattle.audit_course.specs.declared.LastTask.TheVariants.{Nothing, Rest}
 use Rattle.audit_course.specs.declared.Progress.{Progress}
 use Rattle.audit_course.specs.declared.judge.CourseJudge.{CourseJudge}
 use Rattle.audit_course.specs.Progressing.{last_behind, asks_ticks, has_ticks, is_halt, has_halt, Counts, IsUnseen, IsItemOf}
-use Rattle.audit_course.specs.SoFar.{GoesTo, HasJudged, OfLine, IsBare, left_to_tell}
+use Rattle.audit_course.specs.SoFar.{GoesTo, HasJudged, OfLine, IsBare, EndsLate, left_to_tell}
 use Rattle.audit_course.proofs.Saying.{last_on, or_on}
 
 -- ---- a task is done
@@ -114,6 +113,9 @@ task_done j t w l part lost first sent replies now records ticks moves s next is
   events = s.events;
   back = λ n more told rest last g.
       subst (λ (rs : List Reply). GoesTo (opening first) [] [] origin (n + j.cuts) (sent ++ more) rs (records ++ rest) last) (same told) (s.back n more told rest last g);
+  forth = λ n more told rest last may g.
+      s.forth n more told rest last (record { late = subst (λ (m : ℕ). EndsLate m rest) (ap (λ (i : Interpreting). i.number) is) may.late; resets = may.resets })
+      (subst (λ (rs : List Reply). GoesTo (opening first) [] [] origin (n + j.cuts) (sent ++ more) rs (records ++ rest) last) (sym (same told)) g);
 } where
   left : w.left ≡ drop 1 j.work.left
   left = ap (λ (i : Interpreting). i.left) is

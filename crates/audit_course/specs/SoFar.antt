@@ -1,13 +1,14 @@
 -- A course so far, as its judge knows it.
-use Rattle.std.specs.Prelude.{◌≡◌, ◌≤◌, ℕ, ◌+◌, Bool, true, false, cond, not, ◌&&◌, ◌||◌, List, [], ◌∷◌, ◌++◌, length, map}
+use Rattle.std.specs.Prelude.{◌≡◌, ◌≤◌, ℕ, ◌+◌, Bool, true, false, cond, not, nat_eq, ◌&&◌, ◌||◌, List, [], ◌∷◌, ◌++◌, length, map}
 use Rattle.std.specs.List.{AllByRecursion, list_any}
 use Rattle.std.specs.declared.option.Option.{Option}
 use Rattle.units.specs.declared.Steps3.{Steps3}
 use Rattle.flight.specs.Places.{moved_by, origin}
 use Rattle.legal_heads.specs.Whole.{events_among}
 use Rattle.status_report.specs.declared.Reply.{Reply}
+use Rattle.status_report.specs.declared.Reply.TheVariants.{Banner, Alarm}
 use Rattle.step_line.specs.Asking.{ticks_of_all, moves_of, ticks_among}
-use Rattle.step_line.specs.declared.Mark.TheVariants.{Reset as ResetMark}
+use Rattle.step_line.specs.declared.Mark.TheVariants.{Cut as CutMark, Reset as ResetMark}
 use Rattle.step_line.specs.declared.Record.{Record}
 use Rattle.step_line.specs.declared.Record.TheVariants as kinds
 use Rattle.step_line.specs.declared.planned_move.PlannedMove.{PlannedMove}
@@ -87,10 +88,37 @@ pub record IsBare (since : List Outcome) (made : List Record) (latest : Option T
   pub out : making.coming ≡ coming_of latest
   pub head : making.latest ≡ head_of latest
 
+-- ---- the one way on
+
+-- `ALARM:3` and the banner: what is told at a reset begins with one of them, and no reply of a line is one
+abbrev pub is_of_reset : Reply → Bool
+is_of_reset Banner = true
+is_of_reset (Alarm n) = nat_eq n 3
+is_of_reset _ = false
+
+abbrev pub begins_epoch : List Reply → Bool
+begins_epoch [] = false
+begins_epoch (r ∷ rs) = is_of_reset r
+
+-- If a cut or a reset is the first of these records that ends a part, it comes behind the line before line n, or a later one.
+abbrev pub EndsLate : ℕ → List Record → Type 0
+EndsLate n [] = Unit {0}
+EndsLate n (kinds.Mark (CutMark k) ∷ rs) = n ≤ k + 1
+EndsLate n (kinds.Mark (ResetMark k) ∷ rs) = n ≤ k + 1
+EndsLate n (kinds.End ∷ rs) = Unit {0}
+EndsLate n (_ ∷ rs) = EndsLate n rs
+
+-- This may be told and recorded behind all that a judge was told: no part ends before the last line, and behind a line
+-- without its answer a reset is told.
+pub record MayFollow (j : CourseJudge) (told : List Reply) (rest : List Record) : Type 0 where
+  pub late : EndsLate j.work.number rest
+  pub resets : j.unanswered ≡ true → begins_epoch told ≡ true
+
 -- ---- so far
 
 -- From the opening on the judge was told of these lines and resets, replies and records. A course leads through them, and
--- goes on as long as one goes on from here.
+-- goes on as long as one goes on from here (`back`). And no other one does: texts that begin so go on from here, where what is
+-- left of them may follow (`forth`).
 pub record HasJudged (j : CourseJudge) (first : State) (sent : List Sent) (replies : List Reply) (records : List Record) : Type 0 where
   pub point : Point
   pub number : point.before.number ≡ j.work.number
@@ -117,6 +145,8 @@ pub record HasJudged (j : CourseJudge) (first : State) (sent : List Sent) (repli
   pub events : j.events ≡ length (events_among records)
   pub back : (n : ℕ) (more : List Sent) (told : List Reply) (rest : List Record) (last : Point) → GoesTo point since begun from n more told (made ++ rest) last →
       GoesTo (opening first) [] [] origin (n + j.cuts) (sent ++ more) (replies ++ (left_to_tell j ++ told)) (records ++ rest) last
+  pub forth : (n : ℕ) (more : List Sent) (told : List Reply) (rest : List Record) (last : Point) → MayFollow j told rest →
+      GoesTo (opening first) [] [] origin (n + j.cuts) (sent ++ more) (replies ++ (left_to_tell j ++ told)) (records ++ rest) last → GoesTo point since begun from n more told (made ++ rest) last
 
 -- It has come to its end: with these texts, and one record of the end, it leads to a point, whatever more cuts may come.
 pub record IsOver (j : CourseJudge) (first : State) (sent : List Sent) (replies : List Reply) (records : List Record) : Type 0 where
@@ -148,6 +178,12 @@ abbrev pub AddsReset : CourseJudge → CourseJudge → ℕ → ℕ → Type 0
 AddsReset j k number dropped =
     (lines : List (List ℕ)) → dropped ≡ length lines → (first : State) (sent : List Sent) (replies : List Reply) (records : List Record) → HasJudged j first sent replies records
     → HasJudged k first (sent ++ (map a_text lines ++ a_stop ∷ [])) replies (records ++ kinds.Mark (ResetMark number) ∷ [])
+
+-- No texts fit that begin with what it was told and have this record next, whatever may follow.
+abbrev pub RefusesRecord : CourseJudge → Record → Type 0
+RefusesRecord j r =
+    (first : State) (sent : List Sent) (replies : List Reply) (records : List Record) → HasJudged j first sent replies records → (n : ℕ) (more : List Sent) (told : List Reply) (rest : List Record) (last : Point)
+    → MayFollow j told rest → GoesTo (opening first) [] [] origin (n + j.cuts) (sent ++ more) (replies ++ (left_to_tell j ++ told)) (records ++ r ∷ rest) last → ⊥
 
 -- the course has come to its end
 abbrev pub EndsSoFar : CourseJudge → CourseJudge → Type 0

@@ -1,18 +1,19 @@
 //! The tasks of the line at hand that tell nothing, and the records that come for them.
 
-ghost use Rattle.std.specs.Prelude.{◌≡◌, ◌≢◌, ◌+◌, ◌∷◌, [], true, false, IsTrue, IfSome, length};
+ghost use Rattle.std.specs.Prelude.{◌≡◌, ◌≢◌, ◌↔◌, ◌+◌, ◌+ℤ◌, ◌≤◌, ◌<◌, ◌^◌, ◌∷◌, [], true, false, None, IsTrue, IfSome, length};
 ghost use Rattle.status_report.specs.declared.Reply.{Reply as AnyReply};
 ghost use Rattle.run_rules.specs.Work.{Task, told_by};
 ghost use Rattle.run_rules.specs.Work.Task.{ask, tell};
 ghost use Rattle.flight.specs.Places.{moved_by};
 ghost use Rattle.legal_heads.specs.Whole.{events_among};
 ghost use Rattle.line_interpreter.specs.Lefts.{IsNextOf, IsTodo};
-ghost use Rattle.part_making.specs.Judging.{IsItem};
+ghost use Rattle.part_making.specs.Judging.{IsItem, owed_of};
+ghost use Rattle.units.specs.Lengths.{IsCoordinate, IsPlace};
 ghost use Rattle.step_line.specs.declared.Record.TheVariants as kinds;
 ghost use Rattle.step_line.specs.Places.{stepped};
 ghost use Rattle.run_texts.specs.Parts.{is_ending};
 ghost use Rattle.audit_course.specs.Progressing.{IsUnseen, IsItemOf};
-ghost use Rattle.audit_course.specs.SoFar.{StaysSoFar, AddsRecord};
+ghost use Rattle.audit_course.specs.SoFar.{StaysSoFar, AddsRecord, RefusesRecord};
 
 use crate::CourseJudge;
 use crate::judge::counted;
@@ -28,19 +29,29 @@ fn is_ending(mark: &Mark) -> bool
     matches!(mark, Mark::Cut(_) | Mark::Reset(_))
 }
 
+/// A coordinate, one event further, if it is in range.
+fn moved_on(steps: i64, step: i8) -> Option<i64>
+    ensures is { IfSome result (λ n. n ≡ steps +ℤ step) }
+    ensures some { IsCoordinate steps → result ≢ None }
+{
+    steps.checked_add(i64::from(step))
+}
+
 /// A place, one event further, if it is in range.
 fn stepped(place: &Steps3, bits: &Bits) -> Option<Steps3>
-    ensures { IfSome result (λ p. p ≡ stepped place.now bits.now) }
+    ensures is { IfSome result (λ p. p ≡ stepped place.now bits.now) }
+    ensures some { IsPlace place.now → result ≢ None }
 {
-    let x = place.x.checked_add(i64::from(bits.x))?;
-    let y = place.y.checked_add(i64::from(bits.y))?;
-    let z = place.z.checked_add(i64::from(bits.z))?;
+    let x = moved_on(place.x, bits.x)?;
+    let y = moved_on(place.y, bits.y)?;
+    let z = moved_on(place.z, bits.z)?;
     Some(Steps3 { x, y, z })
 }
 
 /// Where a record leaves the machine.
 fn place_behind(place: &Steps3, record: &Record) -> Option<Steps3>
-    ensures { IfSome result (λ p. p ≡ moved_by place.now (record.now ∷ [])) }
+    ensures is { IfSome result (λ p. p ≡ moved_by place.now (record.now ∷ [])) }
+    ensures some { IsPlace place.now → result ≢ None }
 {
     match record {
         Record::Event(bits) => stepped(place, bits),
@@ -50,7 +61,8 @@ fn place_behind(place: &Steps3, record: &Record) -> Option<Steps3>
 
 /// How many events a record is.
 fn event_count(record: &Record) -> u64
-    ensures { result ≡ length (events_among (record.now ∷ [])) }
+    ensures is { result ≡ length (events_among (record.now ∷ [])) }
+    ensures few { result ≤ 1 }
 {
     match record {
         Record::Event(_) => 1,
@@ -138,13 +150,18 @@ impl CourseJudge {
     }
 
     /// Whether something is owed of what the lines ask for.
-    pub fn owes(&self) -> bool {
+    pub fn owes(&self) -> bool
+        ensures { IsTrue result ↔ (owed_of self.now.part ≢ []) }
+    {
         !self.part.is_idle()
     }
 
-    /// A record comes: whether it is the next one of the part. If not, no record is told any more.
+    /// A record comes: whether it is the next one of the part. If not, no record is told any more. Where something is owed, the
+    /// machine is in its range and the events can be counted, no texts fit that have a record next that is refused and ends no
+    /// part.
     pub fn take(&mut self, record: &Record) -> bool
-        ensures { IsTrue result → AddsRecord self.old self.new record.now }
+        ensures yes { IsTrue result → AddsRecord self.old self.new record.now }
+        ensures no { result ≡ false → owed_of self.old.part ≢ [] → is_ending record.now ≡ false → IsPlace self.old.place → self.old.events + 1 < 2 ^ 64 → RefusesRecord self.old record.now }
     {
         let Some(place) = place_behind(&self.place, record) else {
             return false;

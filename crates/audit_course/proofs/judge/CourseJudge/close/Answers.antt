@@ -1,5 +1,5 @@
 use Rattle.std.proofs.Common.{ap, ◌∙◌, ◌&&◌, ◌||◌, Bool}
-use Rattle.audit_course.specs.Progressing.{moved_now, stays_on}
+use Rattle.audit_course.specs.Progressing.{moved_now}
 use Rattle.audit_course.proofs.Parting.{closes}
 use Rattle.audit_course.proofs.judge.CourseJudge.close.Goals as goal
 

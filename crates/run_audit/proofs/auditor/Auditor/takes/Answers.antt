@@ -10,7 +10,7 @@ pub returns-then-take-clause-so_far : goal.returns-then-take-clause-so_far
 returns-then-take-clause-so_far c = λ job console steps.
     let a = c.args.self.now in
     let b : Auditor = record a { course = c.take.new.self; recorded = c.take-then-take.new.self } in
-    record_told a b c.args.record.now job console steps (λ t told h. h) (λ t told h. h) (λ t told h. c.take-then-take.ensures.told c.args.record.now c.requires.next steps t told h) refl (c.take.ensures c.if-take.true)
+    record_told a b c.args.record.now job console steps (λ t told h. h) (λ t told h. h) (λ t told h. c.take-then-take.ensures.told c.args.record.now c.requires.next steps t told h) refl (c.take.ensures.yes c.if-take.true)
 
 pub returns-else-take-clause-so_far : goal.returns-else-take-clause-so_far
 returns-else-take-clause-so_far c = λ job console steps.
