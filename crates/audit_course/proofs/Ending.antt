@@ -133,13 +133,13 @@ to_tell j done = ap (λ (ts : List Task). cond j.unanswered [] (tells ts)) done 
   by true = refl
   by false = refl
 
-calm_point : (j : CourseJudge) (p : Point) (hand : List Outcome) → OfLine j p hand → j.work.left ≡ [] → j.line.halts ≡ false → p.before.alarmed ≡ false
+calm_point : (j : CourseJudge) (p : Point) (hand : List Outcome) → OfLine j p hand → j.work.left ≡ [] → (not j.unanswered && j.line.halts) ≡ false → p.before.alarmed ≡ false
 calm_point j p hand o done calm =
-    let limit : o.limit ≡ false = sym o.halts ∙ ap (λ (t : Bool). t || has_halt j.work.left) calm ∙ ap has_halt done in
-    o.alarmed ∙ ap (λ (t : Bool). not j.unanswered && t) limit ∙ and_false (not j.unanswered) where
-      and_false : (b : Bool) → (b && false) ≡ false
-      and_false true = refl
-      and_false false = refl
+    let limit : o.limit ≡ j.line.halts = sym o.halts ∙ ap (λ (ts : List Task). j.line.halts || has_halt ts) done ∙ or_none j.line.halts in
+    o.alarmed ∙ ap (λ (t : Bool). not j.unanswered && t) limit ∙ calm where
+      or_none : (b : Bool) → (b || false) ≡ b
+      or_none true = refl
+      or_none false = refl
 
 mark_events : (records : List Record) (r : Record) → is_event r ≡ false → length (events_among (records ++ r ∷ [])) ≡ length (events_among records)
 mark_events records r e =

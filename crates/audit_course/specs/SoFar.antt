@@ -229,7 +229,7 @@ pub record IsClosed (j : CourseJudge) : Type 0 where
 pub record MayCut (j : CourseJudge) (k : ℕ) : Type 0 where
   pub ends : IsClosed j
   pub untouched : j.unanswered ≡ true → j.touched ≡ false
-  pub calm : j.line.halts ≡ false
+  pub calm : (not j.unanswered && j.line.halts) ≡ false
   pub has_line : j.has_line ≡ true
   pub number : j.work.number ≡ k + 1
   pub out : coming_of j.part.latest ≡ []
@@ -239,7 +239,7 @@ pub record MayCut (j : CourseJudge) (k : ℕ) : Type 0 where
 -- a reset may end a part behind line k, with or without its alarm
 pub record MayReset (j : CourseJudge) (k : ℕ) (alarm : Bool) : Type 0 where
   pub ends : IsClosed j
-  pub calm : j.line.halts ≡ false
+  pub calm : (not j.unanswered && j.line.halts) ≡ false
   pub number : k + 1 ≡ j.work.number
   pub settled : j.unsettled ≡ true
   pub cause : alarm ≡ true → (j.moved || j.jog_moved) ≡ true

@@ -1,6 +1,6 @@
 //! Cuts, resets and the end.
 
-ghost use Rattle.std.specs.Prelude.{◌≡◌, ◌<◌, ◌+◌, ◌^◌, ◌↔◌, ◌||◌, true, false, IsTrue};
+ghost use Rattle.std.specs.Prelude.{◌≡◌, ◌<◌, ◌+◌, ◌^◌, ◌↔◌, ◌&&◌, ◌||◌, not, true, false, IsTrue};
 ghost use Rattle.step_line.specs.declared.Mark.TheVariants.{Cut as CutMark};
 ghost use Rattle.step_line.specs.declared.Record.TheVariants as kinds;
 ghost use Rattle.units.specs.Lengths.{IsPlace, IsCoordinate};
@@ -45,7 +45,7 @@ impl CourseJudge {
         ensures { IsTrue result → MayCut self.now k }
     {
         self.is_untouched()
-            && !self.line.halts
+            && !self.has_alarm()
             && self.has_line
             && u64::from(self.work.number()) == u64::from(k) + 1
             && self.part.may_stop()
@@ -89,7 +89,7 @@ impl CourseJudge {
         requires { IsClosed self.now }
         ensures { IsTrue result → MayReset self.now k alarm }
     {
-        !self.line.halts
+        !self.has_alarm()
             && u64::from(self.work.number()) == u64::from(k) + 1
             && self.unsettled
             && (!alarm || self.moved || self.jog_moved)
@@ -203,7 +203,14 @@ impl CourseJudge {
         self.cuts
     }
 
-    /// Whether a line has raised the alarm of a soft limit.
+    /// Whether a line has raised the alarm of a soft limit. One that is not answered has not.
+    pub fn has_alarm(&self) -> bool
+        ensures { result ≡ (not self.now.unanswered && self.now.line.halts) }
+    {
+        !self.unanswered && self.line.halts
+    }
+
+    /// Whether a line has halted the machine, or would have if it had been answered.
     pub fn is_halted(&self) -> bool
         ensures { result ≡ self.now.line.halts }
     {

@@ -317,7 +317,7 @@ impl Auditor {
             (λ e. IsCaused e (J.state job.old) (C.state console.old) (S.state steps.old) (J.state job.new) (C.state console.new) (S.state steps.new)) }
         ensures goes_on { IfOk result (λ found. GoesOn self.old self.new (J.state job.old) (C.state console.old) (S.state steps.old) (J.state job.new) (C.state console.new) (S.state steps.new) found) }
     {
-        if self.course.is_halted() {
+        if self.course.has_alarm() {
             return self.end_by_alarm(record, job, console, steps);
         }
         let known = match self.listening.look(console) {

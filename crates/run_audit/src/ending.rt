@@ -194,7 +194,7 @@ impl Auditor {
         ensures read_on { IfOk result (λ done. (console steps : SourceState) (job_text console_text steps_text : List ℕ) →
             CanBeRead self.old (J.state job.old) console steps job_text console_text steps_text → CanBeRead self.new (J.state job.new) console steps job_text console_text steps_text) }
     {
-        if self.course.is_halted() {
+        if self.course.has_alarm() {
             return Ok(());
         }
         self.read_on(job)

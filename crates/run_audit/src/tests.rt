@@ -171,6 +171,22 @@ fn waiting_jogs_are_cut_unanswered(rt: HostRuntime) -> Result<(), Fail> {
     Ok(())
 }
 
+/// A line that raises an alarm is begun, and a reset keeps it from that.
+#[test]
+fn limited_lines_are_left_unanswered(rt: HostRuntime) -> Result<(), Fail> {
+    let console = b"\r\nGrbl 1.1h ['$' for help]\r\nok\r\n\r\nGrbl 1.1h ['$' for help]\r\nok\r\n";
+    let job = b"$20=1\nG53G0X1\n\x18\n";
+    assert_eq!(rt;
+        found(&rt, job, console, b"Z 1\nE\n")?,
+        Audit::Fits { events: 0 }
+    );
+    assert_eq!(rt;
+        found(&rt, job, console, b"Z 2\nE\n")?,
+        Audit::Fits { events: 0 }
+    );
+    Ok(())
+}
+
 #[test]
 fn words_are_three(rt: HostRuntime) -> Result<(), Fail> {
     let mut job = MemSource::new(b"", 1, &[]);
