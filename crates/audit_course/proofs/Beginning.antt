@@ -36,6 +36,7 @@ use Rattle.audit_course.specs.declared.judge.CourseJudge.{CourseJudge}
 use Rattle.audit_course.specs.Progressing.{last_behind, has_ticks, has_halt, IsNew}
 use Rattle.audit_course.specs.SoFar.{GoesTo, HasJudged, OfLine, IsBare, EndsLate, MayBegin, Knows, FindsRight, FindsStill, left_to_tell}
 use Rattle.audit_course.proofs.Going.{by_line, by_broken}
+use Rattle.audit_course.proofs.Parting.{none_of}
 use Rattle.audit_course.proofs.Forced.{comes_before, behind_made, forced_line, forced_broken}
 use Rattle.audit_course.proofs.Finding.{still_may, stands_becomes, busy_becomes, locked_becomes}
 use Rattle.audit_course.proofs.Outcomes.{SaysOf, becomes_says, locked_says}
@@ -124,6 +125,13 @@ any_last [] o e = or_true' (raises_alarm o) e where
   or_true' false f = f
 any_last (x ∷ os) o e = or_true (raises_alarm x) (list_any raises_alarm (os ++ o ∷ [])) (any_last os o e)
 
+none_last : (os : List Outcome) (o : Outcome) → list_any raises_alarm os ≡ false → raises_alarm o ≡ false → list_any raises_alarm (os ++ o ∷ []) ≡ false
+none_last [] o none e = ap (λ (t : Bool). t || false) e
+none_last (x ∷ os) o none e = both (raises_alarm x) (list_any raises_alarm os) (list_any raises_alarm (os ++ o ∷ [])) none (none_last os o) e where
+  both : (a c d : Bool) → (a || c) ≡ false → (c ≡ false → raises_alarm o ≡ false → d ≡ false) → raises_alarm o ≡ false → (a || d) ≡ false
+  both true c d n f e = absurd cc
+  both false c d n f e = f n e
+
 pub line_begun : (j k : CourseJudge) (kept : List ℕ) (o : Outcome) (w : Interpreting) (first : State) (sent : List Sent) (replies : List Reply) (records : List Record) (s : HasJudged j first sent replies records)
     → MayBegin j → IsJudged j s.point true kept o w k.line → kind_told k.line.accepted ≡ o.kind
     → k.jogged ≡ jogged_behind o.kind j.jogged → k.locked ≡ (j.locked && not (is_unlock (kind_of kept)))
@@ -150,6 +158,7 @@ line_begun j k kept o w first sent replies records s b judged kind jogged locked
   asked = λ e.
       let a = asked_more j first sent replies records s b.done (sym (ap (λ (x : CourseJudge). x.lost) is) ∙ e) in
       (ap (λ (rs : List Record). rs ++ ticks_for o) a.0 ∙ ap (λ (ts : List Task). ticks_of_all (asks ts)) (sym left), ap (λ (ms : List PlannedMove). ms ++ moves_of (asks o.work)) a.1 ∙ ap (λ (ts : List Task). moves_of (asks ts)) (sym left));
+  loses_some = λ e none. s.loses_some (sym (ap (λ (x : CourseJudge). x.lost) is) ∙ e) (none_of s.ticks (ticks_for o) none).0;
   is_made = is_made;
   untouched = λ u t. absurd (let f : false ≡ true = sym answered ∙ u in cc);
   loses = record {
@@ -161,6 +170,7 @@ line_begun j k kept o w first sent replies records s b judged kind jogged locked
     unsettled = λ e. s.loses.unsettled (sym (ap (λ (x : CourseJudge). x.unsettled) is) ∙ e);
   };
   alarm = λ e. any_last s.since o e;
+  calm = λ e. none_last s.since o (s.calm (no_alarm j s.point s.hand s.line b)) e;
   events = ap (λ (x : CourseJudge). x.events) is ∙ s.events;
   back = λ n more told rest last g.
       let cuts : k.cuts ≡ j.cuts = ap (λ (x : CourseJudge). x.cuts) is in
@@ -266,6 +276,7 @@ line_broken j k kept o w first sent replies records s b judged kind is = record 
   asked = λ e.
       let a = asked_more j first sent replies records s b.done (sym (ap (λ (x : CourseJudge). x.lost) is) ∙ e) in
       (ap (λ (rs : List Record). rs ++ ticks_for o) a.0 ∙ ap (λ (ts : List Task). ticks_of_all (asks ts)) (sym left), ap (λ (ms : List PlannedMove). ms ++ moves_of (asks o.work)) a.1 ∙ ap (λ (ts : List Task). moves_of (asks ts)) (sym left));
+  loses_some = λ e none. s.loses_some (sym (ap (λ (x : CourseJudge). x.lost) is) ∙ e) (none_of s.ticks (ticks_for o) none).0;
   is_made = subst (λ (os : List Outcome). IsMade os s.made (making k.part (s.ticks ++ ticks_for o) (s.moves ++ moves_of (asks o.work)))) (append_assoc s.since s.begun (o ∷ []))
       (subst (λ (m : Making). IsMade ((s.since ++ s.begun) ++ o ∷ []) s.made m) same (line_made (s.since ++ s.begun) s.made (making j.part s.ticks s.moves) o s.is_made));
   untouched = λ u t. subst (λ (x : Known). IsBare s.since s.made x.latest) (sym (ap (λ (x : CourseJudge). x.part) is))
@@ -279,6 +290,7 @@ line_broken j k kept o w first sent replies records s b judged kind is = record 
     unsettled = λ e. s.loses.unsettled (sym (ap (λ (x : CourseJudge). x.unsettled) is) ∙ e);
   };
   alarm = s.alarm;
+  calm = s.calm;
   events = ap (λ (x : CourseJudge). x.events) is ∙ s.events;
   back = λ n more told rest last g.
       let cuts : k.cuts ≡ j.cuts = ap (λ (x : CourseJudge). x.cuts) is in

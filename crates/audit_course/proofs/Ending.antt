@@ -127,13 +127,13 @@ settled_all j since made l e =
 with_hand : (j : CourseJudge) (since hand : List Outcome) (made : List Record) → MayLose j since hand made → hand ≡ [] → MayLose j since [] made
 with_hand j since hand made l none = subst (λ (os : List Outcome). MayLose j since os made) none l
 
-to_tell : (j : CourseJudge) → j.work.left ≡ [] → left_to_tell j ≡ []
+pub to_tell : (j : CourseJudge) → j.work.left ≡ [] → left_to_tell j ≡ []
 to_tell j done = ap (λ (ts : List Task). cond j.unanswered [] (tells ts)) done ∙ by j.unanswered where
   by : (u : Bool) → cond u [] (tells []) ≡ []
   by true = refl
   by false = refl
 
-calm_point : (j : CourseJudge) (p : Point) (hand : List Outcome) → OfLine j p hand → j.work.left ≡ [] → (not j.unanswered && j.line.halts) ≡ false → p.before.alarmed ≡ false
+pub calm_point : (j : CourseJudge) (p : Point) (hand : List Outcome) → OfLine j p hand → j.work.left ≡ [] → (not j.unanswered && j.line.halts) ≡ false → p.before.alarmed ≡ false
 calm_point j p hand o done calm =
     let limit : o.limit ≡ j.line.halts = sym o.halts ∙ ap (λ (ts : List Task). j.line.halts || has_halt ts) done ∙ or_none j.line.halts in
     o.alarmed ∙ ap (λ (t : Bool). not j.unanswered && t) limit ∙ calm where
@@ -183,9 +183,11 @@ part_cut j k w state first sent replies records s may state_is same_left number_
   ticks = [];
   moves = [];
   asked = λ e. (sym (ap (λ (ts : List Task). ticks_of_all (asks ts)) left), sym (ap (λ (ts : List Task). moves_of (asks ts)) left));
+  loses_some = λ e. absurd cc;
   is_made = begins;
   untouched = λ u e. record { making = nothing_yet; is = begins; out = refl; head = refl };
   loses = record { closed = []; others = []; split = refl; over = omega arith; jogs = λ e. tt; unsettled = λ e. tt };
+  calm = λ e. refl;
   alarm = λ e. absurd (let f : true ≡ false = sym e ∙ calm_point j s.point s.hand s.line may.ends.done may.calm in cc);
   events = s.events ∙ sym (mark_events records (ending_record (by_cut k j.place)) refl);
   back = λ n more told rest last g.
@@ -342,10 +344,12 @@ part_reset j k dropped alarm locked lines w state first sent replies records s m
     sym (ap (λ (ts : List Task). ticks_of_all (asks ts)) left ∙ ap ticks_of_all (telling_asks (greeting alarm locked))),
     sym (ap (λ (ts : List Task). moves_of (asks ts)) left ∙ ap moves_of (telling_asks (greeting alarm locked))),
   );
+  loses_some = λ e. absurd cc;
   is_made = begins;
   untouched = λ u e. absurd cc;
   loses = record { closed = []; others = []; split = refl; over = omega arith; jogs = λ e. tt; unsettled = λ e. tt };
   alarm = λ e. absurd cc;
+  calm = λ e. refl;
   events = s.events ∙ sym (mark_events records (kinds.Mark (ResetMark k)) refl);
   back = λ n more told rest last g.
       let on : GoesTo (behind_the_reset (reset_here j k dropped alarm locked) s.point) [] [] j.place n (behind_reset (map a_text lines ++ a_stop ∷ more)) told rest last =

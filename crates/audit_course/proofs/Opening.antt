@@ -85,10 +85,12 @@ opens_so_far first w state part line state_is work number left part_is new accep
   ticks = [];
   moves = [];
   asked = λ e. (sym (ap (λ (ts : List Task). ticks_of_all (asks ts)) left), sym (ap (λ (ts : List Task). moves_of (asks ts)) left));
+  loses_some = λ e. absurd cc;
   is_made = subst (λ (k : Known). IsMade [] [] (making k [] [])) (sym part_is) begins;
   untouched = λ u t. absurd cc;
   loses = record { closed = []; others = []; split = refl; over = omega arith; jogs = λ e. tt; unsettled = λ e. tt };
   alarm = λ e. absurd cc;
+  calm = λ e. refl;
   events = refl;
   back = λ n more told rest last g.
       subst (λ (rs : List Reply). GoesTo (opening first) [] [] origin (n + 0) more (rs ++ told) rest last) (sym (ap tells left))

@@ -98,6 +98,7 @@ record_taken j r part place events first sent replies records s goes here count 
   ticks = s.ticks;
   moves = s.moves;
   asked = s.asked;
+  loses_some = s.loses_some;
   is_made = made_on (s.since ++ s.begun) s.made j.part part s.ticks s.moves r s.is_made goes;
   untouched = λ u e. absurd cc;
   loses = record {
@@ -109,6 +110,7 @@ record_taken j r part place events first sent replies records s goes here count 
     unsettled = s.loses.unsettled;
   };
   alarm = s.alarm;
+  calm = s.calm;
   events = (let before = s.events in
       let both : length (events_among (records ++ r ∷ [])) ≡ length (events_among records) + length (events_among (r ∷ [])) = ap length (filter-append is_event records (r ∷ [])) ∙ length-append (events_among records) (events_among (r ∷ [])) in
       omega (arith, before, both, count));
@@ -217,10 +219,12 @@ line_closed j l moved jog_moved jogs unsettled first sent replies records s done
   ticks = s.ticks;
   moves = s.moves;
   asked = s.asked;
+  loses_some = s.loses_some;
   is_made = s.is_made;
   untouched = s.untouched;
   loses = record { closed = loses.closed; others = loses.others; split = loses.split; over = loses.over; jogs = loses.jogs; unsettled = loses.unsettled };
   alarm = s.alarm;
+  calm = s.calm;
   events = s.events;
   back = s.back;
   forth = λ n more told rest last may. s.forth n more told rest last (record { late = may.late; resets = may.resets });
@@ -228,7 +232,7 @@ line_closed j l moved jog_moved jogs unsettled first sent replies records s done
   moves_done : j.line.moves ≡ true → has_moves s.line.work ≡ true
   moves_done m = sym s.line.moves ∙ ap (λ (b : Bool). b || has_moves j.work.left) m
 
-none_of : (xs ys : List Record) → xs ++ ys ≡ [] → (xs ≡ []) × (ys ≡ [])
+pub none_of : (xs ys : List Record) → xs ++ ys ≡ [] → (xs ≡ []) × (ys ≡ [])
 none_of [] ys e = (refl, e)
 none_of (x ∷ xs) ys e = absurd cc
 
@@ -282,6 +286,10 @@ other_loses j first sent replies records s done = record {
   by_answer : (u : Bool) → j.unanswered ≡ u → (u || stays_on j.line) ≡ true → AllByRecursion (λ o. o.settles ≡ false) s.hand
   by_answer true u e = subst (λ (os : List Outcome). AllByRecursion (λ (o : Outcome). o.settles ≡ false) os) (sym (s.line.unheld u)) tt
   by_answer false u e = all_by _ (λ o. o.settles ≡ false) (λ o is. is.1 ∙ stays_so j s.point s.hand s.line done e) s.hand s.line.are
+
+pub or_first : (a b : Bool) → (a || b) ≡ false → a ≡ false
+or_first true b e = absurd cc
+or_first false b e = refl
 
 -- ---- as the code has it
 

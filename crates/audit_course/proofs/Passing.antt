@@ -1,5 +1,5 @@
 -- A judge goes on: task by task, and by a line that is begun.
-use Rattle.std.proofs.Common.{◌≡◌, ℕ, ◌+◌, Bool, true, false, cond, not, ◌&&◌, ◌||◌, List, [], ◌∷◌, ◌++◌, drop, append-nil, append_assoc, refl, sym, ap, ◌∙◌, subst, IsTrue, ◌↔◌, None, Some}
+use Rattle.std.proofs.Common.{◌≡◌, ℕ, ◌+◌, Bool, true, false, cond, not, ◌&&◌, ◌||◌, List, [], ◌∷◌, ◌++◌, drop, append-nil, append_assoc, refl, sym, ap, ◌∙◌, subst, IsTrue, ◌↔◌, None, Some, ◌<◌, map, suc, arith, zero}
 use Rattle.std.specs.declared.option.Option.{Option}
 use Rattle.std.specs.List.{AllByRecursion}
 use Rattle.std.proofs.lemmas.Grind.{flat_map-append}
@@ -7,7 +7,10 @@ use Rattle.flight.specs.Places.{origin}
 use Rattle.status_report.specs.declared.Reply.{Reply}
 use Rattle.step_line.specs.Asking.Asked.{a_move, a_mark, a_rest}
 use Rattle.step_line.specs.Asking.{ticks_of_all, ticks_of_one, moves_of, move_of}
+use Rattle.step_line.specs.Counting.{events_of}
+use Rattle.step_line.specs.Events.{events_after}
 use Rattle.step_line.specs.declared.Record.{Record}
+use Rattle.step_line.specs.declared.Record.TheVariants as kinds
 use Rattle.step_line.specs.declared.planned_move.PlannedMove.{PlannedMove}
 use Rattle.run_rules.specs.declared.State.{State}
 use Rattle.run_rules.specs.Work.{Task, Outcome, tells, told_by, asks, asked_by_task, asks_move, has_moves, accepted_code, accepted_jog}
@@ -19,7 +22,7 @@ use Rattle.line_interpreter.specs.declared.tasks.Todo.{Todo}
 use Rattle.line_interpreter.specs.declared.tasks.Todo.TheVariants as todos
 use Rattle.step_line.specs.declared.Mark.{Mark}
 use Rattle.part_making.specs.declared.Item.TheVariants as items
-use Rattle.part_making.specs.Judging.{Known, Traced, making, item_ticks, item_moves}
+use Rattle.part_making.specs.Judging.{Known, Traced, making, item_ticks, item_moves, IsItem}
 use Rattle.part_making.specs.declared.Item.{Item}
 use Rattle.part_making.proofs.Refused.{asked as asked_next}
 use Rattle.run_texts.specs.Making.{Making, IsMade}
@@ -83,9 +86,9 @@ pub task_done : (j : CourseJudge) (t : Task) (w : Interpreting) (l : Progress) (
     → IsNextOf t j.work.left → w ≡ record j.work { left = drop 1 j.work.left } → Counts j.line l t
     → left_to_tell j ≡ now ++ cond j.unanswered [] (tells (drop 1 j.work.left))
     → (lost ≡ false → (ticks ≡ ticks_of_all (asks (drop 1 j.work.left))) × (moves ≡ moves_of (asks (drop 1 j.work.left))))
-    → IsMade (s.since ++ s.begun) s.made (making part ticks moves) → part.latest ≡ j.part.latest
+    → IsMade (s.since ++ s.begun) s.made (making part ticks moves) → part.latest ≡ j.part.latest → (lost ≡ true → ticks ≡ [] → ⊥)
     → HasJudged (record j { work = w; line = l; part = part; lost = lost }) first sent (replies ++ now) records
-task_done j t w l part lost first sent replies now records ticks moves s next is counts tell_now asked made latest = record {
+task_done j t w l part lost first sent replies now records ticks moves s next is counts tell_now asked made latest loses = record {
   point = s.point;
   number = s.number ∙ sym (ap (λ (i : Interpreting). i.number) is);
   state = s.state;
@@ -106,10 +109,12 @@ task_done j t w l part lost first sent replies now records ticks moves s next is
   asked = λ e.
       let a = asked e in
       (a.0 ∙ ap (λ (ts : List Task). ticks_of_all (asks ts)) (sym left), a.1 ∙ ap (λ (ts : List Task). moves_of (asks ts)) (sym left));
+  loses_some = loses;
   is_made = made;
   untouched = λ u e. subst (λ (x : Option Traced). IsBare s.since s.made x) (sym latest) (s.untouched u e);
   loses = record { closed = s.loses.closed; others = s.loses.others; split = s.loses.split; over = s.loses.over; jogs = s.loses.jogs; unsettled = s.loses.unsettled };
   alarm = s.alarm;
+  calm = s.calm;
   events = s.events;
   back = λ n more told rest last g.
       subst (λ (rs : List Reply). GoesTo (opening first) [] [] origin (n + j.cuts) (sent ++ more) rs (records ++ rest) last) (same told) (s.back n more told rest last g);
@@ -143,7 +148,7 @@ reply_told j r w l first sent replies records s next answered is counts =
     task_done j (tell r) w l j.part j.lost first sent replies (r ∷ []) records s.ticks s.moves s next is counts
     (ap (λ (ts : List Task). cond j.unanswered [] (tells ts)) next ∙ first_told j.unanswered r (tells (drop 1 j.work.left)) answered)
     (λ e. let a = s.asked e in (a.0 ∙ ap (λ (ts : List Task). ticks_of_all (asks ts)) next, a.1 ∙ ap (λ (ts : List Task). moves_of (asks ts)) next))
-    s.is_made refl
+    s.is_made refl s.loses_some
 
 none_cond : (u : Bool) → ◌≡◌ {A = List Reply} (cond u [] []) []
 none_cond true = refl
@@ -174,7 +179,7 @@ quiet_done j t w l first sent replies records s next quiet is counts =
       a.0 ∙ ap (λ (ts : List Task). ticks_of_all (asks ts)) next ∙ quiet_ticks t (drop 1 j.work.left) quiet.ticks,
       a.1 ∙ ap (λ (ts : List Task). moves_of (asks ts)) next ∙ quiet_moves t (drop 1 j.work.left) quiet.moves,
     ))
-    s.is_made refl)
+    s.is_made refl s.loses_some)
 
 ask_told : (u : Bool) (t : Task) (ts : List Task) → told_by t ≡ [] → cond u [] (tells (t ∷ ts)) ≡ cond u [] (tells ts)
 ask_told u t ts e = ap (λ (rs : List Reply). cond u [] (rs ++ tells ts)) e
@@ -196,18 +201,31 @@ item_asked j t item w l part first sent replies records s next of kept none part
     (task_done j t w l part j.lost first sent replies [] records (ticks_of_all (asks rest)) (moves_of (asks rest)) s next is counts
     (ap (λ (ts : List Task). cond j.unanswered [] (tells ts)) next ∙ ask_told j.unanswered t rest of.told)
     (λ e. (refl, refl))
-    (subst (λ (m : Making). IsMade (s.since ++ s.begun) s.made m) same s.is_made) (ap (λ (k : Known). k.latest) part_is))
+    (subst (λ (m : Making). IsMade (s.since ++ s.begun) s.made m) same s.is_made) (ap (λ (k : Known). k.latest) part_is) (λ e. absurd (let f : false ≡ true = sym kept ∙ e in cc)))
+
+none_first : (xs ys : List Record) → xs ++ ys ≡ [] → xs ≡ []
+none_first [] ys e = refl
+none_first (x ∷ xs) ys e = absurd cc
+
+-- where something is lost, ticks are left that no item waits for
+lost_some : (j : CourseJudge) (t : Task) (first : State) (sent : List Sent) (replies : List Reply) (records : List Record) (s : HasJudged j first sent replies records)
+    → IsNextOf t j.work.left → (ticks_of_all (asked_by_task t) ≡ [] → ⊥) → (lost : Bool) → j.lost ≡ lost → s.ticks ≡ [] → ⊥
+lost_some j t first sent replies records s next some true lost none = s.loses_some lost none
+lost_some j t first sent replies records s next some false lost none =
+    let ticks : s.ticks ≡ ticks_of_all (asked_by_task t) ++ ticks_of_all (asks (drop 1 j.work.left)) =
+    (s.asked lost).0 ∙ ap (λ (ts : List Task). ticks_of_all (asks ts)) next ∙ flat_map-append ticks_of_one (asked_by_task t) (asks (drop 1 j.work.left)) in
+    some (none_first (ticks_of_all (asked_by_task t)) (ticks_of_all (asks (drop 1 j.work.left))) (sym ticks ∙ none))
 
 -- what a task asks for is not recorded before the part ends
 pub task_lost : (j : CourseJudge) (t : Task) (w : Interpreting) (l : Progress) (first : State) (sent : List Sent) (replies : List Reply) (records : List Record) → HasJudged j first sent replies records
-    → IsNextOf t j.work.left → told_by t ≡ [] → w ≡ record j.work { left = drop 1 j.work.left } → Counts j.line l t
+    → IsNextOf t j.work.left → told_by t ≡ [] → (ticks_of_all (asked_by_task t) ≡ [] → ⊥) → w ≡ record j.work { left = drop 1 j.work.left } → Counts j.line l t
     → HasJudged (record j { work = w; line = l; lost = true }) first sent replies records
-task_lost j t w l first sent replies records s next told is counts =
+task_lost j t w l first sent replies records s next told some is counts =
     subst (λ (rs : List Reply). HasJudged (record j { work = w; line = l; lost = true }) first sent rs records) (append-nil replies)
     (task_done j t w l j.part true first sent replies [] records s.ticks s.moves s next is counts
     (ap (λ (ts : List Task). cond j.unanswered [] (tells ts)) next ∙ ask_told j.unanswered t (drop 1 j.work.left) told)
     (λ e. absurd cc)
-    s.is_made refl)
+    s.is_made refl (λ e. lost_some j t first sent replies records s next some j.lost refl))
 
 -- ---- which tasks are so
 
@@ -233,6 +251,18 @@ mark_item m t left is next = subst (λ (x : Task). IsItemOf x (items.Mark m)) (s
 
 pub mark_untold : (m : Mark) (left : List Task) → IsNextOf (ask (a_mark m)) left → (t : Task) → IsNextOf t left → told_by t ≡ []
 mark_untold m left is t next = subst (λ (x : Task). told_by x ≡ []) (same_task (ask (a_mark m)) t left is next) refl
+
+pub mark_asks : (m : Mark) (left : List Task) → IsNextOf (ask (a_mark m)) left → (t : Task) → IsNextOf t left → ticks_of_all (asked_by_task t) ≡ [] → ⊥
+mark_asks m left is t next = subst (λ (x : Task). ticks_of_all (asked_by_task x) ≡ [] → ⊥) (same_task (ask (a_mark m)) t left is next) (λ e. absurd cc)
+
+-- an item has ticks
+some_events : (m : PlannedMove) (n : ℕ) → n ≡ events_of m.mv → 0 < n → map kinds.Event (events_after m.mv 0 n) ≡ [] → ⊥
+some_events m zero is few e = absurd (omega (arith, few))
+some_events m (suc n) is few e = absurd cc
+
+pub item_asks : (t : Task) (item : Item) → IsItem item → IsItemOf t item → ticks_of_all (asked_by_task t) ≡ [] → ⊥
+item_asks t (items.Move m) is of e = some_events m (events_of m.mv) refl is.moves (sym of.ticks ∙ e)
+item_asks t (items.Mark m) is of e = absurd (let f = sym of.ticks ∙ e in cc)
 
 pub some_next : (left : List Task) → (left ≡ [] → ⊥) → (t : Task) × IsNextOf t left
 some_next [] some = absurd (some refl)

@@ -138,10 +138,12 @@ pub record HasJudged (j : CourseJudge) (first : State) (sent : List Sent) (repli
   pub ticks : List Record
   pub moves : List PlannedMove
   pub asked : j.lost ≡ false → (ticks ≡ ticks_of_all (asks j.work.left)) × (moves ≡ moves_of (asks j.work.left))
+  pub loses_some : j.lost ≡ true → ticks ≡ [] → ⊥
   pub is_made : IsMade (since ++ begun) made (making j.part ticks moves)
   pub untouched : j.unanswered ≡ true → j.touched ≡ false → IsBare since made j.part.latest
   pub loses : MayLose j since hand made
   pub alarm : point.before.alarmed ≡ true → list_any raises_alarm since ≡ true
+  pub calm : point.before.alarmed ≡ false → list_any raises_alarm since ≡ false
   pub events : j.events ≡ length (events_among records)
   pub back : (n : ℕ) (more : List Sent) (told : List Reply) (rest : List Record) (last : Point) → GoesTo point since begun from n more told (made ++ rest) last →
       GoesTo (opening first) [] [] origin (n + j.cuts) (sent ++ more) (replies ++ (left_to_tell j ++ told)) (records ++ rest) last
@@ -184,6 +186,11 @@ abbrev pub RefusesRecord : CourseJudge → Record → Type 0
 RefusesRecord j r =
     (first : State) (sent : List Sent) (replies : List Reply) (records : List Record) → HasJudged j first sent replies records → (n : ℕ) (more : List Sent) (told : List Reply) (rest : List Record) (last : Point)
     → MayFollow j told rest → GoesTo (opening first) [] [] origin (n + j.cuts) (sent ++ more) (replies ++ (left_to_tell j ++ told)) (records ++ r ∷ rest) last → ⊥
+
+-- No texts fit that are what it was told and have the end next.
+abbrev pub RefusesEnd : CourseJudge → Type 0
+RefusesEnd j = (first : State) (sent : List Sent) (replies : List Reply) (records : List Record) → HasJudged j first sent replies records → (n : ℕ) (last : Point)
+    → GoesTo (opening first) [] [] origin (n + j.cuts) sent replies (records ++ kinds.End ∷ []) last → ⊥
 
 -- the course has come to its end
 abbrev pub EndsSoFar : CourseJudge → CourseJudge → Type 0

@@ -1,10 +1,12 @@
 //! Cuts, resets and the end.
 
-ghost use Rattle.std.specs.Prelude.{◌≡◌, ◌<◌, ◌+◌, ◌^◌, ◌↔◌, ◌&&◌, ◌||◌, not, true, false, IsTrue};
+ghost use Rattle.std.specs.Prelude.{◌≡◌, ◌<◌, ◌+◌, ◌^◌, ◌↔◌, ◌&&◌, ◌||◌, [], not, true, false, IsTrue};
 ghost use Rattle.step_line.specs.declared.Mark.TheVariants.{Cut as CutMark};
 ghost use Rattle.step_line.specs.declared.Record.TheVariants as kinds;
 ghost use Rattle.units.specs.Lengths.{IsPlace, IsCoordinate};
-ghost use Rattle.audit_course.specs.SoFar.{AddsRecord, AddsReset, EndsSoFar, IsClosed, MayCut, MayReset, MayEnd};
+ghost use Rattle.legal_heads.specs.Speeds.{MayStop};
+ghost use Rattle.part_making.specs.Judging.{coming_of, head_of};
+ghost use Rattle.audit_course.specs.SoFar.{AddsRecord, AddsReset, EndsSoFar, RefusesEnd, IsClosed, IsIdle, MayCut, MayReset, MayEnd};
 
 use crate::{CourseJudge, Progress};
 use part_making::PartJudge;
@@ -170,7 +172,8 @@ impl CourseJudge {
     /// Whether the end may come.
     fn may_end(&self) -> bool
         requires { IsClosed self.now }
-        ensures { IsTrue result → MayEnd self.now }
+        ensures yes { IsTrue result → MayEnd self.now }
+        ensures no { result ≡ false → self.now.line.halts ≡ false → self.now.unanswered ≡ false → self.now.unsettled ≡ true → coming_of self.now.part.latest ≡ [] → MayStop (head_of self.now.part.latest) → IsIdle self.now → ⊥ }
     {
         !self.unanswered
             && self.part.may_stop()
@@ -178,9 +181,11 @@ impl CourseJudge {
             && (self.line.halts || self.is_idle())
     }
 
-    /// The end comes: whether it may.
+    /// The end comes: whether it may. If not, and the last line is done and answered and has raised no alarm, no texts fit that
+    /// end here.
     pub fn end(&mut self) -> bool
-        ensures { IsTrue result → EndsSoFar self.old self.new }
+        ensures yes { IsTrue result → EndsSoFar self.old self.new }
+        ensures no { result ≡ false → self.old.work.left ≡ [] → self.old.unanswered ≡ false → self.old.line.halts ≡ false → RefusesEnd self.old }
     {
         if !self.work.is_done() {
             return false;

@@ -101,7 +101,8 @@ impl CourseJudge {
     /// Whether nothing is owed of the part, where all of the line at hand is done.
     pub(crate) fn is_idle(&self) -> bool
         requires { self.now.work.left ≡ [] }
-        ensures { result ≡ true → IsIdle self.now }
+        ensures idle { result ≡ true → IsIdle self.now }
+        ensures owes { result ≡ false → IsIdle self.now → ⊥ }
     {
         !self.lost && !self.unanswered && self.part.is_idle()
     }
@@ -113,6 +114,9 @@ impl CourseJudge {
         ensures closed { self.new.in_hand ≡ false }
         ensures work { self.new.work ≡ self.old.work }
         ensures unanswered { self.new.unanswered ≡ self.old.unanswered }
+        ensures part { self.new.part ≡ self.old.part }
+        ensures lost { self.new.lost ≡ self.old.lost }
+        ensures unsettled { self.new.unsettled ≡ false → IsIdle self.old → ⊥ }
         ensures halts { self.new.line.halts ≡ self.old.line.halts }
     {
         let idle = self.is_idle();

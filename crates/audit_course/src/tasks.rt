@@ -2,7 +2,8 @@
 
 ghost use Rattle.std.specs.Prelude.{◌≡◌, ◌≢◌, ◌↔◌, ◌+◌, ◌+ℤ◌, ◌≤◌, ◌<◌, ◌^◌, ◌∷◌, [], true, false, None, IsTrue, IfSome, length};
 ghost use Rattle.status_report.specs.declared.Reply.{Reply as AnyReply};
-ghost use Rattle.run_rules.specs.Work.{Task, told_by};
+ghost use Rattle.run_rules.specs.Work.{Task, told_by, asked_by_task};
+ghost use Rattle.step_line.specs.Asking.{ticks_of_all};
 ghost use Rattle.run_rules.specs.Work.Task.{ask, tell};
 ghost use Rattle.flight.specs.Places.{moved_by};
 ghost use Rattle.legal_heads.specs.Whole.{events_among};
@@ -87,6 +88,7 @@ impl CourseJudge {
         requires todo { IsTodo todo self.old.work.left }
         requires some { self.old.work.left ≢ [] }
         requires untold { (t : Task) → IsNextOf t self.old.work.left → told_by t ≡ [] }
+        requires asks { (t : Task) → IsNextOf t self.old.work.left → ticks_of_all (asked_by_task t) ≢ [] }
         ensures { StaysSoFar self.old self.new }
     {
         self.line = counted(self.line, todo);
@@ -122,7 +124,7 @@ impl CourseJudge {
     }
 
     /// The next mark is asked for.
-    #[tactic(auto, using(crate::proofs::Passing::mark_item, crate::proofs::Passing::mark_untold))]
+    #[tactic(auto, using(crate::proofs::Passing::mark_item, crate::proofs::Passing::mark_untold, crate::proofs::Passing::mark_asks))]
     fn ask_mark(&mut self, mark: Mark)
         requires { IsTodo (Todo.Mark mark) self.old.work.left }
         ensures { StaysSoFar self.old self.new }

@@ -1,5 +1,8 @@
-use Rattle.audit_course.proofs.Passing.{some_next, item_asked, not_waiting}
+use Rattle.audit_course.proofs.Passing.{some_next, item_asked, item_asks, not_waiting}
 use Rattle.audit_course.proofs.judge.CourseJudge.ask.Goals as goal
+
+pub lose-requires-clause-asks : goal.lose-requires-clause-asks
+lose-requires-clause-asks c = λ t next. item_asks t c.args.item c.requires.item (c.requires.of t next)
 
 pub returns : goal.returns
 returns c = λ first sent replies records s.
