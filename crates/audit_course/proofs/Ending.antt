@@ -402,7 +402,7 @@ part_reset j k dropped alarm locked lines w state first sent replies records s m
 
 -- ---- the end
 
-point_halts : (j : CourseJudge) (p : Point) (hand : List Outcome) → OfLine j p hand → j.work.left ≡ [] → j.unanswered ≡ false → p.before.alarmed ≡ j.line.halts
+pub point_halts : (j : CourseJudge) (p : Point) (hand : List Outcome) → OfLine j p hand → j.work.left ≡ [] → j.unanswered ≡ false → p.before.alarmed ≡ j.line.halts
 point_halts j p hand o done answered =
     o.alarmed ∙ ap (λ (u : Bool). not u && o.limit) answered ∙ sym o.halts ∙ ap (λ (ts : List Task). j.line.halts || has_halt ts) done ∙ or_none j.line.halts where
       or_none : (b : Bool) → (b || false) ≡ b

@@ -65,12 +65,12 @@ made_before n (kinds.Event b ∷ made) rs inside later = made_before n made rs i
 made_before n (kinds.End ∷ made) rs inside later = absurd (let e = inside.0 in cc)
 
 -- a cut or a reset, and its number
-abbrev is_stop : Ending → Bool
+abbrev pub is_stop : Ending → Bool
 is_stop (by_cut k at) = true
 is_stop (by_reset r) = true
 is_stop by_end = false
 
-abbrev number_of : Ending → ℕ
+abbrev pub number_of : Ending → ℕ
 number_of (by_cut k at) = k
 number_of (by_reset r) = r.number
 number_of by_end = 0
@@ -81,7 +81,7 @@ stops_late n mine behind (by_cut k at) inside stops later = made_before n mine (
 stops_late n mine behind (by_reset r) inside stops later = made_before n mine (ending_record (by_reset r) ∷ behind) inside later
 stops_late n mine behind by_end inside stops later = absurd cc
 
-abbrev first_ending : List Part → Ending
+abbrev pub first_ending : List Part → Ending
 first_ending [] = by_end
 first_ending (p ∷ ps) = p.ending
 
@@ -109,14 +109,14 @@ number_comes p last (a_text line ∷ sent) (a_broken o ∷ ps) e f is stops =
     let rest : p.before.number + 1 ≤ number_of e + 1 = number_comes (behind_broken p o) last sent ps e f.1 (sym (begun_ends o (parts_of ps)) ∙ is) stops in
     omega (arith, rest)
 
-line_too_late : {A : Type 0} (p last : Point) (sent : List Sent) (o : Outcome) (ps : List Passed) (e : Ending) → Follows p sent (a_line o ∷ ps) last → first_ending (parts_of (a_line o ∷ ps)) ≡ e → is_stop e ≡ true → p.before.number ≡ number_of e + 1 → A
+pub line_too_late : {A : Type 0} (p last : Point) (sent : List Sent) (o : Outcome) (ps : List Passed) (e : Ending) → Follows p sent (a_line o ∷ ps) last → first_ending (parts_of (a_line o ∷ ps)) ≡ e → is_stop e ≡ true → p.before.number ≡ number_of e + 1 → A
 line_too_late p last [] o ps e f is stops number = absurd f
 line_too_late p last (a_stop ∷ sent) o ps e f is stops number = absurd f
 line_too_late p last (a_text line ∷ sent) o ps e f is stops number =
     let rest : p.before.number + 1 ≤ number_of e + 1 = number_comes (behind_line p line o) last sent ps e f.1 (sym (onto_ends o (parts_of ps)) ∙ is) stops in
     absurd (omega (arith, rest, number))
 
-broken_too_late : {A : Type 0} (p last : Point) (sent : List Sent) (o : Outcome) (ps : List Passed) (e : Ending) → Follows p sent (a_broken o ∷ ps) last → first_ending (parts_of (a_broken o ∷ ps)) ≡ e → is_stop e ≡ true → p.before.number ≡ number_of e + 1 → A
+pub broken_too_late : {A : Type 0} (p last : Point) (sent : List Sent) (o : Outcome) (ps : List Passed) (e : Ending) → Follows p sent (a_broken o ∷ ps) last → first_ending (parts_of (a_broken o ∷ ps)) ≡ e → is_stop e ≡ true → p.before.number ≡ number_of e + 1 → A
 broken_too_late p last [] o ps e f is stops number = absurd f
 broken_too_late p last (a_stop ∷ sent) o ps e f is stops number = absurd f
 broken_too_late p last (a_text line ∷ sent) o ps e f is stops number =
@@ -224,7 +224,7 @@ forced_broken p last since begun place n kept o more told records free is later 
 
 -- ---- a cut
 
-cut_is : (k : ℕ) (e : Ending) → ◌≡◌ {A = Record} (kinds.Mark (marks.Cut k)) (ending_record e) → (is_stop e ≡ true) × (number_of e ≡ k)
+pub cut_is : (k : ℕ) (e : Ending) → ◌≡◌ {A = Record} (kinds.Mark (marks.Cut k)) (ending_record e) → (is_stop e ≡ true) × (number_of e ≡ k)
 cut_is k (by_cut j at) is = (refl, cc)
 cut_is k (by_reset r) is = absurd cc
 cut_is k by_end is = absurd cc

@@ -1,5 +1,5 @@
--- A record, or the end, that is refused: no texts fit that go on by it.
-use Rattle.std.proofs.Common.{◌≡◌, ℕ, ◌+◌, Bool, true, false, not, ◌&&◌, List, [], ◌∷◌, ◌++◌, append-nil, append_assoc, refl, sym, ap, ◌∙◌, subst}
+-- What is refused: no texts fit that go on by it.
+use Rattle.std.proofs.Common.{◌≡◌, ℕ, ◌+◌, Bool, true, false, not, ◌&&◌, List, [], ◌∷◌, ◌++◌, append-nil, append_assoc, refl, sym, ap, ◌∙◌, subst, ◌≤◌, arith}
 use Rattle.std.specs.List.{list_any}
 use Rattle.legal_heads.specs.Speeds.{MayStop}
 use Rattle.flight.specs.Places.{origin}
@@ -20,17 +20,17 @@ use Rattle.run_texts.specs.Left.{behind_lines}
 use Rattle.run_texts.specs.Making.{Making, IsMade}
 use Rattle.run_texts.specs.Recorded.{AreRecorded}
 use Rattle.run_texts.specs.Parts.{parts_of, ending_record, is_ending, lines_counted}
-use Rattle.run_texts.specs.Parts.Ending.{by_end}
-use Rattle.run_texts.specs.Points.{Point, opening}
+use Rattle.run_texts.specs.Parts.Ending.{by_cut, by_end}
+use Rattle.run_texts.specs.Points.{Point, IsPassed, IsBroken, opening}
 use Rattle.run_texts.specs.Sent.{Sent}
 use Rattle.run_texts.proofs.Making.{finished}
 use Rattle.run_texts.proofs.OneMaking.{one_making}
 use Rattle.run_texts.proofs.Stops.{same_split}
 use Rattle.audit_course.specs.declared.judge.CourseJudge.{CourseJudge}
-use Rattle.audit_course.specs.SoFar.{GoesTo, HasJudged, IsIdle, MayFollow, left_to_tell}
-use Rattle.audit_course.proofs.Ending.{calm_point, to_tell}
+use Rattle.audit_course.specs.SoFar.{GoesTo, HasJudged, IsIdle, MayFollow, RefusesLine, left_to_tell}
+use Rattle.audit_course.proofs.Ending.{calm_point, point_halts, to_tell}
 use Rattle.audit_course.proofs.Parting.{none_of}
-use Rattle.audit_course.proofs.Forced.{behind_made}
+use Rattle.audit_course.proofs.Forced.{behind_made, broken_too_late, cut_is, first_ending, line_too_late}
 use Rattle.audit_course.proofs.FirstPart.{IsMadeOf, ending_ends, first_part, front_made, holds_front, made_behind}
 
 -- from where it stands
@@ -111,3 +111,51 @@ not_by old now work part lost unanswered unsettled settled out may idle = by now
   by false u = unsettled u idle
   by true u = settled u (ap (λ (k : Known). coming_of k.latest) part ∙ out) (subst (λ (k : Known). MayStop (head_of k.latest)) (sym part) may)
       (record { done = ap (λ (i : Interpreting). i.left) work ∙ idle.done; none = ap owed_of part ∙ idle.none; kept = lost ∙ idle.kept; answered = unanswered ∙ idle.answered })
+
+-- ---- a line
+
+pub none_begins : (j : CourseJudge) → j.work.left ≡ [] → (j.unanswered ≡ false → j.line.halts ≡ true) → RefusesLine j
+none_begins j done halts first sent replies records s kept o = by j.unanswered refl where
+  by : (u : Bool) → j.unanswered ≡ u → (IsPassed s.point kept o → ⊥) × (IsBroken s.point kept o → ⊥)
+  by true u = ((λ p. absurd (let f : false ≡ true = sym p.answered ∙ s.unanswered ∙ u in cc)), (λ p. absurd (let f : false ≡ true = sym p.answered ∙ s.unanswered ∙ u in cc)))
+  by false u =
+      let alarmed : s.point.before.alarmed ≡ true = point_halts j s.point s.hand s.line done u ∙ halts u in
+      ((λ p. absurd (let f : false ≡ true = sym p.free ∙ alarmed in cc)), (λ p. absurd (let f : false ≡ true = sym p.free ∙ alarmed in cc)))
+
+-- ---- a cut
+
+never_cut_by : (j : CourseJudge) (k : ℕ) (first : State) (sent : List Sent) (replies : List Reply) (records : List Record) (s : HasJudged j first sent replies records) (more : List Sent) (rest : List Record) (last : Point) (ps : List Passed)
+    → j.work.left ≡ [] → j.unanswered ≡ false → j.work.number ≡ k + 1 → (j.line.halts ≡ false → j.has_line ≡ true → coming_of j.part.latest ≡ [] → MayStop (head_of j.part.latest) → ⊥)
+    → Follows s.point more ps last → AreRecorded s.from (behind_lines s.since s.begun (parts_of ps)) (s.made ++ kinds.Mark (marks.Cut k) ∷ rest) → ⊥
+never_cut_by j k first sent replies records s more rest last [] done answered number not_so f are =
+    let same = same_split s.made are.0 rest are.1 (kinds.Mark (marks.Cut k)) kinds.End s.is_made.inside are.3.inside refl refl are.2 in absurd (let g = same.ending in cc)
+never_cut_by j k first sent replies records s more rest last (a_reset r ∷ ps) done answered number not_so f are =
+    let same = same_split s.made are.0 rest are.1 (kinds.Mark (marks.Cut k)) (kinds.Mark (marks.Reset r.number)) s.is_made.inside are.3.inside refl refl are.2 in absurd (let g = same.ending in cc)
+never_cut_by j k first sent replies records s more rest last (a_line o ∷ ps) done answered number not_so f are =
+    let g = first_part s.from s.since s.begun (a_line o ∷ ps) (s.made ++ kinds.Mark (marks.Cut k) ∷ rest) are in
+    let same = same_split s.made g.mine rest g.behind (kinds.Mark (marks.Cut k)) (ending_record g.part.ending) s.is_made.inside g.is.inside refl (ending_ends g.part.ending) g.split in
+    let is = cut_is k g.part.ending same.ending in
+    line_too_late s.point last more o ps g.part.ending f (ap first_ending g.parts) is.0 (s.number ∙ number ∙ ap (λ (m : ℕ). m + 1) (sym is.1))
+never_cut_by j k first sent replies records s more rest last (a_broken o ∷ ps) done answered number not_so f are =
+    let g = first_part s.from s.since s.begun (a_broken o ∷ ps) (s.made ++ kinds.Mark (marks.Cut k) ∷ rest) are in
+    let same = same_split s.made g.mine rest g.behind (kinds.Mark (marks.Cut k)) (ending_record g.part.ending) s.is_made.inside g.is.inside refl (ending_ends g.part.ending) g.split in
+    let is = cut_is k g.part.ending same.ending in
+    broken_too_late s.point last more o ps g.part.ending f (ap first_ending g.parts) is.0 (s.number ∙ number ∙ ap (λ (m : ℕ). m + 1) (sym is.1))
+never_cut_by j k first sent replies records s more rest last (a_cut i at ∷ ps) done answered number not_so f are =
+    let same = same_split s.made are.0 rest are.1 (kinds.Mark (marks.Cut k)) (kinds.Mark (marks.Cut i)) s.is_made.inside are.3.inside refl refl are.2 in
+    let whole = finished s.from (record { lines = s.since ++ []; begun = s.begun ++ []; ending = by_cut i at }) are.0 are.3 in
+    let lines : (s.since ++ []) ++ [] ≡ s.since ++ s.begun = append-nil (s.since ++ []) ∙ ap (λ (os : List Outcome). s.since ++ os) (sym (s.none_begun answered)) in
+    let is : IsMade (s.since ++ s.begun) s.made whole.making =
+    subst (λ (rs : List Record). IsMade (s.since ++ s.begun) rs whole.making) (sym same.front) (subst (λ (os : List Outcome). IsMade os are.0 whole.making) lines whole.is) in
+    let m : whole.making ≡ making j.part s.ticks s.moves = one_making (s.since ++ s.begun) s.made whole.making (making j.part s.ticks s.moves) is s.is_made in
+    not_so (sym (point_halts j s.point s.hand s.line done answered) ∙ f.0.free) (sym s.has_line ∙ f.0.has_line)
+    (sym (ap (λ (x : Making). x.coming) m) ∙ whole.may.0) (subst MayStop (ap (λ (x : Making). x.latest) m) whole.may.1)
+
+pub never_cut : (j : CourseJudge) (k : ℕ) (first : State) (sent : List Sent) (replies : List Reply) (records : List Record) → HasJudged j first sent replies records
+    → j.work.left ≡ [] → j.unanswered ≡ false → j.work.number ≡ k + 1 → (j.line.halts ≡ false → j.has_line ≡ true → coming_of j.part.latest ≡ [] → MayStop (head_of j.part.latest) → ⊥)
+    → (n : ℕ) (more : List Sent) (told : List Reply) (rest : List Record) (last : Point) → MayFollow j told rest
+    → GoesTo (opening first) [] [] origin (n + j.cuts) (sent ++ more) (replies ++ (left_to_tell j ++ told)) (records ++ kinds.Mark (marks.Cut k) ∷ rest) last → ⊥
+never_cut j k first sent replies records s done answered number not_so n more told rest last may g =
+    let few : j.work.number ≤ k + 1 = omega (arith, number) in
+    let here = s.forth n more told (kinds.Mark (marks.Cut k) ∷ rest) last (record { late = few; resets = may.resets }) g in
+    never_cut_by j k first sent replies records s more rest last here.course done answered number not_so here.follows here.recorded

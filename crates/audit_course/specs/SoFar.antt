@@ -24,7 +24,7 @@ use Rattle.run_texts.specs.Courses.{Passed, Follows, cuts_in}
 use Rattle.run_texts.specs.Left.{behind_lines}
 use Rattle.run_texts.specs.Making.{Making, IsMade}
 use Rattle.run_texts.specs.Parts.{parts_of}
-use Rattle.run_texts.specs.Points.{Point, BecomesAt, opening}
+use Rattle.run_texts.specs.Points.{Point, BecomesAt, IsPassed, IsBroken, opening}
 use Rattle.run_texts.specs.Recorded.{AreRecorded, ticks_for_all}
 use Rattle.run_texts.specs.Sent.{Sent}
 use Rattle.run_texts.specs.Sent.Sent.{a_text, a_stop}
@@ -186,6 +186,11 @@ abbrev pub RefusesRecord : CourseJudge → Record → Type 0
 RefusesRecord j r =
     (first : State) (sent : List Sent) (replies : List Reply) (records : List Record) → HasJudged j first sent replies records → (n : ℕ) (more : List Sent) (told : List Reply) (rest : List Record) (last : Point)
     → MayFollow j told rest → GoesTo (opening first) [] [] origin (n + j.cuts) (sent ++ more) (replies ++ (left_to_tell j ++ told)) (records ++ r ∷ rest) last → ⊥
+
+-- No line may be begun where it stands, answered or not.
+abbrev pub RefusesLine : CourseJudge → Type 0
+RefusesLine j = (first : State) (sent : List Sent) (replies : List Reply) (records : List Record) (s : HasJudged j first sent replies records) (kept : List ℕ) (o : Outcome)
+    → (IsPassed s.point kept o → ⊥) × (IsBroken s.point kept o → ⊥)
 
 -- No texts fit that are what it was told and have the end next.
 abbrev pub RefusesEnd : CourseJudge → Type 0

@@ -6,7 +6,7 @@ ghost use Rattle.step_line.specs.declared.Record.TheVariants as kinds;
 ghost use Rattle.units.specs.Lengths.{IsPlace, IsCoordinate};
 ghost use Rattle.legal_heads.specs.Speeds.{MayStop};
 ghost use Rattle.part_making.specs.Judging.{coming_of, head_of};
-ghost use Rattle.audit_course.specs.SoFar.{AddsRecord, AddsReset, EndsSoFar, RefusesEnd, IsClosed, IsIdle, MayCut, MayReset, MayEnd};
+ghost use Rattle.audit_course.specs.SoFar.{AddsRecord, AddsReset, EndsSoFar, RefusesEnd, RefusesRecord, IsClosed, IsIdle, MayCut, MayReset, MayEnd};
 
 use crate::{CourseJudge, Progress};
 use part_making::PartJudge;
@@ -21,7 +21,8 @@ fn is_coordinate(steps: i64) -> bool
 
 /// Whether a place is one that an axis may have on each axis.
 fn is_place(place: &Steps3) -> bool
-    ensures { IsTrue result → IsPlace place.now }
+    ensures is { IsTrue result → IsPlace place.now }
+    ensures all { IsPlace place.now → IsTrue result }
 {
     is_coordinate(place.x) && is_coordinate(place.y) && is_coordinate(place.z)
 }
@@ -36,22 +37,51 @@ fn locks(alarm: bool, was: bool) -> bool
 impl CourseJudge {
     /// Whether no record was told since the last line was begun, where that is not answered. A cut drops such a line whole.
     fn is_untouched(&self) -> bool
-        ensures { result ≡ true → self.now.unanswered ≡ true → self.now.touched ≡ false }
+        ensures is { result ≡ true → self.now.unanswered ≡ true → self.now.touched ≡ false }
+        ensures answered { self.now.unanswered ≡ false → result ≡ true }
     {
         !self.unanswered || !self.touched
+    }
+
+    /// Whether the machine is in its range, and one more cut can be counted.
+    fn is_in_reach(&self) -> bool
+        ensures place { IsTrue result → IsPlace self.now.place }
+        ensures few { IsTrue result → self.now.cuts + 1 < 2 ^ 32 }
+        ensures no { result ≡ false → IsPlace self.now.place → self.now.cuts + 1 < 2 ^ 32 → ⊥ }
+    {
+        self.cuts < u32::MAX && is_place(&self.place)
+    }
+
+    /// Whether the part has a line, this is its last, and no tick is lost but of jogs.
+    fn ends_jogs(&self, k: u32) -> bool
+        ensures number { IsTrue result → self.now.work.number ≡ k + 1 }
+        ensures has_line { IsTrue result → self.now.has_line ≡ true }
+        ensures jogs { IsTrue result → self.now.jogs ≡ true }
+        ensures no { result ≡ false → self.now.work.number ≡ k + 1 → self.now.has_line ≡ true → self.now.jogs ≡ true → ⊥ }
+    {
+        u64::from(self.work.number()) == u64::from(k) + 1 && self.has_line && self.jogs
+    }
+
+    /// Whether the machine can stop behind the last line, which has raised no alarm; if it is not answered, no record is of it.
+    fn may_rest(&self) -> bool
+        ensures out { IsTrue result → coming_of self.now.part.latest ≡ [] }
+        ensures may { IsTrue result → MayStop (head_of self.now.part.latest) }
+        ensures untouched { IsTrue result → self.now.unanswered ≡ true → self.now.touched ≡ false }
+        ensures calm { IsTrue result → (not self.now.unanswered && self.now.line.halts) ≡ false }
+        ensures no { result ≡ false → self.now.unanswered ≡ false → self.now.line.halts ≡ false → coming_of self.now.part.latest ≡ [] → MayStop (head_of self.now.part.latest) → ⊥ }
+    {
+        self.part.may_stop() && self.is_untouched() && !self.has_alarm()
     }
 
     /// Whether a part may be cut behind this line.
     fn may_cut(&self, k: u32) -> bool
         requires { IsClosed self.now }
-        ensures { IsTrue result → MayCut self.now k }
+        ensures yes { IsTrue result → MayCut self.now k }
+        ensures place { IsTrue result → IsPlace self.now.place }
+        ensures few { IsTrue result → self.now.cuts + 1 < 2 ^ 32 }
+        ensures no { result ≡ false → self.now.unanswered ≡ false → self.now.work.number ≡ k + 1 → self.now.jogs ≡ true → self.now.line.halts ≡ false → self.now.has_line ≡ true → coming_of self.now.part.latest ≡ [] → MayStop (head_of self.now.part.latest) → IsPlace self.now.place → self.now.cuts + 1 < 2 ^ 32 → ⊥ }
     {
-        self.is_untouched()
-            && !self.has_alarm()
-            && self.has_line
-            && u64::from(self.work.number()) == u64::from(k) + 1
-            && self.part.may_stop()
-            && self.jogs
+        self.is_in_reach() && self.ends_jogs(k) && self.may_rest()
     }
 
     /// The part is cut, where the machine is.
@@ -71,15 +101,18 @@ impl CourseJudge {
         self.unsettled = true;
     }
 
-    /// The mark of a cut comes, behind this line: whether it may. The line may stay without its answer.
+    /// The mark of a cut comes, behind this line: whether it may. The line may stay without its answer. If it may not, though that
+    /// is the last line, done and answered, and no tick is lost but of jogs, no texts fit that have this mark next; the machine is
+    /// in its range, and one more cut can be counted.
     pub fn cut(&mut self, k: u32) -> bool
-        ensures { IsTrue result → AddsRecord self.old self.new (kinds.Mark (CutMark k)) }
+        ensures no { result ≡ false → self.old.work.left ≡ [] → self.old.unanswered ≡ false → self.old.work.number ≡ k + 1 → IsPlace self.old.place → self.old.cuts + 1 < 2 ^ 32 → self.new.jogs ≡ true → RefusesRecord self.old (kinds.Mark (CutMark k)) }
+        ensures yes { IsTrue result → AddsRecord self.old self.new (kinds.Mark (CutMark k)) }
     {
         if !self.work.is_done() {
             return false;
         }
         self.close();
-        if self.cuts == u32::MAX || !is_place(&self.place) || !self.may_cut(k) {
+        if !self.may_cut(k) {
             return false;
         }
         self.make_cut(k);

@@ -7,7 +7,7 @@ ghost use Rattle.run_texts.specs.Sent.Sent.{a_text};
 ghost use Rattle.line_interpreter.specs.Desks.{kind_told};
 ghost use Rattle.line_interpreter.specs.Keeping.{IsKept};
 ghost use Rattle.audit_course.specs.Progressing.{moved_now, stays_on, fresh};
-ghost use Rattle.audit_course.specs.SoFar.{StaysSoFar, AddsSent, MayBegin, IsIdle, FindsRight, FindsStill};
+ghost use Rattle.audit_course.specs.SoFar.{StaysSoFar, AddsSent, RefusesLine, MayBegin, IsIdle, FindsRight, FindsStill};
 
 use crate::machines::unlocks;
 use crate::valid::ValidState;
@@ -115,6 +115,9 @@ impl CourseJudge {
         ensures work { self.new.work ≡ self.old.work }
         ensures unanswered { self.new.unanswered ≡ self.old.unanswered }
         ensures part { self.new.part ≡ self.old.part }
+        ensures has_line { self.new.has_line ≡ self.old.has_line }
+        ensures place { self.new.place ≡ self.old.place }
+        ensures cuts { self.new.cuts ≡ self.old.cuts }
         ensures lost { self.new.lost ≡ self.old.lost }
         ensures unsettled { self.new.unsettled ≡ false → IsIdle self.old → ⊥ }
         ensures halts { self.new.line.halts ≡ self.old.line.halts }
@@ -143,6 +146,7 @@ impl CourseJudge {
         ensures answered { IsTrue result → self.now.unanswered ≡ false }
         ensures calm { IsTrue result → self.now.line.halts ≡ false }
         ensures few { IsTrue result → self.now.work.number + 1 < 2 ^ 32 }
+        ensures no { result ≡ false → self.now.work.left ≡ [] → self.now.work.number + 1 < 2 ^ 32 → self.now.unanswered ≡ false → self.now.line.halts ≡ true }
     {
         self.work.is_done() && !self.unanswered && !self.line.halts && self.work.number() < u32::MAX
     }
@@ -164,9 +168,12 @@ impl CourseJudge {
         self.line = Progress::begin(accepted);
     }
 
-    /// A line is begun, of which the console tells this error, if any: whether it may be. Then it is the line at hand.
+    /// A line is begun, of which the console tells this error, if any: whether it may be. Then it is the line at hand. If it may
+    /// not, though the last line is done and one more can be counted, no line may be begun here.
+    #[tactic(auto, using(crate::proofs::Refused::none_begins))]
     pub fn begin(&mut self, line: &KeptLine, error: MotionError) -> bool
-        ensures { IsTrue result → (kept : List ℕ) → IsKept line.now kept → AddsSent self.old self.new (a_text kept ∷ []) }
+        ensures no { result ≡ false → self.old.work.left ≡ [] → self.old.work.number + 1 < 2 ^ 32 → RefusesLine self.old }
+        ensures yes { IsTrue result → (kept : List ℕ) → IsKept line.now kept → AddsSent self.old self.new (a_text kept ∷ []) }
     {
         if !self.may_begin() {
             return false;
@@ -193,9 +200,12 @@ impl CourseJudge {
     }
 
     /// A line is begun that a reset keeps from its answer: whether it may be. Then it is the line at hand, and the next
-    /// that may come is a reset, or a cut that drops it whole.
+    /// that may come is a reset, or a cut that drops it whole. If it may not, though the last line is done and one more can be
+    /// counted, no line may be begun here.
+    #[tactic(auto, using(crate::proofs::Refused::none_begins))]
     pub fn begin_unanswered(&mut self, line: &KeptLine) -> bool
-        ensures { IsTrue result → (kept : List ℕ) → IsKept line.now kept → AddsSent self.old self.new (a_text kept ∷ []) }
+        ensures no { result ≡ false → self.old.work.left ≡ [] → self.old.work.number + 1 < 2 ^ 32 → RefusesLine self.old }
+        ensures yes { IsTrue result → (kept : List ℕ) → IsKept line.now kept → AddsSent self.old self.new (a_text kept ∷ []) }
     {
         if !self.may_begin() {
             return false;

@@ -7,7 +7,7 @@ returns-then-begin-clause-goes_on c = λ job console steps.
     let a = c.args.self.now in
     let kept = a.sending.reader.line.kept in
     line_told a _ kept job console steps (λ t told h. h) (λ t told h. h) (λ t told h. c.take_line.ensures.told c.requires.line.0 c.requires.line.1 job t told h)
-    (λ none. (none, c.begin.ensures c.if-begin.true kept c.kept-line.ensures))
+    (λ none. (none, c.begin.ensures.yes c.if-begin.true kept c.kept-line.ensures))
 
 pub returns-clause-goes_on : goal.returns-clause-goes_on
 returns-clause-goes_on c = λ job console steps.

@@ -9,7 +9,7 @@ pub returns-then-cut-clause-so_far : goal.returns-then-cut-clause-so_far
 returns-then-cut-clause-so_far c = λ job console steps.
     let a = c.args.self.now in
     let b : Auditor = record a { course = c.cut.new.self; recorded = c.take.new.self } in
-    record_told a b (kinds.Mark (CutMark c.args.k)) job console steps (λ t told h. h) (λ t told h. h) (λ t told h. c.take.ensures.told (kinds.Mark (CutMark c.args.k)) c.requires.next steps t told h) refl (c.cut.ensures c.if-cut.true)
+    record_told a b (kinds.Mark (CutMark c.args.k)) job console steps (λ t told h. h) (λ t told h. h) (λ t told h. c.take.ensures.told (kinds.Mark (CutMark c.args.k)) c.requires.next steps t told h) refl (c.cut.ensures.yes c.if-cut.true)
 
 pub returns-clause-so_far : goal.returns-clause-so_far
 returns-clause-so_far c = λ job console steps.
