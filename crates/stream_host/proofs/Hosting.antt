@@ -1,5 +1,5 @@
 -- What one step of a host makes of what it keeps.
-use Rattle.std.proofs.Common.{◌≡◌, ◌↔◌, ℕ, not, ◌&&◌, ◌||◌, ◌+◌, ◌-◌, ◌^◌, ◌≤◌, ◌<◌, ◌⊎◌, inl, inr, Bool, true, false, cond, List, [], ◌∷◌, ◌++◌, length, map, take, drop, nat_eq, nat_lt, nat_le, sum, option_to_list, Some, None, refl, sym, ap, ◌∙◌, arith, subst, length-append}
+use Rattle.std.proofs.Common.{◌≡◌, ◌↔◌, ℕ, not, ◌&&◌, ◌+◌, ◌-◌, ◌^◌, ◌≤◌, ◌<◌, ◌⊎◌, inl, inr, Bool, true, false, cond, List, [], ◌∷◌, ◌++◌, length, map, take, drop, nat_eq, nat_lt, nat_le, sum, option_to_list, Some, None, refl, sym, ap, ◌∙◌, arith, subst, length-append}
 use Rattle.std.proofs.lemmas.Bool.Decides.{nat_tests}
 use Rattle.std.proofs.lemmas.List.{map-append, drop-append-le, length-drop, length-take}
 use Rattle.std.proofs.lemmas.List.Sums.{sum_by-cons}
@@ -11,8 +11,8 @@ use Rattle.stream_host.specs.declared.reader.Reader.{Reader}
 use Rattle.stream_host.specs.declared.host.Host.{Host}
 use Rattle.stream_host.specs.Links.{on_link}
 use Rattle.stream_host.specs.Jobs.{resume, is_reset, is_long, sent_text, ends_sending, MayHaveRead}
-use Rattle.stream_host.specs.Holding.{held_after, has_pause, pauses}
-use Rattle.stream_host.specs.Steps.{Journal, port_log, got_of, has_limit, answered_of, read_of, reading_of, scanned_of, unscanned_of, raw_of, cut_of, live_of, over_of, marks_of, resets_of, banners_of, awaits_banner, to_store, begun_of, due_of, asking_of, pause_of, asked_more, more_served, HostLog, is_attended, is_shut, polls_of, empty_polls, long_polls, resumes_behind, resumes_next}
+use Rattle.stream_host.specs.Holding.{held_after, has_pause, pauses, resumed_after}
+use Rattle.stream_host.specs.Steps.{Journal, port_log, got_of, has_limit, answered_of, read_of, reading_of, scanned_of, unscanned_of, raw_of, cut_of, live_of, over_of, marks_of, resets_of, banners_of, awaits_banner, to_store, begun_of, due_of, asking_of, holds_of, pause_of, resumed_at, asked_more, more_served, HostLog, is_attended, is_shut, polls_of, empty_polls, long_polls, resumes_behind, resumes_next}
 use Rattle.stream_host.specs.Steps.PortStep.{marked, raised, no_reply, shut}
 use Rattle.stream_host.specs.Steps.Step.{at_port, scanned}
 use Rattle.code_table.specs.Tables.{query}
@@ -141,6 +141,11 @@ has_room {room} s h f free =
     let lines = f.counts_are.lines_are in
     let all = f.all_are in let every = all_lines room h f.conducted in
     record { few = omega arith; small = omega arith; summed = f.counts_are.summed; lines = omega arith; all = omega arith }
+
+pub few_live : {room : ℕ} (s : Host) (h : Journal) → HostFits room s h → s.counts.lines + 1 < 2 ^ 32
+few_live {room} s h f =
+    let most = (sending.counts_are room h f.conducted).2 in let lines = f.counts_are.lines_are in
+    let every = all_lines room h f.conducted in let all = f.all_are in omega arith
 
 -- ---- a byte is raised
 
@@ -286,8 +291,17 @@ marked_next {room} s h f may = record {
     one_more : true ≡ nat_lt (resets_of h) (length (marks_of (at_port marked ∷ h)))
     one_more = let e = may.fresh in let l : length (marks_of (at_port marked ∷ h)) ≡ length (marks_of h) + 1 = omega arith in grind (arith, nat_tests)
 
-pub raised_byte : {room : ℕ} (s : Host) (b : ℕ) (down : Bool) (a : Asking) (held again : Bool) (n : ℕ) (h : Journal) → HostFits room s h → s.alarm ≡ false → s.line.due ≡ Some b → (is_attended h ≡ false → waits_for_lines b ≡ true → AreAnswered h) → a ≡ cond (nat_eq b query) (asked_more s.asking) s.asking → held ≡ held_after b s.held → again ≡ (nat_eq b resume || s.resumed) → n ≡ cond (nat_eq b resume) 0 s.counts.pause_at → (is_reset b ≡ true → s.resets.marked ≡ true)
-    → HostFits room (record s { line = record s.line { due = None }; resets = record s.resets { raised = cond (is_reset b) (s.resets.raised + 1) s.resets.raised; marked = cond (is_reset b) false s.resets.marked }; asking = a; held = held; resumed = again; counts = record s.counts { pause_at = n } }) (at_port (raised b down) ∷ h)
+-- the line whose answer shows that a hold is over is known by what the host keeps
+resumed_by : {room : ℕ} (s : Host) (b : ℕ) (h : Journal) → HostFits room s h
+    → resumed_after b s.held s.counts.lines s.counts.pause_at s.resumed_at ≡ resumed_after b (holds_of h) (length (live_of h)) (pause_of h) (resumed_at h)
+resumed_by {room} s b h f =
+    ap (λ x. resumed_after b x s.counts.lines s.counts.pause_at s.resumed_at) f.held_is
+    ∙ ap (λ n. resumed_after b (holds_of h) n s.counts.pause_at s.resumed_at) f.counts_are.lines_are
+    ∙ ap (λ n. resumed_after b (holds_of h) (length (live_of h)) n s.resumed_at) f.pause_is
+    ∙ ap (resumed_after b (holds_of h) (length (live_of h)) (pause_of h)) f.resumed_is
+
+pub raised_byte : {room : ℕ} (s : Host) (b : ℕ) (down : Bool) (a : Asking) (held : Bool) (again n : ℕ) (h : Journal) → HostFits room s h → s.alarm ≡ false → s.line.due ≡ Some b → (is_attended h ≡ false → waits_for_lines b ≡ true → AreAnswered h) → a ≡ cond (nat_eq b query) (asked_more s.asking) s.asking → held ≡ held_after b s.held → again ≡ resumed_after b s.held s.counts.lines s.counts.pause_at s.resumed_at → n ≡ cond (nat_eq b resume) 0 s.counts.pause_at → (is_reset b ≡ true → s.resets.marked ≡ true)
+    → HostFits room (record s { line = record s.line { due = None }; resets = record s.resets { raised = cond (is_reset b) (s.resets.raised + 1) s.resets.raised; marked = cond (is_reset b) false s.resets.marked }; asking = a; held = held; resumed_at = again; counts = record s.counts { pause_at = n } }) (at_port (raised b down) ∷ h)
 raised_byte {room} s b down a held again n h f calm is after asks hold more pause mark =
     let next = due_next s b h f is in
     let going = f.polls_are.rested in
@@ -305,7 +319,7 @@ raised_byte {room} s b down a held again n h f calm is after asks hold more paus
       resets_are = raised_resets s.resets (is_reset b) (resets_of h) (banners_of h) (length (marks_of h)) f.resets_are (λ reset. (marks_between room h f.conducted).1);
       polls_are = subst (λ t. KeepsPolls s.polls (cond t 0 (polls_of h)) (resumes_behind (is_attended h) (is_shut h) (cond t 0 (polls_of h)))) (sym going) f.polls_are;
       held_is = hold ∙ ap (held_after b) f.held_is;
-      resumed_is = more ∙ ap (λ m. nat_eq b resume || m) f.resumed_is;
+      resumed_is = more ∙ resumed_by s b h f;
       greeted_is = f.greeted_is;
       alarm_is = f.alarm_is;
       pause_is = pause ∙ ap (λ m. cond (nat_eq b resume) 0 m) f.pause_is;
@@ -316,9 +330,9 @@ raised_byte {room} s b down a held again n h f calm is after asks hold more paus
     }
 
 -- the machine is resumed
-pub resumed : {room : ℕ} (s : Host) (down : Bool) (h : Journal) → HostFits room s h → s.bye ≡ false → cond (nat_lt s.polls long_polls) (s.polls + 1) s.polls ≡ empty_polls → (s.attended && not s.shut) ≡ false
-    → HostFits room (record s { polls = 0; held = false; resumed = true; counts = record s.counts { pause_at = 0 } }) (at_port (raised resume down) ∷ at_port no_reply ∷ h)
-resumed {room} s down h f going full alone =
+pub resumed : {room : ℕ} (s : Host) (down : Bool) (again : ℕ) (h : Journal) → HostFits room s h → s.bye ≡ false → cond (nat_lt s.polls long_polls) (s.polls + 1) s.polls ≡ empty_polls → (s.attended && not s.shut) ≡ false → again ≡ resumed_after resume s.held s.counts.lines s.counts.pause_at s.resumed_at
+    → HostFits room (record s { polls = 0; held = false; resumed_at = again; counts = record s.counts { pause_at = 0 } }) (at_port (raised resume down) ∷ at_port no_reply ∷ h)
+resumed {room} s down again h f going full alone more =
     let all = counted_all s.polls (polls_of h) f.polls_are.polls_are full in
     let by = ap (λ a. a && not (is_shut h)) (sym f.attended_is) ∙ ap (λ c. s.attended && not c) (sym f.shut_is) ∙ alone in
     let tired = tired_now (is_attended h) (is_shut h) (polls_of h + 1) by all in
@@ -339,7 +353,7 @@ resumed {room} s down h f going full alone =
       resets_are = f.resets_are;
       polls_are = subst (λ t. KeepsPolls 0 (cond t 0 (polls_of h + 1)) (resumes_behind (is_attended h) (is_shut h) (cond t 0 (polls_of h + 1)))) (sym tired) (record { polls_are = refl; rested = fresh_polls (is_attended h) (is_shut h) });
       held_is = refl;
-      resumed_is = refl;
+      resumed_is = more ∙ resumed_by s resume h f;
       greeted_is = f.greeted_is;
       alarm_is = f.alarm_is;
       pause_is = refl;

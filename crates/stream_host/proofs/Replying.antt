@@ -7,7 +7,7 @@ use Rattle.std.proofs.lemmas.List.Sums.{sum_by-append}
 use Rattle.stream_host.specs.declared.host.Host.{Host}
 use Rattle.stream_host.specs.declared.line.Asking.{Asking}
 use Rattle.run_rules.specs.Work.{is_limit}
-use Rattle.stream_host.specs.Steps.{Journal, port_log, got_of, latest_got, begins, answered_of, has_bye, cut_of, live_of, holds_of, pause_of, resets_of, banners_of, marks_of, got_one, text_of, is_attended, has_resumed, is_shut}
+use Rattle.stream_host.specs.Steps.{Journal, port_log, got_of, latest_got, begins, answered_of, has_bye, cut_of, live_of, holds_of, pause_of, resets_of, banners_of, marks_of, got_one, text_of, is_attended, resumed_at, is_shut}
 use Rattle.stream_host.specs.Steps.PortStep.{got}
 use Rattle.stream_host.specs.Steps.Step.{at_port}
 use Rattle.stream_host.specs.Hosts.{HostFits, KeepsCounts, KeepsResets, KeepsText, line_length, lengths, IsSummed, begins_by, with_banner}
@@ -139,17 +139,17 @@ some_got rs r = let l = length-append rs (r ∷ []) in grind (arith, nat_tests, 
 pub record TurnsEpoch (s t : Host) (r : Reply) : Type 0 where
   pub resets : t.resets ≡ with_banner s.resets r
   pub begun : begins_by s.resets r ≡ true → (lengths t.counts.unanswered ≡ []) × IsSummed t.counts.unanswered
-      × (t ≡ record s { resets = t.resets; held = false; resumed = false; counts = record s.counts { unanswered = t.counts.unanswered; lines = s.counts.answered; pause_at = 0 } })
+      × (t ≡ record s { resets = t.resets; held = false; resumed_at = 0; counts = record s.counts { unanswered = t.counts.unanswered; lines = s.counts.answered; pause_at = 0 } })
   pub none : begins_by s.resets r ≡ false → t ≡ record s { resets = t.resets }
 
 -- what the host keeps then
 pub record IsTurned (s t : Host) (r : Reply) (h : Journal) : Type 0 where
-  pub same : t ≡ record s { counts = t.counts; held = t.held; resumed = t.resumed; resets = t.resets }
+  pub same : t ≡ record s { counts = t.counts; held = t.held; resumed_at = t.resumed_at; resets = t.resets }
   pub counts : KeepsCounts t.counts (live_of (at_port (got r) ∷ h)) (got_of h ++ r ∷ [])
   pub all : t.counts.all ≡ length (cut_of h)
   pub pause : t.counts.pause_at ≡ pause_of (at_port (got r) ∷ h)
   pub held : t.held ≡ holds_of (at_port (got r) ∷ h)
-  pub resumed : t.resumed ≡ has_resumed (at_port (got r) ∷ h)
+  pub resumed : t.resumed_at ≡ resumed_at (at_port (got r) ∷ h)
   pub resets : KeepsResets t.resets (resets_of h) (banners_of (at_port (got r) ∷ h)) (length (marks_of h))
 
 begins_same : {room : ℕ} (s : Host) (r : Reply) (h : Journal) → HostFits room s h → begins_by s.resets r ≡ begins r (port_log h)
@@ -181,8 +181,8 @@ counts_begun {room} c d r h s f is k none summed lines answered errors =
       errors_are = errors ∙ k.errors_are;
     }
 
-abbrev turn : Resets → (held resumed : Bool) → Counts → Host → Host
-turn k held again c s = record s { resets = k; held = held; resumed = again; counts = c }
+abbrev turn : Resets → (held : Bool) → (again : ℕ) → Counts → Host → Host
+turn k held again c s = record s { resets = k; held = held; resumed_at = again; counts = c }
 
 abbrev turn_resets : Resets → Host → Host
 turn_resets k s = record s { resets = k }
@@ -203,19 +203,19 @@ turned_epoch {room} s u t r h f was counts pause all turns = by_begins (begins r
     by_begins : (b : Bool) → begins r (port_log h) ≡ b → IsTurned s t r h
     by_begins true is =
         let e = turns.begun (ap (λ k. begins_by k r) resets ∙ begins_same s r h f ∙ is) in
-        let on : t ≡ record s { resets = t.resets; held = false; resumed = false; counts = record u.counts { unanswered = t.counts.unanswered; lines = u.counts.answered; pause_at = 0 } } =
-        e.2 ∙ ap (turn t.resets false false (record u.counts { unanswered = t.counts.unanswered; lines = u.counts.answered; pause_at = 0 })) was in
+        let on : t ≡ record s { resets = t.resets; held = false; resumed_at = 0; counts = record u.counts { unanswered = t.counts.unanswered; lines = u.counts.answered; pause_at = 0 } } =
+        e.2 ∙ ap (turn t.resets false 0 (record u.counts { unanswered = t.counts.unanswered; lines = u.counts.answered; pause_at = 0 })) was in
         record {
           same =
-              on ∙ ap (λ q. turn t.resets q false (record u.counts { unanswered = t.counts.unanswered; lines = u.counts.answered; pause_at = 0 }) s) (sym (ap (λ x. x.held) on))
-              ∙ ap (λ q. turn t.resets t.held q (record u.counts { unanswered = t.counts.unanswered; lines = u.counts.answered; pause_at = 0 }) s) (sym (ap (λ x. x.resumed) on))
-              ∙ ap (λ p. turn t.resets t.held t.resumed p s) (sym (ap (λ x. x.counts) on));
+              on ∙ ap (λ q. turn t.resets q 0 (record u.counts { unanswered = t.counts.unanswered; lines = u.counts.answered; pause_at = 0 }) s) (sym (ap (λ x. x.held) on))
+              ∙ ap (λ q. turn t.resets t.held q (record u.counts { unanswered = t.counts.unanswered; lines = u.counts.answered; pause_at = 0 }) s) (sym (ap (λ x. x.resumed_at) on))
+              ∙ ap (λ p. turn t.resets t.held t.resumed_at p s) (sym (ap (λ x. x.counts) on));
           counts = subst (λ b. KeepsCounts t.counts (cond b (take (answered_of h) (live_of h)) (live_of h)) (got_of h ++ r ∷ [])) (sym is)
               (counts_begun u.counts t.counts r h s f is counts e.0 e.1 (ap (λ x. x.counts.lines) on) (ap (λ x. x.counts.answered) on) (ap (λ x. x.counts.errors) on));
           all = ap (λ x. x.counts.all) on ∙ all ∙ f.all_are;
           pause = ap (λ x. x.counts.pause_at) on ∙ ap (λ b. cond b 0 (pause_of h)) (sym is);
           held = ap (λ x. x.held) on ∙ ap (λ b. cond b false (holds_of h)) (sym is);
-          resumed = ap (λ x. x.resumed) on ∙ ap (λ b. cond b false (has_resumed h)) (sym is);
+          resumed = ap (λ x. x.resumed_at) on ∙ ap (λ b. cond b 0 (resumed_at h)) (sym is);
           resets = told;
         }
     by_begins false is =
@@ -223,20 +223,20 @@ turned_epoch {room} s u t r h f was counts pause all turns = by_begins (begins r
         let on : t ≡ record s { resets = t.resets; counts = u.counts } = e ∙ ap (turn_resets t.resets) was in
         record {
           same =
-              on ∙ ap (λ q. turn t.resets q s.resumed u.counts s) (sym (ap (λ x. x.held) on))
-              ∙ ap (λ q. turn t.resets t.held q u.counts s) (sym (ap (λ x. x.resumed) on))
-              ∙ ap (λ p. turn t.resets t.held t.resumed p s) (sym (ap (λ x. x.counts) on));
+              on ∙ ap (λ q. turn t.resets q s.resumed_at u.counts s) (sym (ap (λ x. x.held) on))
+              ∙ ap (λ q. turn t.resets t.held q u.counts s) (sym (ap (λ x. x.resumed_at) on))
+              ∙ ap (λ p. turn t.resets t.held t.resumed_at p s) (sym (ap (λ x. x.counts) on));
           counts = subst (λ b. KeepsCounts t.counts (cond b (take (answered_of h) (live_of h)) (live_of h)) (got_of h ++ r ∷ [])) (sym is)
               (subst (λ c. KeepsCounts c (live_of h) (got_of h ++ r ∷ [])) (sym (ap (λ x. x.counts) on)) counts);
           all = ap (λ x. x.counts.all) on ∙ all ∙ f.all_are;
           pause = ap (λ x. x.counts.pause_at) on ∙ pause ∙ f.pause_is ∙ ap (λ b. cond b 0 (pause_of h)) (sym is);
           held = ap (λ x. x.held) on ∙ f.held_is ∙ ap (λ b. cond b false (holds_of h)) (sym is);
-          resumed = ap (λ x. x.resumed) on ∙ f.resumed_is ∙ ap (λ b. cond b false (has_resumed h)) (sym is);
+          resumed = ap (λ x. x.resumed_at) on ∙ f.resumed_is ∙ ap (λ b. cond b 0 (resumed_at h)) (sym is);
           resets = told;
         }
 
 pub got_reply : {room : ℕ} (s t : Host) (w : Writing) (a : Asking) (bye alarm : Bool) (r : Reply) (h : Journal) → HostFits room s h → s.bye ≡ false → AnswersLines (got r ∷ port_log h) → IsTurned s t r h → w ≡ shown s.text r → bye ≡ (s.bye || is_bye r) → alarm ≡ (s.alarm || is_limit r)
-    → a ≡ cond (is_report r) (got_one s.asking) s.asking → HostFits room (record s { counts = t.counts; held = t.held; resumed = t.resumed; resets = t.resets; text = w; asking = a; polls = 0; bye = bye; greeted = true; alarm = alarm }) (at_port (got r) ∷ h)
+    → a ≡ cond (is_report r) (got_one s.asking) s.asking → HostFits room (record s { counts = t.counts; held = t.held; resumed_at = t.resumed_at; resets = t.resets; text = w; asking = a; polls = 0; bye = bye; greeted = true; alarm = alarm }) (at_port (got r) ∷ h)
 got_reply {room} s t w a bye alarm r h f going lines turned text is alarms asks = record {
   sized = f.sized;
   room_is = f.room_is;

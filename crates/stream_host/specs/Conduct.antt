@@ -12,7 +12,7 @@ use Rattle.stream_host.specs.declared.Reading.TheVariants.{Ended, Failed, Large,
 use Rattle.stream_host.specs.Links.{on_link}
 use Rattle.stream_host.specs.Jobs.{resume, cancel, is_reset, ends_sending}
 use Rattle.stream_host.specs.Ports.{AnswersLines}
-use Rattle.stream_host.specs.Steps.{PortStep, Step, Journal, port_log, has_limit, is_shut, has_bye, is_greeted, answered_of, marks_of, resets_of, awaits_banner, reading_of, scanned_of, unscanned_of, raw_of, live_of, unanswered_of, begun_of, to_store, due_of, awaits_report, awaits_any_report, is_attended, polls_of, held_polls, long_polls, resumes_next, holds_of, has_resumed, pause_of, text_of, written_of, has_given_up, this_turn}
+use Rattle.stream_host.specs.Steps.{PortStep, Step, Journal, port_log, has_limit, is_shut, has_bye, is_greeted, answered_of, marks_of, resets_of, awaits_banner, reading_of, scanned_of, unscanned_of, raw_of, live_of, unanswered_of, begun_of, to_store, due_of, awaits_report, awaits_any_report, is_attended, polls_of, held_polls, long_polls, resumes_next, holds_of, pause_of, resumed_at, text_of, written_of, has_given_up, this_turn}
 use Rattle.stream_host.specs.Steps.PortStep.{stored, dropped, marked, raised, got, no_reply, shut}
 use Rattle.stream_host.specs.Steps.Step.{at_port, read_some, read_end, read_failed, scanned, line_over, wrote, gave_up, turned, attends}
 
@@ -43,11 +43,15 @@ pub record SeemsHeld (h : Journal) : Type 0 where
   pub held : may_be_held h ≡ true
   pub polls : held_polls ≤ polls_of h
 
+-- A `~` may have come too early: no answer has shown yet that the hold which it was to end is over.
+abbrev pub may_be_still : Journal → Bool
+may_be_still h = nat_lt (answered_of h) (resumed_at h)
+
 -- In an attended run the machine may be held though that is not seen: a `~` was raised that may have come too early, and so many polls
 -- in a row have found no reply, more than before.
 pub record SeemsStill (h : Journal) : Type 0 where
   pub attended : is_attended h ≡ true
-  pub resumed : has_resumed h ≡ true
+  pub still : may_be_still h ≡ true
   pub polls : long_polls ≤ polls_of h
 
 -- the banner was got, or the board says nothing: so many polls in a row have found no reply

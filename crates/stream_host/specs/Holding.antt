@@ -1,5 +1,5 @@
 -- When a machine may be held, so that a line has no answer before the machine is resumed.
-use Rattle.std.specs.Prelude.{ℕ, Bool, true, false, cond, ◌&&◌, ◌||◌, List, [], ◌∷◌, nat_eq, nat_abs, Ok, Err}
+use Rattle.std.specs.Prelude.{ℕ, ◌+◌, Bool, true, false, cond, ◌&&◌, ◌||◌, List, [], ◌∷◌, nat_eq, nat_abs, Ok, Err}
 use Rattle.std.specs.declared.result.Result.{Result}
 use Rattle.units.specs.Reading.{decimal_from}
 use Rattle.units.specs.declared.Decimal.{Decimal}
@@ -15,6 +15,13 @@ hold = 0x21
 -- nothing
 abbrev pub held_after : ℕ → Bool → Bool
 held_after b held = cond (nat_eq b hold) true (cond (nat_eq b resume) false held)
+
+-- The number of the line whose answer shows that each hold is over which a `~` was to end, behind a realtime byte: by whether the
+-- machine may be held by a `!` before it, how many lines were scanned whole, the last line among them that asks for a pause, and that number
+-- before. Each `!` and `~` is taken before the first line is begun that is stored behind them, and a machine that is held
+-- begins none; the line of a pause has its answer once that is over.
+abbrev pub resumed_after : (b : ℕ) → (held : Bool) → (lines pause before : ℕ) → ℕ
+resumed_after b held lines pause before = cond (nat_eq b resume) (cond held (lines + 1) (cond (nat_eq pause 0) before pause)) before
 
 -- what was read is the number 0
 abbrev pub is_zero : Result (Decimal × ℕ) NumFault → Bool

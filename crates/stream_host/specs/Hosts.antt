@@ -23,7 +23,7 @@ use Rattle.run_rules.specs.Told.{errors_among}
 use Rattle.status_report.specs.Answering.{answers_in, is_banner, is_bye}
 use Rattle.std.specs.declared.option.Option.{Option}
 use Rattle.stream_host.specs.Jobs.{is_long, sent_text}
-use Rattle.stream_host.specs.Steps.{Step, Journal, port_log, got_of, has_limit, is_shut, has_bye, read_of, reading_of, scanned_of, unscanned_of, raw_of, cut_of, live_of, banners_of, resets_of, marks_of, to_store, due_of, asking_of, is_attended, polls_of, long_polls, resumes_next, holds_of, has_resumed, pause_of, is_greeted, text_of, written_of, has_given_up, this_turn}
+use Rattle.stream_host.specs.Steps.{Step, Journal, port_log, got_of, has_limit, is_shut, has_bye, read_of, reading_of, scanned_of, unscanned_of, raw_of, cut_of, live_of, banners_of, resets_of, marks_of, to_store, due_of, asking_of, is_attended, polls_of, long_polls, resumes_next, holds_of, pause_of, resumed_at, is_greeted, text_of, written_of, has_given_up, this_turn}
 use Rattle.stream_host.specs.Steps.Step.{turned, attends}
 use Rattle.serial_ring.specs.Lists.{IsRoom}
 use Rattle.stream_host.specs.Conduct.{Conducted, MayTurn, publishing, polling, moving, found_none}
@@ -167,7 +167,7 @@ pub record HostFits (room : ℕ) (host : Host) (h : Journal) : Type 0 where
   pub resets_are : KeepsResets host.resets (resets_of h) (banners_of h) (length (marks_of h))
   pub polls_are : KeepsPolls host.polls (polls_of h) (resumes_next h)
   pub held_is : host.held ≡ holds_of h
-  pub resumed_is : host.resumed ≡ has_resumed h
+  pub resumed_is : host.resumed_at ≡ resumed_at h
   pub pause_is : host.counts.pause_at ≡ pause_of h
   pub greeted_is : host.greeted ≡ is_greeted h
   pub alarm_is : host.alarm ≡ has_limit h

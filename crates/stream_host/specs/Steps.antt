@@ -17,7 +17,7 @@ use Rattle.code_table.specs.Tables.{query}
 use Rattle.status_report.specs.Answering.{answers_in, is_banner, is_bye, is_report}
 use Rattle.stream_host.specs.Jobs.{resume, is_reset, lacks_banner, is_long, sent_text, served}
 use Rattle.stream_host.specs.Links.{banners_in}
-use Rattle.stream_host.specs.Holding.{held_after, pauses}
+use Rattle.stream_host.specs.Holding.{held_after, pauses, resumed_after}
 
 -- what a host does at its port
 pub data PortStep : Type 0 where
@@ -231,13 +231,6 @@ holds_in (raised b down ∷ h) = held_after b (holds_in h)
 holds_in (got r ∷ h) = cond (begins r h) false (holds_in h)
 holds_in (_ ∷ h) = holds_in h
 
--- a `~` was raised, and no epoch began since
-abbrev pub resumed_in : HostLog → Bool
-resumed_in [] = false
-resumed_in (raised b down ∷ h) = nat_eq b resume || resumed_in h
-resumed_in (got r ∷ h) = cond (begins r h) false (resumed_in h)
-resumed_in (_ ∷ h) = resumed_in h
-
 -- all polls that found no reply
 abbrev pub all_empty_in : HostLog → ℕ
 all_empty_in [] = 0
@@ -246,9 +239,6 @@ all_empty_in (_ ∷ h) = all_empty_in h
 
 abbrev pub holds_of : Journal → Bool
 holds_of h = holds_in (port_log h)
-
-abbrev pub has_resumed : Journal → Bool
-has_resumed h = resumed_in (port_log h)
 
 abbrev pub raises_of : Journal → List ℕ
 raises_of h = bytes_raised_in (port_log h)
@@ -346,6 +336,14 @@ pause_of (at_port (got r) ∷ h) = cond (begins r (port_log h)) 0 (pause_of h)
 pause_of (scanned b ∷ h) = cond (nat_eq b 10) (cond (pauses (raw_of h)) (length (live_of h) + 1) (pause_of h)) (pause_of h)
 pause_of (line_over ∷ h) = cond (pauses (raw_of h)) (length (live_of h) + 1) (pause_of h)
 pause_of (_ ∷ h) = pause_of h
+
+-- The number of the line whose answer shows that each hold is over which a `~` of this epoch was to end, among the lines that are not
+-- forgotten; 0 where no `~` was to end one.
+abbrev pub resumed_at : Journal → ℕ
+resumed_at [] = 0
+resumed_at (at_port (raised b down) ∷ h) = resumed_after b (holds_of h) (length (live_of h)) (pause_of h) (resumed_at h)
+resumed_at (at_port (got r) ∷ h) = cond (begins r (port_log h)) 0 (resumed_at h)
+resumed_at (_ ∷ h) = resumed_at h
 
 -- ---- realtime bytes
 

@@ -23,7 +23,7 @@ use crate::pause::has_pause;
 use crate::polls::polls_behind_end;
 use crate::ports::HostPort;
 use crate::reader::{Gave, LARGEST_JOB, Reader};
-use crate::realtime::{is_held_after, is_resumed_after, pause_after, waits_for_lines};
+use crate::realtime::{is_held_after, pause_after, resumed_after, waits_for_lines};
 use crate::resets::Resets;
 use crate::shown::put_text;
 use outside::{On, Sink, Source, Turn};
@@ -50,8 +50,8 @@ pub struct Host {
     pub(crate) resets: Resets,
     /// A `!` was raised, and no `~` since, nor did an epoch begin.
     pub(crate) held: bool,
-    /// A `~` was raised, and no epoch began since.
-    pub(crate) resumed: bool,
+    /// The number of the line whose answer shows that each hold is over which a `~` of this epoch was to end, or 0.
+    pub(crate) resumed_at: u32,
     pub(crate) greeted: bool,
     /// An alarm was got that ends the run.
     pub(crate) alarm: bool,
@@ -78,7 +78,7 @@ impl Host {
             polls: 0,
             resets: Resets::new(),
             held: false,
-            resumed: false,
+            resumed_at: 0,
             greeted: false,
             alarm: false,
             shut: false,
@@ -131,14 +131,14 @@ impl Host {
         requires few { self.old.resets.banners + 1 < 2 ^ 32 }
         ensures resets { self.new.resets ≡ with_banner self.old.resets reply.now }
         ensures begun { begins_by self.old.resets reply.now ≡ true → (lengths self.new.counts.unanswered ≡ []) × IsSummed self.new.counts.unanswered
-            × (self.new ≡ record self.old { resets = self.new.resets; held = false; resumed = false; counts = record self.old.counts { unanswered = self.new.counts.unanswered; lines = self.old.counts.answered; pause_at = 0 } }) }
+            × (self.new ≡ record self.old { resets = self.new.resets; held = false; resumed_at = 0; counts = record self.old.counts { unanswered = self.new.counts.unanswered; lines = self.old.counts.answered; pause_at = 0 } }) }
         ensures none { begins_by self.old.resets reply.now ≡ false → self.new ≡ record self.old { resets = self.new.resets } }
         ensures text { self.new.text ≡ self.old.text }
     {
         if self.resets.told(reply) {
             self.counts.forget();
             self.held = false;
-            self.resumed = false;
+            self.resumed_at = 0;
         }
     }
 
@@ -281,8 +281,14 @@ impl Host {
         self.line.due = None;
         self.resets.raise(byte);
         self.asking = self.asking.raised(byte);
+        self.resumed_at = resumed_after(
+            byte,
+            self.held,
+            self.counts.lines,
+            self.counts.pause_at,
+            self.resumed_at,
+        );
         self.held = is_held_after(byte, self.held);
-        self.resumed = is_resumed_after(byte, self.resumed);
         self.counts.pause_at = pause_after(byte, self.counts.pause_at);
     }
 
@@ -499,8 +505,9 @@ impl Host {
     /// only once each line that was sent has its answer and no report is awaited. Without a hold the board answers each
     /// whole line sooner or later, so the host goes on. A machine that is held may answer nothing before it is resumed, and
     /// the resume may be what is to be read next: where the machine may be held, the job is read on once 2,048 polls in a
-    /// row have found no reply. In an attended run a `~` may have come too early, and the host ends no hold: so there, behind a
-    /// `~`, 32,768 such polls are enough too. At the end of the job nothing is awaited before the link is closed.
+    /// row have found no reply. In an attended run a `~` may have come too early, and the host ends no hold: so there 32,768 such
+    /// polls are enough behind a `~`, until an answer shows that the hold is over which it was to end. At the end of the job
+    /// nothing is awaited before the link is closed.
     ///
     /// The rules of the host are those of its journal: whatever it has done before, it goes on as they allow.
     pub fn turn<P: HostPort, So: Source, Co: Sink>(

@@ -5,11 +5,12 @@ ghost use Rattle.stream_host.specs.Steps.{Journal, port_log, long_polls};
 ghost use Rattle.stream_host.specs.Steps.PortStep.{raised, no_reply};
 ghost use Rattle.stream_host.specs.Steps.Step.{at_port};
 ghost use Rattle.stream_host.specs.Jobs.{resume};
-ghost use Rattle.stream_host.specs.Conduct.{may_be_held, SeemsHeld, SeemsStill, IsGreeted, IsSettled};
+ghost use Rattle.stream_host.specs.Conduct.{may_be_held, may_be_still, SeemsHeld, SeemsStill, IsGreeted, IsSettled};
 ghost use Rattle.stream_host.specs.Hosts.{HostFits};
 
 use crate::host::Host;
 use crate::ports::HostPort;
+use crate::realtime::resumed_after;
 use gcode_words::realtime_bytes::RESUME;
 
 /// So many polls in a row that find no reply are enough to resume the machine.
@@ -48,8 +49,14 @@ impl Host {
         }
         self.polls = 0;
         port.raise(RESUME);
+        self.resumed_at = resumed_after(
+            RESUME,
+            self.held,
+            self.counts.lines,
+            self.counts.pause_at,
+            self.resumed_at,
+        );
         self.held = false;
-        self.resumed = true;
         self.counts.pause_at = 0;
         true
     }
@@ -76,11 +83,18 @@ impl Host {
         self.may_be_held() && self.polls >= HELD_POLLS
     }
 
+    /// Whether a `~` may have come too early: no answer has shown yet that the hold which it was to end is over.
+    fn may_be_still(&self) -> bool
+        ensures { (room : ℕ) (h : Journal) → HostFits room self.now h → result ≡ may_be_still h }
+    {
+        self.counts.answered < self.resumed_at
+    }
+
     /// Whether the sender stands by, a `~` was raised that may have come too early, and so many polls in a row have found no reply.
     fn seems_still(&self) -> bool
         ensures { (room : ℕ) (h : Journal) → HostFits room self.now h → (result ≡ true) ↔ SeemsStill h }
     {
-        self.attended && self.resumed && self.polls >= LONG_POLLS
+        self.attended && self.may_be_still() && self.polls >= LONG_POLLS
     }
 
     /// Whether nothing is awaited, or only the answers of a machine that seems held.

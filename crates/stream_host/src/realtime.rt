@@ -1,8 +1,8 @@
 //! What the realtime bytes of a job come to.
 
-ghost use Rattle.std.specs.Prelude.{◌≡◌, ◌||◌, cond, nat_eq};
+ghost use Rattle.std.specs.Prelude.{◌≡◌, ◌+◌, ◌^◌, ◌<◌, cond, nat_eq};
 ghost use Rattle.stream_host.specs.Conduct.{waits_for_lines};
-ghost use Rattle.stream_host.specs.Holding.{held_after};
+ghost use Rattle.stream_host.specs.Holding.{held_after, resumed_after};
 ghost use Rattle.stream_host.specs.Jobs.{resume};
 
 use gcode_words::realtime_bytes::{CANCEL, HOLD, QUERY, RESUME};
@@ -25,11 +25,20 @@ pub(crate) fn is_held_after(byte: u8, held: bool) -> bool
     }
 }
 
-/// Whether a `~` was raised, behind a realtime byte.
-pub(crate) fn is_resumed_after(byte: u8, resumed: bool) -> bool
-    ensures { result ≡ (nat_eq byte resume || resumed) }
+/// The number of the line whose answer shows that each hold is over which a `~` was to end, behind a realtime byte. For a `~` behind a
+/// `!` it is the first line that is stored behind both: the board takes them before it begins that line, and begins none while
+/// it is held. For a `~` behind a pause it is the line of the pause.
+pub(crate) fn resumed_after(byte: u8, held: bool, lines: u32, pause: u32, before: u32) -> u32
+    requires { lines + 1 < 2 ^ 32 }
+    ensures { result ≡ resumed_after byte held lines pause before }
 {
-    byte == RESUME || resumed
+    if byte != RESUME {
+        return before;
+    }
+    if held {
+        return lines + 1;
+    }
+    if pause == 0 { before } else { pause }
 }
 
 /// The number of the last line that asks for a pause, behind a realtime byte: a `~` ends all pauses before it.
