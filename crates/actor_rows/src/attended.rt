@@ -51,6 +51,39 @@ fn attended_jobs_are_read_on(rt: HostRuntime) -> Result<(), Fail> {
     Ok(())
 }
 
+/// The job, the size of its pieces, what the board has when it falls silent, and what it has 33,000 turns later.
+const SILENT: &[(&[u8], usize, &[u8], &[u8])] = &[
+    (b"M0\n~G1\nG2\n", 4, b"M0\n~=", b"M0\n~=G1\n"),
+    (b"!~G0\nG1\n", 5, b"!~", b"!~G0\nG1\n"),
+    (b"!~G0\nG1\nG2\n", 5, b"!~G0\n=", b"!~G0\n=G1\n"),
+    (b"G0\n!~G1\nG2\n", 5, b"G0\n!~=", b"G0\n!~=G1\nG2\n"),
+    (b"~G0\nG1\n", 4, b"~", b"~G0\n"),
+    (b"!~G0\n~G1\nG2\nG3\n", 6, b"!~G0\n~=", b"!~G0\n~=G1\nG2\n"),
+    (b"!~\x18G1\nG2\n", 6, b"!~|\x18&", b"!~|\x18&G1\n"),
+];
+
+/// Behind a `~` the job is read on only as long as no answer shows that the hold is over: that of the pause's line, or behind a `!` of
+/// the first line that is sent behind both. A `~` where nothing is held asks for none, nor does one before a banner.
+#[test]
+fn answers_show_a_resume(rt: HostRuntime) -> Result<(), Fail> {
+    for (i, (bytes, piece, first, last)) in SILENT.iter().enumerate() {
+        let mut line = Line::attended(rt.alloc(), bytes, *piece, 30)?;
+        line.board.marked = true;
+        line.board.begins = true;
+        for _ in 0..400 {
+            if line.taken() == *first {
+                break;
+            }
+            line.turn();
+        }
+        assert!(rt; line.taken() == *first, "row {i} is silent");
+        line.board.pause = NEVER;
+        line.run(Turn::Done, 33000);
+        assert!(rt; line.taken() == *last, "row {i}");
+    }
+    Ok(())
+}
+
 /// A line that has no answer, and no end of the job: no poll resumes the machine. Once the link is closed, each 4,096th does.
 #[test]
 fn machines_stay_held(rt: HostRuntime) -> Result<(), Fail> {

@@ -41,7 +41,7 @@ pub(crate) struct Board<'a, const ROOM: usize> {
     /// So many marks are stored, and of this number is that of the last banner.
     marks: u32,
     greeted: u32,
-    pause: u32,
+    pub(crate) pause: u32,
     polls: u32,
     pub(crate) shut: bool,
     over: bool,
