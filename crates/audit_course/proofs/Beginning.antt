@@ -29,14 +29,14 @@ use Rattle.run_texts.specs.Points.{Point, BecomesAt, behind_line, behind_broken,
 use Rattle.run_texts.specs.Sent.{Sent}
 use Rattle.run_texts.specs.Sent.Sent.{a_text}
 use Rattle.run_texts.proofs.Making.{line_made}
-use Rattle.audit_course.specs.declared.LastTask.{LastTask}
-use Rattle.audit_course.specs.declared.LastTask.TheVariants.{Nothing}
 use Rattle.audit_course.specs.declared.Progress.{Progress}
 use Rattle.audit_course.specs.declared.judge.CourseJudge.{CourseJudge}
-use Rattle.audit_course.specs.Progressing.{last_behind, has_ticks, has_halt, IsNew}
+use Rattle.audit_course.specs.Progressing.{has_ticks, has_halt, IsNew}
 use Rattle.audit_course.specs.SoFar.{GoesTo, HasJudged, OfLine, IsBare, EndsLate, MayBegin, Knows, FindsRight, FindsStill, left_to_tell}
 use Rattle.audit_course.proofs.Going.{by_line, by_broken}
 use Rattle.audit_course.proofs.Parting.{none_of}
+use Rattle.audit_course.proofs.Passing.{same_moved}
+use Rattle.audit_course.proofs.Ending.{moved_closed}
 use Rattle.audit_course.proofs.Forced.{comes_before, behind_made, forced_line, forced_broken}
 use Rattle.audit_course.proofs.Finding.{still_may, stands_becomes, busy_becomes, locked_becomes}
 use Rattle.audit_course.proofs.Outcomes.{SaysOf, becomes_says, locked_says}
@@ -78,45 +78,37 @@ pub or_true : (a b : Bool) → b ≡ true → (a || b) ≡ true
 or_true true b e = refl
 or_true false b e = e
 
-and_true : (a b c : Bool) → a ≡ true → b ≡ true → (a && b || c) ≡ true
-and_true true true c e f = refl
-and_true true false c e f = absurd cc
-and_true false b c e f = absurd cc
+-- what has moved behind a line
+cond_not : (s a : Bool) → cond s false a ≡ (not s && a)
+cond_not true a = refl
+cond_not false a = refl
 
-kept_from : (t : Bool) (b : Bool) → t ≡ false → b ≡ true → cond t false b ≡ true
-kept_from true b e f = absurd cc
-kept_from false b e f = f
+moved_line : (settles of_kind moves before s k now was : Bool) → settles ≡ s → of_kind ≡ k → before ≡ was → now ≡ was → cond settles false (of_kind && moves || before) ≡ (not s && (k && moves || now))
+moved_line settles of_kind moves before s k now was es ek eb en = cond_not settles (of_kind && moves || before) ∙ same_moved settles s of_kind k moves before now es ek (eb ∙ sym en)
 
 -- ---- a line that is answered
 
-line_of : (j k : CourseJudge) (p : Point) (hand : List Outcome) (kept : List ℕ) (o : Outcome) (w : Interpreting) → OfLine j p hand → MayBegin j → IsJudged j p true kept o w k.line → k.work ≡ w → kind_told k.line.accepted ≡ o.kind
+line_of : (j k : CourseJudge) (p : Point) (hand : List Outcome) (kept : List ℕ) (o : Outcome) (w : Interpreting) → OfLine j p hand → MayBegin j → IsJudged j p true kept o w k.line → k.work ≡ w → kind_told k.line.accepted ≡ o.kind → k.line.settles ≡ o.settles
     → k.moved ≡ j.moved → k.jog_moved ≡ j.jog_moved → k.unanswered ≡ false → k.in_hand ≡ true → k.jogged ≡ jogged_behind o.kind j.jogged → OfLine k (behind_line p kept o) (o ∷ [])
-line_of j k p hand kept o w was b judged work kind moved jog_moved answered in_hand jogged = record {
+line_of j k p hand kept o w was b judged work kind settles moved jog_moved answered in_hand jogged = record {
   work = o.work;
-  settles = o.settles;
   limit = is_limit o.answer;
-  last = ap (λ (l : LastTask). last_behind l k.work.left) judged.is_new.last ∙ ap (last_behind Nothing) left;
   moves = ap (λ (t : Bool). t || has_moves k.work.left) judged.is_new.moves ∙ ap has_moves left;
   ticks = ap (λ (t : Bool). t || has_ticks k.work.left) judged.is_new.asks ∙ ap has_ticks left;
   halts = ap (λ (t : Bool). t || has_halt k.work.left) judged.is_new.halts ∙ ap has_halt left ∙ judged.says.halts;
-  other = λ e. judged.says.other (sym (ap accepted_code kind) ∙ e);
-  stays = judged.says.stays;
-  moved = λ e s. kept_from o.settles (accepted_code o.kind && has_moves o.work || p.before.moved) s (or_true (accepted_code o.kind && has_moves o.work) p.before.moved (was.moved (sym moved ∙ e) calm));
-  jog_moved = λ e s. kept_from o.settles (accepted_jog o.kind && has_moves o.work || p.before.jog_moved) s (or_true (accepted_jog o.kind && has_moves o.work) p.before.jog_moved (was.jog_moved (sym jog_moved ∙ e) calm));
-  moves_now = λ s e m. kept_from o.settles (accepted_code o.kind && has_moves o.work || p.before.moved) s (and_true (accepted_code o.kind) (has_moves o.work) p.before.moved (sym (ap accepted_code kind) ∙ e) m);
-  jogs_now = λ s e m. kept_from o.settles (accepted_jog o.kind && has_moves o.work || p.before.jog_moved) s (and_true (accepted_jog o.kind) (has_moves o.work) p.before.jog_moved (sym (ap accepted_jog kind) ∙ e) m);
+  moved = moved_line o.settles (accepted_code o.kind) (has_moves o.work) p.before.moved k.line.settles (accepted_code (kind_told k.line.accepted)) k.moved j.moved (sym settles) (ap accepted_code (sym kind)) was_moved.0 moved;
+  jog_moved = moved_line o.settles (accepted_jog o.kind) (has_moves o.work) p.before.jog_moved k.line.settles (accepted_jog (kind_told k.line.accepted)) k.jog_moved j.jog_moved (sym settles) (ap accepted_jog (sym kind)) was_moved.1 jog_moved;
   jogged = ap (jogged_behind o.kind) was.jogged ∙ sym jogged;
   alarmed = ap (λ (u : Bool). not u && is_limit o.answer) (sym answered);
   unheld = λ e. absurd (let f : false ≡ true = sym answered ∙ e in cc);
-  unsettles = λ e. absurd (let f : false ≡ true = sym answered ∙ e in cc);
   none = λ e. absurd (let f : true ≡ false = sym in_hand ∙ e in cc);
-  are = ((refl, refl, sym kind), tt);
+  are = ((refl, sym settles, sym kind), tt);
 } where
   left : k.work.left ≡ o.work
   left = ap (λ (i : Interpreting). i.left) (work ∙ judged.work)
 
-  calm : was.settles ≡ false
-  calm = (was.none b.closed).1
+  was_moved : (p.before.moved ≡ j.moved) × (p.before.jog_moved ≡ j.jog_moved)
+  was_moved = moved_closed j p hand was b.closed
 
 any_last : (os : List Outcome) (o : Outcome) → raises_alarm o ≡ true → list_any raises_alarm (os ++ o ∷ []) ≡ true
 any_last [] o e = or_true' (raises_alarm o) e where
@@ -133,11 +125,11 @@ none_last (x ∷ os) o none e = both (raises_alarm x) (list_any raises_alarm os)
   both false c d n f e = f n e
 
 pub line_begun : (j k : CourseJudge) (kept : List ℕ) (o : Outcome) (w : Interpreting) (first : State) (sent : List Sent) (replies : List Reply) (records : List Record) (s : HasJudged j first sent replies records)
-    → MayBegin j → IsJudged j s.point true kept o w k.line → kind_told k.line.accepted ≡ o.kind
+    → MayBegin j → IsJudged j s.point true kept o w k.line → kind_told k.line.accepted ≡ o.kind → k.line.settles ≡ o.settles
     → k.jogged ≡ jogged_behind o.kind j.jogged → k.locked ≡ (j.locked && not (is_unlock (kind_of kept)))
     → k ≡ record j { work = w; state = o.next; locked = k.locked; has_line = true; in_hand = true; jogged = k.jogged; line = k.line }
     → HasJudged k first (sent ++ a_text kept ∷ []) replies records
-line_begun j k kept o w first sent replies records s b judged kind jogged locked is = record {
+line_begun j k kept o w first sent replies records s b judged kind settles jogged locked is = record {
   point = behind_line s.point kept o;
   number = ap (λ (n : ℕ). n + 1) s.number ∙ sym (ap (λ (i : Interpreting). i.number) work);
   state = sym (ap (λ (x : CourseJudge). x.state) is);
@@ -146,7 +138,7 @@ line_begun j k kept o w first sent replies records s b judged kind jogged locked
   has_line = sym (ap (λ (x : CourseJudge). x.has_line) is);
   unanswered = sym answered;
   hand = o ∷ [];
-  line = line_of j k s.point s.hand kept o w s.line b judged (ap (λ (x : CourseJudge). x.work) is) kind (ap (λ (x : CourseJudge). x.moved) is) (ap (λ (x : CourseJudge). x.jog_moved) is) answered (ap (λ (x : CourseJudge). x.in_hand) is) jogged;
+  line = line_of j k s.point s.hand kept o w s.line b judged (ap (λ (x : CourseJudge). x.work) is) kind settles (ap (λ (x : CourseJudge). x.moved) is) (ap (λ (x : CourseJudge). x.jog_moved) is) answered (ap (λ (x : CourseJudge). x.in_hand) is) jogged;
   since = s.since ++ o ∷ [];
   begun = s.begun;
   none_begun = λ e. s.none_begun b.answered;
@@ -164,7 +156,7 @@ line_begun j k kept o w first sent replies records s b judged kind jogged locked
   loses = record {
     closed = s.loses.closed;
     others = s.loses.others;
-    split = ap (λ (os : List Outcome). os ++ o ∷ []) (s.loses.split ∙ ap (λ (os : List Outcome). (s.loses.closed ++ s.loses.others) ++ os) (s.line.none b.closed).0 ∙ append-nil (s.loses.closed ++ s.loses.others));
+    split = ap (λ (os : List Outcome). os ++ o ∷ []) (s.loses.split ∙ ap (λ (os : List Outcome). (s.loses.closed ++ s.loses.others) ++ os) (s.line.none b.closed).none ∙ append-nil (s.loses.closed ++ s.loses.others));
     over = s.loses.over;
     jogs = λ e. s.loses.jogs (sym (ap (λ (x : CourseJudge). x.jogs) is) ∙ e);
     unsettled = λ e. s.loses.unsettled (sym (ap (λ (x : CourseJudge). x.unsettled) is) ∙ e);
@@ -218,44 +210,33 @@ bare_made : (j : CourseJudge) (first : State) (sent : List Sent) (replies : List
 bare_made j first sent replies records s answered =
     subst (λ (os : List Outcome). IsMade os s.made (making j.part s.ticks s.moves)) (ap (λ (os : List Outcome). s.since ++ os) (s.none_begun answered) ∙ append-nil s.since) s.is_made
 
-broken_of : (j k : CourseJudge) (p : Point) (hand : List Outcome) (kept : List ℕ) (o : Outcome) (w : Interpreting) → OfLine j p hand → MayBegin j → IsJudged j p false kept o w k.line → k.work ≡ w → kind_told k.line.accepted ≡ kind_told Code
+broken_of : (j k : CourseJudge) (p : Point) (hand : List Outcome) (kept : List ℕ) (o : Outcome) (w : Interpreting) → OfLine j p hand → MayBegin j → IsJudged j p false kept o w k.line → k.work ≡ w → kind_told k.line.accepted ≡ kind_told Code → k.line.settles ≡ false
     → k.moved ≡ j.moved → k.jog_moved ≡ j.jog_moved → k.unanswered ≡ true → k.in_hand ≡ true → k.jogged ≡ j.jogged → OfLine k (behind_broken p o) []
-broken_of j k p hand kept o w was b judged work kind moved jog_moved broken in_hand jogged = record {
+broken_of j k p hand kept o w was b judged work kind settles moved jog_moved broken in_hand jogged = record {
   work = o.work;
-  settles = false;
   limit = has_halt o.work;
-  last = ap (λ (l : LastTask). last_behind l k.work.left) judged.is_new.last ∙ ap (last_behind Nothing) left;
   moves = ap (λ (t : Bool). t || has_moves k.work.left) judged.is_new.moves ∙ ap has_moves left;
   ticks = ap (λ (t : Bool). t || has_ticks k.work.left) judged.is_new.asks ∙ ap has_ticks left;
   halts = ap (λ (t : Bool). t || has_halt k.work.left) judged.is_new.halts ∙ ap has_halt left;
-  other = λ e. refl;
-  stays = λ f. refl;
-  moved = λ e s. or_true (has_moves o.work) p.before.moved (was.moved (sym moved ∙ e) calm);
-  jog_moved = λ e s. was.jog_moved (sym jog_moved ∙ e) calm;
-  moves_now = λ s e m. moves_first (has_moves o.work) p.before.moved m;
-  jogs_now = λ s e m. absurd (let f : false ≡ true = sym (ap accepted_jog kind) ∙ e in cc);
+  moved = moved_line false true (has_moves o.work) p.before.moved k.line.settles (accepted_code (kind_told k.line.accepted)) k.moved j.moved (sym settles) (ap accepted_code (sym kind)) was_moved.0 moved;
+  jog_moved = moved_line false false (has_moves o.work) p.before.jog_moved k.line.settles (accepted_jog (kind_told k.line.accepted)) k.jog_moved j.jog_moved (sym settles) (ap accepted_jog (sym kind)) was_moved.1 jog_moved;
   jogged = was.jogged ∙ sym jogged;
   alarmed = no_alarm j p hand was b ∙ ap (λ (u : Bool). not u && has_halt o.work) (sym broken);
   unheld = λ e. refl;
-  unsettles = λ e. refl;
   none = λ e. absurd (let f : true ≡ false = sym in_hand ∙ e in cc);
   are = tt;
 } where
   left : k.work.left ≡ o.work
   left = ap (λ (i : Interpreting). i.left) (work ∙ judged.work)
 
-  calm : was.settles ≡ false
-  calm = (was.none b.closed).1
-
-  moves_first : (a c : Bool) → a ≡ true → (a || c) ≡ true
-  moves_first true c e = refl
-  moves_first false c e = absurd cc
+  was_moved : (p.before.moved ≡ j.moved) × (p.before.jog_moved ≡ j.jog_moved)
+  was_moved = moved_closed j p hand was b.closed
 
 pub line_broken : (j k : CourseJudge) (kept : List ℕ) (o : Outcome) (w : Interpreting) (first : State) (sent : List Sent) (replies : List Reply) (records : List Record) (s : HasJudged j first sent replies records)
-    → MayBegin j → IsJudged j s.point false kept o w k.line → kind_told k.line.accepted ≡ kind_told Code
+    → MayBegin j → IsJudged j s.point false kept o w k.line → kind_told k.line.accepted ≡ kind_told Code → k.line.settles ≡ false
     → k ≡ record j { work = w; has_line = true; unanswered = true; touched = false; in_hand = true; line = k.line }
     → HasJudged k first (sent ++ a_text kept ∷ []) replies records
-line_broken j k kept o w first sent replies records s b judged kind is = record {
+line_broken j k kept o w first sent replies records s b judged kind settles is = record {
   point = behind_broken s.point o;
   number = ap (λ (n : ℕ). n + 1) s.number ∙ sym (ap (λ (i : Interpreting). i.number) work);
   state = s.state ∙ sym (ap (λ (x : CourseJudge). x.state) is);
@@ -264,7 +245,7 @@ line_broken j k kept o w first sent replies records s b judged kind is = record 
   has_line = sym (ap (λ (x : CourseJudge). x.has_line) is);
   unanswered = sym broken;
   hand = [];
-  line = broken_of j k s.point s.hand kept o w s.line b judged (ap (λ (x : CourseJudge). x.work) is) kind (ap (λ (x : CourseJudge). x.moved) is) (ap (λ (x : CourseJudge). x.jog_moved) is) broken (ap (λ (x : CourseJudge). x.in_hand) is) (ap (λ (x : CourseJudge). x.jogged) is);
+  line = broken_of j k s.point s.hand kept o w s.line b judged (ap (λ (x : CourseJudge). x.work) is) kind settles (ap (λ (x : CourseJudge). x.moved) is) (ap (λ (x : CourseJudge). x.jog_moved) is) broken (ap (λ (x : CourseJudge). x.in_hand) is) (ap (λ (x : CourseJudge). x.jogged) is);
   since = s.since;
   begun = s.begun ++ o ∷ [];
   none_begun = λ e. absurd (let f : true ≡ false = sym broken ∙ e in cc);
@@ -284,7 +265,7 @@ line_broken j k kept o w first sent replies records s b judged kind is = record 
   loses = record {
     closed = s.loses.closed;
     others = s.loses.others;
-    split = s.loses.split ∙ ap (λ (os : List Outcome). (s.loses.closed ++ s.loses.others) ++ os) (s.line.none b.closed).0;
+    split = s.loses.split ∙ ap (λ (os : List Outcome). (s.loses.closed ++ s.loses.others) ++ os) (s.line.none b.closed).none;
     over = s.loses.over;
     jogs = λ e. s.loses.jogs (sym (ap (λ (x : CourseJudge). x.jogs) is) ∙ e);
     unsettled = λ e. s.loses.unsettled (sym (ap (λ (x : CourseJudge). x.unsettled) is) ∙ e);
@@ -335,8 +316,8 @@ says_still p kept o is = by_either p.locked _ _ _ (λ e. locked_says p.before ke
 
 pub known_at : (j : CourseJudge) (first : State) (sent : List Sent) (replies : List Reply) (records : List Record) (s : HasJudged j first sent replies records) → MayBegin j → Knows j s.point
 known_at j first sent replies records s b =
-    let calm : s.line.settles ≡ false = (s.line.none b.closed).1 in
-    record { locked = s.locked; moved = λ e. s.line.moved e calm; jog_moved = λ e. s.line.jog_moved e calm; jogged = s.line.jogged }
+    let m = moved_closed j s.point s.hand s.line b.closed in
+    record { locked = s.locked; moved = m.0; jog_moved = m.1; jogged = s.line.jogged }
 
 -- what stands before the line is what the interpreter has, with what the lines before have moved
 pub since_at : Point → Since
@@ -358,33 +339,33 @@ taken_false false A B e b = b
 
 -- ---- as the code has it
 
-pub line_answered : (j : CourseJudge) (machine : Machine) (w : Interpreting) (state : State) (locked jogged : Bool) (l : Progress) (accepted : Accepted) (kept : List ℕ) (first : State) (sent : List Sent) (replies : List Reply) (records : List Record)
+pub line_answered : (j : CourseJudge) (machine : Machine) (w : Interpreting) (state : State) (locked jogged : Bool) (l : Progress) (accepted : Accepted) (settles : Bool) (kept : List ℕ) (first : State) (sent : List Sent) (replies : List Reply) (records : List Record)
     → HasJudged j first sent replies records → MayBegin j
-    → ((since : Since) → (o : Outcome) × Found machine (stands_before j.work since) kept o × (w ≡ record { state = o.next; number = j.work.number + 1; left = o.work }) × (kind_told accepted ≡ o.kind))
-    → FindsRight j machine kept → state ≡ w.state → IsNew l → l.accepted ≡ accepted → jogged ≡ jogged_behind (kind_told accepted) j.jogged → locked ≡ (j.locked && not (is_unlock (kind_of kept)))
+    → ((since : Since) → (o : Outcome) × Found machine (stands_before j.work since) kept o × (w ≡ record { state = o.next; number = j.work.number + 1; left = o.work }) × (kind_told accepted ≡ o.kind) × (settles ≡ o.settles))
+    → FindsRight j machine kept → state ≡ w.state → IsNew l → l.accepted ≡ accepted → l.settles ≡ settles → jogged ≡ jogged_behind (kind_told accepted) j.jogged → locked ≡ (j.locked && not (is_unlock (kind_of kept)))
     → HasJudged (record j { work = w; state = state; locked = locked; has_line = true; in_hand = true; jogged = jogged; line = l }) first (sent ++ a_text kept ∷ []) replies records
-line_answered j machine w state locked jogged l accepted kept first sent replies records s b judged finds state_is new accepted_is jogged_is locked_is =
+line_answered j machine w state locked jogged l accepted settles kept first sent replies records s b judged finds state_is new accepted_is settles_is jogged_is locked_is =
     let o = judged (since_at s.point) in
     let found : Found machine s.point.before kept o.0 = subst (λ (x : Before). Found machine x kept o.0) (stands_there j first sent replies records s b) o.1 in
     let becomes = finds s.point (known_at j first sent replies records s b) o.0 found in
     let kind : kind_told l.accepted ≡ o.0.kind = ap kind_told accepted_is ∙ o.3 in
     let next : state ≡ o.0.next = state_is ∙ ap (λ (i : Interpreting). i.state) o.2 in
     line_begun j (record j { work = w; state = state; locked = locked; has_line = true; in_hand = true; jogged = jogged; line = l }) kept o.0 w first sent replies records s b
-    (record { becomes = becomes; says = says_at s.point kept o.0 becomes; work = o.2; is_new = new }) kind
+    (record { becomes = becomes; says = says_at s.point kept o.0 becomes; work = o.2; is_new = new }) kind (settles_is ∙ o.4)
     (jogged_is ∙ ap (λ k. jogged_behind k j.jogged) o.3) locked_is
     (ap (λ (x : State). record j { work = w; state = x; locked = locked; has_line = true; in_hand = true; jogged = jogged; line = l }) next)
 
 pub line_unanswered : (j : CourseJudge) (machine : Machine) (w : Interpreting) (l : Progress) (accepted : Accepted) (kept : List ℕ) (first : State) (sent : List Sent) (replies : List Reply) (records : List Record)
     → HasJudged j first sent replies records → MayBegin j
     → ((since : Since) → (o : Outcome) × Found machine (stands_before j.work since) kept o × (w ≡ record { state = o.next; number = j.work.number + 1; left = o.work }) × (kind_told accepted ≡ o.kind))
-    → FindsStill j machine kept → IsNew l → l.accepted ≡ Code
+    → FindsStill j machine kept → IsNew l → l.accepted ≡ Code → l.settles ≡ false
     → HasJudged (record j { work = w; has_line = true; unanswered = true; touched = false; in_hand = true; line = l }) first (sent ++ a_text kept ∷ []) replies records
-line_unanswered j machine w l accepted kept first sent replies records s b judged finds new code =
+line_unanswered j machine w l accepted kept first sent replies records s b judged finds new code settles =
     let o = judged (since_at s.point) in
     let found : Found machine s.point.before kept o.0 = subst (λ (x : Before). Found machine x kept o.0) (stands_there j first sent replies records s b) o.1 in
     let becomes = finds s.point (known_at j first sent replies records s b) o.0 found in
     line_broken j (record j { work = w; has_line = true; unanswered = true; touched = false; in_hand = true; line = l }) kept o.0 w first sent replies records s b
-    (record { becomes = becomes; says = says_still s.point kept o.0 becomes; work = o.2; is_new = new }) (ap kind_told code) refl
+    (record { becomes = becomes; says = says_still s.point kept o.0 becomes; work = o.2; is_new = new }) (ap kind_told code) settles refl
 
 -- ---- how the machine is found
 

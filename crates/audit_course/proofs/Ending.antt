@@ -18,7 +18,8 @@ use Rattle.run_rules.specs.Cuts.{ticks_asked_for, LosesJogsAlone}
 use Rattle.run_rules.specs.Outcomes.{at_place, either}
 use Rattle.run_rules.specs.Reports.{settles, settled_to, raises_alarm}
 use Rattle.run_rules.proofs.Answering.{telling_tells}
-use Rattle.run_rules.specs.Work.{Task, Outcome, tells, asks, telling, has_moves, accepted_jog}
+use Rattle.run_rules.specs.Work.{Task, Outcome, tells, asks, telling, has_moves, accepted_code, accepted_jog}
+use Rattle.line_interpreter.specs.Desks.{kind_told}
 use Rattle.line_interpreter.specs.Interpreting.{Interpreting}
 use Rattle.line_interpreter.specs.Lefts.{greeting}
 use Rattle.part_making.specs.Judging.{Known, nothing_known, making}
@@ -34,11 +35,9 @@ use Rattle.run_texts.specs.Sent.Sent.{a_text, a_stop}
 use Rattle.run_texts.specs.Told.{told_at_reset}
 use Rattle.run_texts.proofs.Events.{ticks_on}
 use Rattle.run_texts.proofs.Making.{begins, finishes}
-use Rattle.audit_course.specs.declared.LastTask.{LastTask}
-use Rattle.audit_course.specs.declared.LastTask.TheVariants.{Nothing}
 use Rattle.audit_course.specs.declared.Progress.{Progress}
 use Rattle.audit_course.specs.declared.judge.CourseJudge.{CourseJudge}
-use Rattle.audit_course.specs.Progressing.{last_behind, has_ticks, has_halt, fresh}
+use Rattle.audit_course.specs.Progressing.{has_ticks, has_halt, fresh}
 use Rattle.audit_course.specs.SoFar.{GoesTo, HasJudged, IsBare, IsOver, AddsReset, OfLine, MayLose, MayCut, MayReset, MayEnd, left_to_tell}
 use Rattle.audit_course.proofs.Going.{by_a_cut, by_a_reset, at_end}
 use Rattle.audit_course.proofs.Forced.{forced_cut, forced_reset, reset_begins}
@@ -229,7 +228,7 @@ part_cut j k w state first sent replies records s may state_is same_left number_
       bare.out ∙ may.out,
       subst MayStop (sym bare.head) may.may,
       subst (λ (os : List Outcome). LosesJogsAlone (length (ticks_among s.made)) os) (sym (append-nil s.since))
-          (jogs_alone j s.since s.made (with_hand j s.since s.hand s.made s.loses (s.line.none may.ends.closed).0) may.jogs),
+          (jogs_alone j s.since s.made (with_hand j s.since s.hand s.made s.loses (s.line.none may.ends.closed).none) may.jogs),
       s.stands,
     );
   })
@@ -237,23 +236,16 @@ part_cut j k w state first sent replies records s may state_is same_left number_
   cut_line : OfLine (record j { work = w; state = state; part = nothing_known; cuts = j.cuts + 1; has_line = false; lost = false; jogs = true; unsettled = true }) (behind_cut j.place s.point) []
   cut_line = record {
     work = s.line.work;
-    settles = s.line.settles;
     limit = s.line.limit;
-    last = ap (last_behind j.line.last) same_left ∙ s.line.last;
     moves = ap (λ (ts : List Task). j.line.moves || has_moves ts) same_left ∙ s.line.moves;
     ticks = ap (λ (ts : List Task). j.line.asks || has_ticks ts) same_left ∙ s.line.ticks;
     halts = ap (λ (ts : List Task). j.line.halts || has_halt ts) same_left ∙ s.line.halts;
-    other = s.line.other;
-    stays = s.line.stays;
     moved = s.line.moved;
     jog_moved = s.line.jog_moved;
-    moves_now = s.line.moves_now;
-    jogs_now = s.line.jogs_now;
     jogged = s.line.jogged;
     alarmed = s.line.alarmed;
     unheld = λ e. refl;
-    unsettles = s.line.unsettles;
-    none = λ e. (refl, (s.line.none may.ends.closed).1);
+    none = λ e. let n = s.line.none may.ends.closed in record { none = refl; settles = n.settles; code = n.code; jog = n.jog };
     are = tt;
   }
 
@@ -271,10 +263,6 @@ behind_so : (lines : List (List ℕ)) (more : List Sent) → behind_reset (map a
 behind_so [] more = refl
 behind_so (l ∷ ls) more = behind_so ls more
 
-telling_last : (before : LastTask) (rs : List Reply) → last_behind before (telling rs) ≡ before
-telling_last before [] = refl
-telling_last before (r ∷ rs) = telling_last before rs
-
 telling_moves : (rs : List Reply) → has_moves (telling rs) ≡ false
 telling_moves [] = refl
 telling_moves (r ∷ rs) = telling_moves rs
@@ -287,12 +275,16 @@ telling_asks : (rs : List Reply) → asks (telling rs) ≡ []
 telling_asks [] = refl
 telling_asks (r ∷ rs) = telling_asks rs
 
-or_cause : (a b c d : Bool) → (a ≡ true → c ≡ true) → (b ≡ true → d ≡ true) → (a || b) ≡ true → (c || d) ≡ true
-or_cause true b c d f g e = ap (λ (x : Bool). x || d) (f refl)
-or_cause false b c d f g e = or_last c d (g e) where
-  or_last : (c d : Bool) → d ≡ true → (c || d) ≡ true
-  or_last true d e = refl
-  or_last false d e = e
+-- where no line is at hand, so much has moved
+pub moved_before : (settles of_kind moves before : Bool) → settles ≡ false → of_kind ≡ false → (not settles && (of_kind && moves || before)) ≡ before
+moved_before settles of_kind moves before s k = ap (λ (x : Bool). not x && (of_kind && moves || before)) s ∙ ap (λ (x : Bool). x && moves || before) k
+
+pub moved_closed : (j : CourseJudge) (p : Point) (hand : List Outcome) → OfLine j p hand → j.in_hand ≡ false → (p.before.moved ≡ j.moved) × (p.before.jog_moved ≡ j.jog_moved)
+moved_closed j p hand o closed =
+    let n = o.none closed in (
+      o.moved ∙ moved_before j.line.settles (accepted_code (kind_told j.line.accepted)) (has_moves o.work) j.moved n.settles n.code,
+      o.jog_moved ∙ moved_before j.line.settles (accepted_jog (kind_told j.line.accepted)) (has_moves o.work) j.jog_moved n.settles n.jog,
+    )
 
 abbrev pub reset_here : CourseJudge → ℕ → ℕ → Bool → Bool → Reset
 reset_here j k dropped alarm locked = record { number = k; dropped = dropped; alarm = alarm; locked = locked; at = j.place }
@@ -313,23 +305,16 @@ part_reset j k dropped alarm locked lines w state first sent replies records s m
   hand = [];
   line = record {
     work = telling (greeting alarm locked);
-    settles = false;
     limit = false;
-    last = ap (last_behind Nothing) left;
     moves = ap has_moves left;
     ticks = ap has_ticks left;
     halts = ap has_halt left ∙ telling_halts (greeting alarm locked);
-    other = λ e. refl;
-    stays = λ e. refl;
-    moved = λ e n. absurd cc;
-    jog_moved = λ e n. absurd cc;
-    moves_now = λ n e m. absurd cc;
-    jogs_now = λ n e m. absurd cc;
+    moved = refl;
+    jog_moved = refl;
     jogged = refl;
     alarmed = refl;
     unheld = λ e. refl;
-    unsettles = λ e. refl;
-    none = λ e. (refl, refl);
+    none = λ e. record { none = refl; settles = refl; code = refl; jog = refl };
     are = tt;
   };
   since = [];
@@ -380,16 +365,13 @@ part_reset j k dropped alarm locked lines w state first sent replies records s m
   greets : tells w.left ≡ told_at_reset (reset_here j k dropped alarm locked)
   greets = ap tells left ∙ telling_tells (greeting alarm locked)
 
-  calm : s.line.settles ≡ false
-  calm = (s.line.none may.ends.closed).1
-
   is_reset : (more : List Sent) → IsReset s.point (map a_text lines ++ a_stop ∷ more) (reset_here j k dropped alarm locked)
   is_reset more = record {
     free = calm_point j s.point s.hand s.line may.ends.done may.calm;
     comes = resets_so lines more;
     number = may.number ∙ sym s.number;
     dropped = count ∙ ap length (sym (waits_so lines more));
-    cause = λ e. or_cause j.moved j.jog_moved s.point.before.moved s.point.before.jog_moved (λ m. s.line.moved m calm) (λ m. s.line.jog_moved m calm) (may.cause e);
+    cause = λ e. let m = moved_closed j s.point s.hand s.line may.ends.closed in ap (λ (b : Bool). b || s.point.before.jog_moved) m.0 ∙ ap (λ (b : Bool). j.moved || b) m.1 ∙ may.cause e;
     locked = locked_is ∙ ap (λ (b : Bool). alarm || b) (sym s.locked);
   }
 
@@ -397,7 +379,7 @@ part_reset j k dropped alarm locked lines w state first sent replies records s m
   recorded = finishes s.from (part_of s.since s.begun (by_reset (reset_here j k dropped alarm locked))) s.made (record {
     making = making j.part s.ticks s.moves;
     is = s.is_made;
-    may = (settled_all j s.since s.made (with_hand j s.since s.hand s.made s.loses (s.line.none may.ends.closed).0) may.settled, s.stands);
+    may = (settled_all j s.since s.made (with_hand j s.since s.hand s.made s.loses (s.line.none may.ends.closed).none) may.settled, s.stands);
   })
 
 -- ---- the end
@@ -441,7 +423,7 @@ course_over j first sent replies records s may = record {
       may.out,
       may.may,
       either_way (list_any raises_alarm s.since) j.line.halts (settled_ticks s.since ≤ length (ticks_among s.made)) ((making j.part s.ticks s.moves).owed ≡ [])
-          (settled_all j s.since s.made (with_hand j s.since s.hand s.made s.loses (s.line.none may.ends.closed).0) may.settled)
+          (settled_all j s.since s.made (with_hand j s.since s.hand s.made s.loses (s.line.none may.ends.closed).none) may.settled)
           (λ e. idle_owes j first sent replies records s (may.none e))
           (λ e. s.alarm (point_halts j s.point s.hand s.line may.ends.done may.answered ∙ e)),
     );

@@ -1,5 +1,5 @@
 -- Before the first line.
-use Rattle.std.proofs.Common.{◌≡◌, ℕ, ◌+◌, pos, Bool, true, false, ◌||◌, List, [], ◌++◌, refl, sym, ap, ◌∙◌, subst, arith}
+use Rattle.std.proofs.Common.{◌≡◌, ℕ, ◌+◌, pos, Bool, true, false, not, ◌&&◌, ◌||◌, List, [], ◌++◌, refl, sym, ap, ◌∙◌, subst, arith}
 use Rattle.flight.specs.Places.{origin}
 use Rattle.status_report.specs.declared.Reply.{Reply}
 use Rattle.step_line.specs.Asking.{ticks_of_all, moves_of}
@@ -14,12 +14,11 @@ use Rattle.part_making.specs.Judging.{Known, nothing_known, making}
 use Rattle.run_texts.specs.Making.{IsMade}
 use Rattle.run_texts.specs.Points.{opening}
 use Rattle.run_texts.proofs.Making.{begins}
-use Rattle.audit_course.specs.declared.LastTask.{LastTask}
-use Rattle.audit_course.specs.declared.LastTask.TheVariants.{Nothing}
 use Rattle.audit_course.specs.declared.Progress.{Progress}
 use Rattle.audit_course.specs.declared.judge.CourseJudge.{CourseJudge}
-use Rattle.audit_course.specs.Progressing.{last_behind, has_ticks, has_halt, IsNew}
+use Rattle.audit_course.specs.Progressing.{has_ticks, has_halt, IsNew}
 use Rattle.audit_course.specs.SoFar.{GoesTo, HasJudged}
+use Rattle.audit_course.proofs.Ending.{moved_before}
 
 -- what a judge knows then
 abbrev pub opened : Interpreting → State → Known → Progress → CourseJudge
@@ -44,9 +43,9 @@ opened w state part line = record {
   line = line;
 }
 
-pub opens_so_far : (first : State) (w : Interpreting) (state : State) (part : Known) (line : Progress) → state ≡ first → w.state ≡ first → w.number ≡ 1 → w.left ≡ [] → part ≡ nothing_known → IsNew line → line.accepted ≡ Neither
+pub opens_so_far : (first : State) (w : Interpreting) (state : State) (part : Known) (line : Progress) → state ≡ first → w.state ≡ first → w.number ≡ 1 → w.left ≡ [] → part ≡ nothing_known → IsNew line → line.settles ≡ false → line.accepted ≡ Neither
     → HasJudged (opened w state part line) first [] [] []
-opens_so_far first w state part line state_is work number left part_is new accepted = record {
+opens_so_far first w state part line state_is work number left part_is new settles accepted = record {
   point = opening first;
   number = sym number;
   state = sym state_is;
@@ -57,23 +56,16 @@ opens_so_far first w state part line state_is work number left part_is new accep
   hand = [];
   line = record {
     work = [];
-    settles = false;
     limit = false;
-    last = ap (λ (l : LastTask). last_behind l w.left) new.last ∙ ap (last_behind Nothing) left;
     moves = ap (λ (b : Bool). b || has_moves w.left) new.moves ∙ ap has_moves left;
     ticks = ap (λ (b : Bool). b || has_ticks w.left) new.asks ∙ ap has_ticks left;
     halts = ap (λ (b : Bool). b || has_halt w.left) new.halts ∙ ap has_halt left;
-    other = λ e. refl;
-    stays = λ e. refl;
-    moved = λ e n. absurd cc;
-    jog_moved = λ e n. absurd cc;
-    moves_now = λ n e m. absurd (let f : false ≡ true = sym (ap (λ a. accepted_code (kind_told a)) accepted) ∙ e in cc);
-    jogs_now = λ n e m. absurd (let f : false ≡ true = sym (ap (λ a. accepted_jog (kind_told a)) accepted) ∙ e in cc);
+    moved = sym (moved_before line.settles (accepted_code (kind_told line.accepted)) (has_moves []) false settles code);
+    jog_moved = sym (moved_before line.settles (accepted_jog (kind_told line.accepted)) (has_moves []) false settles jog);
     jogged = refl;
     alarmed = refl;
     unheld = λ e. refl;
-    unsettles = λ e. refl;
-    none = λ e. (refl, refl);
+    none = λ e. record { none = refl; settles = settles; code = code; jog = jog };
     are = tt;
   };
   since = [];
@@ -99,10 +91,16 @@ opens_so_far first w state part line state_is work number left part_is new accep
       subst (λ (c : ℕ). GoesTo (opening first) [] [] origin c more told rest last) (sym (plus_none n))
       (subst (λ (rs : List Reply). GoesTo (opening first) [] [] origin (n + 0) more (rs ++ told) rest last) (ap tells left) g);
 } where
+  code : accepted_code (kind_told line.accepted) ≡ false
+  code = ap (λ a. accepted_code (kind_told a)) accepted
+
+  jog : accepted_jog (kind_told line.accepted) ≡ false
+  jog = ap (λ a. accepted_jog (kind_told a)) accepted
+
   plus_none : (n : ℕ) → n ≡ n + 0
   plus_none n = omega arith
 
-pub opened_so_far : (w : Interpreting) (state : State) (part : Known) (line : Progress) → IsOpening w.state → IsOpening state → w.number ≡ 1 → w.left ≡ [] → part ≡ nothing_known → IsNew line → line.accepted ≡ Neither
+pub opened_so_far : (w : Interpreting) (state : State) (part : Known) (line : Progress) → IsOpening w.state → IsOpening state → w.number ≡ 1 → w.left ≡ [] → part ≡ nothing_known → IsNew line → line.settles ≡ false → line.accepted ≡ Neither
     → (first : State) × IsOpening first × HasJudged (opened w state part line) first [] [] []
-opened_so_far w state part line here there number left part_is new accepted =
-    (w.state, here, opens_so_far w.state w state part line (one_opening state w.state there here) refl number left part_is new accepted)
+opened_so_far w state part line here there number left part_is new settles accepted =
+    (w.state, here, opens_so_far w.state w state part line (one_opening state w.state there here) refl number left part_is new settles accepted)

@@ -1,12 +1,6 @@
 -- What becomes of a line, and what its tasks say of it.
 use Rattle.std.proofs.Common.{◌≡◌, ℕ, Bool, true, false, List, [], ◌∷◌, ◌++◌, length, nat_eq, nat_lt, append_assoc, refl, sym, ap, ◌∙◌, subst}
-use Rattle.gcode_check.specs.Items.{settling}
 use Rattle.gcode_check.specs.declared.Accept.{Accept as Accepted}
-use Rattle.gcode_check.specs.declared.Item.{Item}
-use Rattle.gcode_check.specs.declared.Item.TheVariants as items
-use Rattle.modal_state.specs.declared.SpindleMode.{SpindleMode}
-use Rattle.modal_state.specs.declared.SpindleMode.TheVariants.{Off, Cw, Ccw}
-use Rattle.settings.specs.declared.Settings.{Settings}
 use Rattle.status_report.specs.declared.Message.TheVariants.{Unlocked}
 use Rattle.status_report.specs.declared.Reply.{Reply}
 use Rattle.status_report.specs.declared.Reply.TheVariants as replies
@@ -14,53 +8,17 @@ use Rattle.system_lines.specs.Commands.{kind_of, command_of}
 use Rattle.system_lines.specs.declared.Kind.{Kind as DollarKind}
 use Rattle.system_lines.specs.declared.Kind.TheVariants as kinds
 use Rattle.run_rules.specs.declared.State.{State}
-use Rattle.run_rules.specs.Asks.{work_of, item_work, spindle_after, flood_after, planned}
+use Rattle.run_rules.specs.Asks.{planned}
 use Rattle.run_rules.specs.Locking.{ByLockedDollar, ByLockedKept, BecomesLocked}
 use Rattle.run_rules.specs.Outcomes.{Before, Becomes, ByCommand, refused, told, executed, most_kept}
-use Rattle.run_rules.specs.Work.{Task, Outcome, telling, is_limit, accepted_code}
+use Rattle.run_rules.specs.Work.{Outcome, telling, is_limit}
 use Rattle.run_rules.specs.Work.Task.{tell}
 use Rattle.run_rules.proofs.Each.{holds_of_each, holds_of_commands, by_either}
 use Rattle.run_rules.proofs.Items.{PassesTasks, holds_of_work, holds_of_move}
-use Rattle.audit_course.specs.declared.LastTask.{LastTask}
-use Rattle.audit_course.specs.declared.LastTask.TheVariants.{Nothing, Rest}
-use Rattle.audit_course.specs.Progressing.{last_behind, has_halt}
-use Rattle.audit_course.proofs.Saying.{last_on}
+use Rattle.audit_course.specs.Progressing.{has_halt}
 
 pub record SaysOf (o : Outcome) : Type 0 where
-  pub other : accepted_code o.kind ≡ false → o.settles ≡ false
-  pub stays : (last_behind Nothing o.work ≡ Rest → ⊥) → o.settles ≡ false
   pub halts : has_halt o.work ≡ is_limit o.answer
-
--- ---- the last task of a line that settles
-
-last_append : (before : LastTask) (ts us : List Task) → last_behind before (ts ++ us) ≡ last_behind (last_behind before ts) us
-last_append before [] us = refl
-last_append before (t ∷ ts) us =
-    last_on before t (ts ++ us) ∙ last_append (last_behind before (t ∷ [])) ts us ∙ ap (λ (l : LastTask). last_behind l us) (sym (last_on before t ts))
-
-rests : (before : LastTask) (line : ℕ) (s : Settings) (spindle : SpindleMode) (flood : Bool) (item : Item) → settling (item ∷ []) ≡ true
-    → last_behind before ((item_work line s spindle flood item ++ []) ++ tell replies.Ok ∷ []) ≡ Rest
-rests before line s spindle flood (items.Spindle mode speed) e = refl
-rests before line s spindle flood (items.Coolant on) e = refl
-rests before line s spindle flood (items.Dwell ms) e = refl
-rests before line s spindle flood (items.Move way rate) e = absurd cc
-rests before line s spindle flood items.Pause e = refl
-rests before line s Off true items.ProgramEnd e = refl
-rests before line s Off false items.ProgramEnd e = refl
-rests before line s Cw true items.ProgramEnd e = refl
-rests before line s Cw false items.ProgramEnd e = refl
-rests before line s Ccw true items.ProgramEnd e = refl
-rests before line s Ccw false items.ProgramEnd e = refl
-
-settled_rests : (before : LastTask) (line : ℕ) (s : Settings) (spindle : SpindleMode) (flood : Bool) (all : List Item) → settling all ≡ true
-    → last_behind before (work_of line s spindle flood all ++ tell replies.Ok ∷ []) ≡ Rest
-settled_rests before line s spindle flood [] e = absurd cc
-settled_rests before line s spindle flood (item ∷ []) e = rests before line s spindle flood item e
-settled_rests before line s spindle flood (item ∷ next ∷ more) e =
-    let later = work_of line s (spindle_after spindle item) (flood_after flood item) (next ∷ more) in
-    ap (last_behind before) (append_assoc (item_work line s spindle flood item) later (tell replies.Ok ∷ []))
-    ∙ last_append before (item_work line s spindle flood item) (later ++ tell replies.Ok ∷ [])
-    ∙ settled_rests (last_behind before (item_work line s spindle flood item)) line s (spindle_after spindle item) (flood_after flood item) (next ∷ more) e
 
 -- ---- halts
 
@@ -73,20 +31,14 @@ passes_halts = record { asks = λ a ts is q. q; pauses = λ ts q. q; normals = �
 
 -- ---- each outcome
 
-not_both : (b : Bool) → (b ≡ true → ⊥) → b ≡ false
-not_both true f = absurd (f refl)
-not_both false f = refl
-
 told_says : (next : State) (body : List Reply) → SaysOf (told next body)
-told_says next body = record { other = λ e. refl; stays = λ e. refl; halts = telling_halts (body ++ replies.Ok ∷ []) }
+told_says next body = record { halts = telling_halts (body ++ replies.Ok ∷ []) }
 
 refused_says : (b : Before) (n : ℕ) → SaysOf (refused b n)
-refused_says b n = record { other = λ e. refl; stays = λ e. refl; halts = refl }
+refused_says b n = record { halts = refl }
 
 executed_says : (b : Before) (a : Accepted) → SaysOf (executed b a)
 executed_says b a = record {
-  other = λ e. absurd cc;
-  stays = λ f. not_both (settling a.items.items) (λ e. f (settled_rests Nothing b.number b.state.settings b.state.parser.modal.spindle b.state.parser.modal.flood a.items.items e));
   halts = holds_of_work (λ ts. has_halt ts ≡ false) passes_halts b.number b.state.settings b.state.parser.modal.spindle b.state.parser.modal.flood a.items.items (tell replies.Ok ∷ []) refl;
 }
 
@@ -95,8 +47,8 @@ becomes_says b kept o is = holds_of_each true b SaysOf (record {
   refuses = refused_says b;
   tells = λ next body listing. told_says next body;
   executes = executed_says b;
-  jogs = λ jog. record { other = λ e. refl; stays = λ e. refl; halts = holds_of_move (λ ts. has_halt ts ≡ false) passes_halts (planned b.number b.state.settings jog.mv jog.rate) (tell replies.Ok ∷ []) refl };
-  limits = record { other = λ e. refl; stays = λ e. refl; halts = refl };
+  jogs = λ jog. record { halts = holds_of_move (λ ts. has_halt ts ≡ false) passes_halts (planned b.number b.state.settings jog.mv jog.rate) (tell replies.Ok ∷ []) refl };
+  limits = record { halts = refl };
 }) kept o is
 
 -- ---- of a locked machine

@@ -24,12 +24,10 @@ use Rattle.run_texts.specs.Sent.{Sent}
 use Rattle.part_making.proofs.Ending.{entered}
 use Rattle.part_making.proofs.Refused.{made_on}
 use Rattle.audit_course.proofs.Forced.{behind_made}
-use Rattle.audit_course.specs.declared.LastTask.{LastTask}
-use Rattle.audit_course.specs.declared.LastTask.TheVariants.{Nothing, Move, Rest}
 use Rattle.audit_course.specs.declared.Progress.{Progress}
 use Rattle.audit_course.specs.declared.judge.CourseJudge.{CourseJudge}
-use Rattle.audit_course.specs.Progressing.{last_behind, has_ticks, has_halt, not_rest, stays_on, moved_now, fresh}
-use Rattle.audit_course.specs.SoFar.{GoesTo, HasJudged, OfLine, MayLose, IsIdle, left_to_tell}
+use Rattle.audit_course.specs.Progressing.{has_ticks, has_halt, moved_now, fresh}
+use Rattle.audit_course.specs.SoFar.{GoesTo, HasJudged, OfLine, IsNoLine, MayLose, IsIdle, left_to_tell}
 
 -- ---- a record
 
@@ -50,24 +48,19 @@ more_ticks made r =
 same_line : (j k : CourseJudge) (p : Point) (hand : List Outcome) → OfLine j p hand → k.work ≡ j.work → k.line ≡ j.line → k.moved ≡ j.moved → k.jog_moved ≡ j.jog_moved → k.jogged ≡ j.jogged → k.unanswered ≡ j.unanswered → k.in_hand ≡ j.in_hand → OfLine k p hand
 same_line j k p hand o work line moved jog_moved jogged unanswered in_hand = record {
   work = o.work;
-  settles = o.settles;
   limit = o.limit;
-  last = ap (λ (l : Progress). last_behind l.last k.work.left) line ∙ ap (λ (i : Interpreting). last_behind j.line.last i.left) work ∙ o.last;
   moves = ap (λ (l : Progress). l.moves || has_moves k.work.left) line ∙ ap (λ (i : Interpreting). j.line.moves || has_moves i.left) work ∙ o.moves;
   ticks = ap (λ (l : Progress). l.asks || has_ticks k.work.left) line ∙ ap (λ (i : Interpreting). j.line.asks || has_ticks i.left) work ∙ o.ticks;
   halts = ap (λ (l : Progress). l.halts || has_halt k.work.left) line ∙ ap (λ (i : Interpreting). j.line.halts || has_halt i.left) work ∙ o.halts;
-  other = λ e. o.other (sym (ap (λ (l : Progress). accepted_code (kind_told l.accepted)) line) ∙ e);
-  stays = o.stays;
-  moved = λ e. o.moved (sym moved ∙ e);
-  jog_moved = λ e. o.jog_moved (sym jog_moved ∙ e);
-  moves_now = λ s e. o.moves_now s (sym (ap (λ (l : Progress). accepted_code (kind_told l.accepted)) line) ∙ e);
-  jogs_now = λ s e. o.jogs_now s (sym (ap (λ (l : Progress). accepted_jog (kind_told l.accepted)) line) ∙ e);
+  moved = o.moved ∙ sym (ap (λ (l : Progress). not l.settles && (accepted_code (kind_told l.accepted) && has_moves o.work || k.moved)) line
+      ∙ ap (λ (b : Bool). not j.line.settles && (accepted_code (kind_told j.line.accepted) && has_moves o.work || b)) moved);
+  jog_moved = o.jog_moved ∙ sym (ap (λ (l : Progress). not l.settles && (accepted_jog (kind_told l.accepted) && has_moves o.work || k.jog_moved)) line
+      ∙ ap (λ (b : Bool). not j.line.settles && (accepted_jog (kind_told j.line.accepted) && has_moves o.work || b)) jog_moved);
   jogged = o.jogged ∙ sym jogged;
   alarmed = o.alarmed ∙ ap (λ (b : Bool). not b && o.limit) (sym unanswered);
   unheld = λ e. o.unheld (sym unanswered ∙ e);
-  unsettles = λ e. o.unsettles (sym unanswered ∙ e);
-  none = λ e. o.none (sym in_hand ∙ e);
-  are = subst (λ (l : Progress). AllByRecursion (λ (x : Outcome). (x.work ≡ o.work) × (x.settles ≡ o.settles) × (x.kind ≡ kind_told l.accepted)) hand) (sym line) o.are;
+  none = λ e. subst (λ (l : Progress). IsNoLine l hand) (sym line) (o.none (sym in_hand ∙ e));
+  are = subst (λ (l : Progress). AllByRecursion (λ (x : Outcome). (x.work ≡ o.work) × (x.settles ≡ l.settles) × (x.kind ≡ kind_told l.accepted)) hand) (sym line) o.are;
 }
 
 goes_inside : (k now : Known) (r : Record) → Goes k r now → is_ending r ≡ false
@@ -125,36 +118,13 @@ record_taken j r part place events first sent replies records s goes here count 
 
 -- ---- the line at hand is over
 
-rest_or : (l : LastTask) → not_rest l ≡ true → l ≡ Rest → ⊥
-rest_or Nothing e f = absurd cc
-rest_or Rest e f = absurd cc
-rest_or Move e f = absurd cc
-
--- and so it does not
-stays_so : (j : CourseJudge) (p : Point) (hand : List Outcome) (o : OfLine j p hand) → j.work.left ≡ [] → stays_on j.line ≡ true → o.settles ≡ false
-stays_so j p hand o done e = by (accepted_code (kind_told j.line.accepted)) refl where
-  last : j.line.last ≡ last_behind Nothing o.work
-  last = sym (ap (last_behind j.line.last) done) ∙ o.last
-
-  by : (c : Bool) → accepted_code (kind_told j.line.accepted) ≡ c → o.settles ≡ false
-  by false f = o.other f
-  by true f = o.stays (λ r. rest_or j.line.last (sym (ap (λ (b : Bool). not b || not_rest j.line.last) f) ∙ e) (last ∙ r))
-
--- so it does not where it is not answered
-stays_by : (j : CourseJudge) (p : Point) (hand : List Outcome) (o : OfLine j p hand) → j.work.left ≡ [] → (j.unanswered || stays_on j.line) ≡ true → o.settles ≡ false
-stays_by j p hand o done e = by j.unanswered refl e where
-  by : (u : Bool) → j.unanswered ≡ u → (u || stays_on j.line) ≡ true → o.settles ≡ false
-  by true u e = o.unsettles u
-  by false u e = stays_so j p hand o done e
-
 by_and : (a b : Bool) → (a && b) ≡ true → (a ≡ true) × (b ≡ true)
 by_and true b e = (refl, e)
 by_and false b e = absurd cc
 
-by_or : {A : Type 0} (a b c : Bool) → (a && b || c) ≡ true → (a ≡ true → b ≡ true → A) → (c ≡ true → A) → A
-by_or true true c e here there = here refl refl
-by_or true false c e here there = there e
-by_or false b c e here there = there e
+by_not : (b : Bool) → not b ≡ true → b ≡ false
+by_not true e = absurd cc
+by_not false e = refl
 
 or_none : (b : Bool) → (b || false) ≡ b
 or_none true = refl
@@ -172,7 +142,7 @@ all_by P Q f (x ∷ xs) a = (f x a.0, all_by P Q f xs a.1)
 -- that goes on behind a line that is over, where nothing is owed or what may be left out is told
 pub line_closed : (j : CourseJudge) (l : Progress) (moved jog_moved jogs unsettled : Bool) (first : State) (sent : List Sent) (replies : List Reply) (records : List Record) (s : HasJudged j first sent replies records)
     → j.work.left ≡ [] → l ≡ fresh j.line.halts
-    → moved ≡ moved_now j.unanswered (accepted_code (kind_told j.line.accepted)) j.line j.moved → jog_moved ≡ moved_now j.unanswered (accepted_jog (kind_told j.line.accepted)) j.line j.jog_moved
+    → moved ≡ moved_now (accepted_code (kind_told j.line.accepted)) j.line j.moved → jog_moved ≡ moved_now (accepted_jog (kind_told j.line.accepted)) j.line j.jog_moved
     → ((made : MayLose (record j { jogs = jogs; unsettled = unsettled }) s.since [] s.made) → HasJudged (record j { line = l; in_hand = false; moved = moved; jog_moved = jog_moved; jogs = jogs; unsettled = unsettled }) first sent replies records)
 line_closed j l moved jog_moved jogs unsettled first sent replies records s done new is_moved is_jog loses = record {
   point = s.point;
@@ -185,29 +155,18 @@ line_closed j l moved jog_moved jogs unsettled first sent replies records s done
   hand = [];
   line = record {
     work = [];
-    settles = false;
     limit = s.line.limit;
-    last = ap (λ (p : Progress). last_behind p.last j.work.left) new ∙ ap (last_behind Nothing) done;
     moves = ap (λ (p : Progress). p.moves || has_moves j.work.left) new ∙ ap has_moves done;
     ticks = ap (λ (p : Progress). p.asks || has_ticks j.work.left) new ∙ ap has_ticks done;
     halts = ap (λ (p : Progress). p.halts || has_halt j.work.left) new ∙ s.line.halts;
-    other = λ e. refl;
-    stays = λ e. refl;
-    moved = λ e n.
-        let b = by_and (j.unanswered || stays_on j.line) (accepted_code (kind_told j.line.accepted) && j.line.moves || j.moved) (sym is_moved ∙ e) in
-        let stay = stays_by j s.point s.hand s.line done b.0 in
-        by_or (accepted_code (kind_told j.line.accepted)) j.line.moves j.moved b.1 (λ c m. s.line.moves_now stay c (moves_done m)) (λ m. s.line.moved m stay);
-    jog_moved = λ e n.
-        let b = by_and (j.unanswered || stays_on j.line) (accepted_jog (kind_told j.line.accepted) && j.line.moves || j.jog_moved) (sym is_jog ∙ e) in
-        let stay = stays_by j s.point s.hand s.line done b.0 in
-        by_or (accepted_jog (kind_told j.line.accepted)) j.line.moves j.jog_moved b.1 (λ c m. s.line.jogs_now stay c (moves_done m)) (λ m. s.line.jog_moved m stay);
-    moves_now = λ n e m. absurd (let f : false ≡ true = sym (ap (λ (p : Progress). accepted_code (kind_told p.accepted)) new) ∙ e in cc);
-    jogs_now = λ n e m. absurd (let f : false ≡ true = sym (ap (λ (p : Progress). accepted_jog (kind_told p.accepted)) new) ∙ e in cc);
+    moved = s.line.moved ∙ ap (λ (b : Bool). not j.line.settles && (accepted_code (kind_told j.line.accepted) && b || j.moved)) moves_done ∙ sym is_moved
+        ∙ sym (ap (λ (p : Progress). not p.settles && (accepted_code (kind_told p.accepted) && has_moves [] || moved)) new);
+    jog_moved = s.line.jog_moved ∙ ap (λ (b : Bool). not j.line.settles && (accepted_jog (kind_told j.line.accepted) && b || j.jog_moved)) moves_done ∙ sym is_jog
+        ∙ sym (ap (λ (p : Progress). not p.settles && (accepted_jog (kind_told p.accepted) && has_moves [] || jog_moved)) new);
     jogged = s.line.jogged;
     alarmed = s.line.alarmed;
     unheld = λ e. refl;
-    unsettles = λ e. refl;
-    none = λ e. (refl, refl);
+    none = λ e. subst (λ (p : Progress). IsNoLine p []) (sym new) (record { none = refl; settles = refl; code = refl; jog = refl });
     are = tt;
   };
   since = s.since;
@@ -229,8 +188,8 @@ line_closed j l moved jog_moved jogs unsettled first sent replies records s done
   back = s.back;
   forth = λ n more told rest last may. s.forth n more told rest last (record { late = may.late; resets = may.resets });
 } where
-  moves_done : j.line.moves ≡ true → has_moves s.line.work ≡ true
-  moves_done m = sym s.line.moves ∙ ap (λ (b : Bool). b || has_moves j.work.left) m
+  moves_done : has_moves s.line.work ≡ j.line.moves
+  moves_done = sym s.line.moves ∙ ap (λ (ts : List Task). j.line.moves || has_moves ts) done ∙ or_none j.line.moves
 
 pub none_of : (xs ys : List Record) → xs ++ ys ≡ [] → (xs ≡ []) × (ys ≡ [])
 none_of [] ys e = (refl, e)
@@ -261,7 +220,7 @@ idle_loses j jogs unsettled first sent replies records s i = record {
 
 -- and else the line at hand may have
 pub other_loses : (j : CourseJudge) (first : State) (sent : List Sent) (replies : List Reply) (records : List Record) (s : HasJudged j first sent replies records) → j.work.left ≡ []
-    → MayLose (record j { jogs = j.jogs && (j.unanswered || (accepted_jog (kind_told j.line.accepted) || not j.line.asks)); unsettled = j.unsettled && (j.unanswered || stays_on j.line) }) s.since [] s.made
+    → MayLose (record j { jogs = j.jogs && (j.unanswered || (accepted_jog (kind_told j.line.accepted) || not j.line.asks)); unsettled = j.unsettled && not j.line.settles }) s.since [] s.made
 other_loses j first sent replies records s done = record {
   closed = s.loses.closed;
   others = s.loses.others ++ s.hand;
@@ -271,8 +230,8 @@ other_loses j first sent replies records s done = record {
       let b = by_and j.jogs (j.unanswered || (accepted_jog (kind_told j.line.accepted) || not j.line.asks)) e in
       all_join (λ o. (accepted_jog o.kind || not (has_ticks o.work)) ≡ true) s.loses.others s.hand (s.loses.jogs b.0) (by_jogs j.unanswered refl b.1);
   unsettled = λ e.
-      let b = by_and j.unsettled (j.unanswered || stays_on j.line) e in
-      all_join (λ o. o.settles ≡ false) s.loses.others s.hand (s.loses.unsettled b.0) (by_answer j.unanswered refl b.1);
+      let b = by_and j.unsettled (not j.line.settles) e in
+      all_join (λ o. o.settles ≡ false) s.loses.others s.hand (s.loses.unsettled b.0) (all_by _ (λ o. o.settles ≡ false) (λ o is. is.1 ∙ by_not j.line.settles b.1) s.hand s.line.are);
 } where
   ticks : j.line.asks ≡ has_ticks s.line.work
   ticks = sym (or_none j.line.asks) ∙ ap (λ (ts : List Task). j.line.asks || has_ticks ts) (sym done) ∙ s.line.ticks
@@ -282,10 +241,6 @@ other_loses j first sent replies records s done = record {
   by_jogs false u e = all_by _ (λ o. (accepted_jog o.kind || not (has_ticks o.work)) ≡ true)
       (λ o is. ap (λ k. accepted_jog k || not (has_ticks o.work)) is.2 ∙ ap (λ (ts : List Task). accepted_jog (kind_told j.line.accepted) || not (has_ticks ts)) is.0
       ∙ ap (λ (t : Bool). accepted_jog (kind_told j.line.accepted) || not t) (sym ticks) ∙ e) s.hand s.line.are
-
-  by_answer : (u : Bool) → j.unanswered ≡ u → (u || stays_on j.line) ≡ true → AllByRecursion (λ o. o.settles ≡ false) s.hand
-  by_answer true u e = subst (λ (os : List Outcome). AllByRecursion (λ (o : Outcome). o.settles ≡ false) os) (sym (s.line.unheld u)) tt
-  by_answer false u e = all_by _ (λ o. o.settles ≡ false) (λ o is. is.1 ∙ stays_so j s.point s.hand s.line done e) s.hand s.line.are
 
 pub or_first : (a b : Bool) → (a || b) ≡ false → a ≡ false
 or_first true b e = absurd cc
@@ -297,7 +252,7 @@ abbrev jogs_now : CourseJudge → Bool → Bool
 jogs_now j idle = idle || (j.jogs && (j.unanswered || (accepted_jog (kind_told j.line.accepted) || not j.line.asks)))
 
 abbrev unsettled_now : CourseJudge → Bool → Bool
-unsettled_now j idle = idle || (j.unsettled && (j.unanswered || stays_on j.line))
+unsettled_now j idle = idle || (j.unsettled && not j.line.settles)
 
 loses_by : (j : CourseJudge) (idle : Bool) (first : State) (sent : List Sent) (replies : List Reply) (records : List Record) (s : HasJudged j first sent replies records) → j.work.left ≡ [] → (idle ≡ true → IsIdle j)
     → MayLose (record j { jogs = jogs_now j idle; unsettled = unsettled_now j idle }) s.since [] s.made
@@ -306,7 +261,7 @@ loses_by j false first sent replies records s done is = other_loses j first sent
 
 pub closes : (j : CourseJudge) (idle : Bool) (l : Progress) (moved jog_moved jogs unsettled : Bool) (first : State) (sent : List Sent) (replies : List Reply) (records : List Record) → HasJudged j first sent replies records
     → j.work.left ≡ [] → (idle ≡ true → IsIdle j) → l ≡ fresh j.line.halts → jogs ≡ jogs_now j idle → unsettled ≡ unsettled_now j idle
-    → moved ≡ moved_now j.unanswered (accepted_code (kind_told j.line.accepted)) j.line j.moved → jog_moved ≡ moved_now j.unanswered (accepted_jog (kind_told j.line.accepted)) j.line j.jog_moved
+    → moved ≡ moved_now (accepted_code (kind_told j.line.accepted)) j.line j.moved → jog_moved ≡ moved_now (accepted_jog (kind_told j.line.accepted)) j.line j.jog_moved
     → HasJudged (record j { line = l; in_hand = false; moved = moved; jog_moved = jog_moved; jogs = jogs; unsettled = unsettled }) first sent replies records
 closes j idle l moved jog_moved jogs unsettled first sent replies records s done is new jogs_is unsettled_is moved_is jog_is =
     line_closed j l moved jog_moved jogs unsettled first sent replies records s done new moved_is jog_is

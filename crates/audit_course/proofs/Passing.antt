@@ -28,39 +28,35 @@ use Rattle.part_making.proofs.Refused.{asked as asked_next}
 use Rattle.run_texts.specs.Making.{Making, IsMade}
 use Rattle.run_texts.specs.Points.{Point, opening}
 use Rattle.run_texts.specs.Sent.{Sent}
-use Rattle.audit_course.specs.declared.LastTask.{LastTask}
 use Rattle.audit_course.specs.declared.Progress.{Progress}
 use Rattle.audit_course.specs.declared.judge.CourseJudge.{CourseJudge}
-use Rattle.audit_course.specs.Progressing.{last_behind, asks_ticks, has_ticks, is_halt, has_halt, Counts, IsUnseen, IsItemOf}
-use Rattle.audit_course.specs.SoFar.{GoesTo, HasJudged, OfLine, IsBare, EndsLate, left_to_tell}
-use Rattle.audit_course.proofs.Saying.{last_on, or_on}
+use Rattle.audit_course.specs.Progressing.{asks_ticks, has_ticks, is_halt, has_halt, Counts, IsUnseen, IsItemOf}
+use Rattle.audit_course.specs.SoFar.{GoesTo, HasJudged, OfLine, IsNoLine, IsBare, EndsLate, left_to_tell}
+use Rattle.audit_course.proofs.Saying.{or_on}
 
 -- ---- a task is done
+
+-- what has moved behind a line, by what is the same of it
+pub same_moved : (settles now of_kind kind moves before was : Bool) → settles ≡ now → of_kind ≡ kind → before ≡ was → (not settles && (of_kind && moves || before)) ≡ (not now && (kind && moves || was))
+same_moved settles now of_kind kind moves before was s k b =
+    ap (λ (x : Bool). not x && (of_kind && moves || before)) s ∙ ap (λ (x : Bool). not now && (x && moves || before)) k ∙ ap (λ (x : Bool). not now && (kind && moves || x)) b
 
 -- it counts in the line at hand
 counted : (j k : CourseJudge) (p : Point) (hand : List Outcome) (t : Task) → OfLine j p hand → IsNextOf t j.work.left → k.work.left ≡ drop 1 j.work.left → Counts j.line k.line t
     → k.moved ≡ j.moved → k.jog_moved ≡ j.jog_moved → k.jogged ≡ j.jogged → k.unanswered ≡ j.unanswered → k.in_hand ≡ j.in_hand → OfLine k p hand
 counted j k p hand t o next left counts moved jog_moved jogged unanswered in_hand = record {
   work = o.work;
-  settles = o.settles;
   limit = o.limit;
-  last = ap (λ (l : LastTask). last_behind l k.work.left) counts.last ∙ ap (last_behind (last_behind j.line.last (t ∷ []))) left
-      ∙ sym (last_on j.line.last t (drop 1 j.work.left)) ∙ ap (last_behind j.line.last) (sym next) ∙ o.last;
   moves = flag has_moves (asks_move t) (λ ts. refl) k.line.moves j.line.moves counts.moves o.work o.moves;
   ticks = flag has_ticks (asks_ticks t) (λ ts. refl) k.line.asks j.line.asks counts.asks o.work o.ticks;
   halts = ap (λ (b : Bool). b || has_halt k.work.left) counts.halts ∙ ap (λ (ts : List Task). (j.line.halts || is_halt t) || has_halt ts) left
       ∙ or_on j.line.halts (is_halt t) (has_halt (drop 1 j.work.left)) ∙ ap (λ (ts : List Task). j.line.halts || has_halt ts) (sym next) ∙ o.halts;
-  other = λ e. o.other (sym kind ∙ e);
-  stays = o.stays;
-  moved = λ e. o.moved (sym moved ∙ e);
-  jog_moved = λ e. o.jog_moved (sym jog_moved ∙ e);
-  moves_now = λ s e. o.moves_now s (sym kind ∙ e);
-  jogs_now = λ s e. o.jogs_now s (sym jog ∙ e);
+  moved = o.moved ∙ sym (same_moved k.line.settles j.line.settles (accepted_code (kind_told k.line.accepted)) (accepted_code (kind_told j.line.accepted)) (has_moves o.work) k.moved j.moved counts.settles kind moved);
+  jog_moved = o.jog_moved ∙ sym (same_moved k.line.settles j.line.settles (accepted_jog (kind_told k.line.accepted)) (accepted_jog (kind_told j.line.accepted)) (has_moves o.work) k.jog_moved j.jog_moved counts.settles jog jog_moved);
   jogged = o.jogged ∙ sym jogged;
   alarmed = o.alarmed ∙ ap (λ (b : Bool). not b && o.limit) (sym unanswered);
   unheld = λ e. o.unheld (sym unanswered ∙ e);
-  unsettles = λ e. o.unsettles (sym unanswered ∙ e);
-  none = λ e. o.none (sym in_hand ∙ e);
+  none = λ e. let n = o.none (sym in_hand ∙ e) in record { none = n.none; settles = counts.settles ∙ n.settles; code = kind ∙ n.code; jog = jog ∙ n.jog };
   are = are;
 } where
   kind : accepted_code (kind_told k.line.accepted) ≡ accepted_code (kind_told j.line.accepted)
@@ -69,8 +65,9 @@ counted j k p hand t o next left counts moved jog_moved jogged unanswered in_han
   jog : accepted_jog (kind_told k.line.accepted) ≡ accepted_jog (kind_told j.line.accepted)
   jog = ap (λ a. accepted_jog (kind_told a)) counts.accepted
 
-  are : AllByRecursion (λ x. (x.work ≡ o.work) × (x.settles ≡ o.settles) × (x.kind ≡ kind_told k.line.accepted)) hand
-  are = subst (λ a. AllByRecursion (λ (x : Outcome). (x.work ≡ o.work) × (x.settles ≡ o.settles) × (x.kind ≡ kind_told a)) hand) (sym counts.accepted) o.are
+  are : AllByRecursion (λ x. (x.work ≡ o.work) × (x.settles ≡ k.line.settles) × (x.kind ≡ kind_told k.line.accepted)) hand
+  are = subst (λ (b : Bool). AllByRecursion (λ (x : Outcome). (x.work ≡ o.work) × (x.settles ≡ b) × (x.kind ≡ kind_told k.line.accepted)) hand) (sym counts.settles)
+      (subst (λ a. AllByRecursion (λ (x : Outcome). (x.work ≡ o.work) × (x.settles ≡ j.line.settles) × (x.kind ≡ kind_told a)) hand) (sym counts.accepted) o.are)
 
   flag : (f : List Task → Bool) (here : Bool) → ((ts : List Task) → f (t ∷ ts) ≡ (here || f ts)) → (now before : Bool) → now ≡ (before || here) → (all : List Task)
       → (before || f j.work.left) ≡ f all → (now || f k.work.left) ≡ f all

@@ -29,9 +29,9 @@ use Rattle.run_texts.specs.Recorded.{AreRecorded, ticks_for_all}
 use Rattle.run_texts.specs.Sent.{Sent}
 use Rattle.run_texts.specs.Sent.Sent.{a_text, a_stop}
 use Rattle.run_texts.specs.Told.{told_in}
-use Rattle.audit_course.specs.declared.LastTask.TheVariants.{Nothing, Rest}
+use Rattle.audit_course.specs.declared.Progress.{Progress}
 use Rattle.audit_course.specs.declared.judge.CourseJudge.{CourseJudge}
-use Rattle.audit_course.specs.Progressing.{last_behind, has_ticks, has_halt}
+use Rattle.audit_course.specs.Progressing.{has_ticks, has_halt}
 
 -- What is left of texts that fit goes on to this point, from another one on: `GoesOn` of `run_texts`, with the point told.
 pub record GoesTo (p : Point) (since begun : List Outcome) (place : Steps3) (cuts : ℕ) (sent : List Sent) (replies : List Reply) (records : List Record) (last : Point) : Type 0 where
@@ -47,28 +47,28 @@ left_to_tell j = cond j.unanswered [] (tells j.work.left)
 
 -- ---- the line at hand
 
--- A line of this work was begun, or none: what is left to do of it, and what its tasks so far say of it, agree. What it
--- leaves for the next is known where it does not settle. It is at hand, unless it is not answered.
+-- no line is at hand: none settles, and nothing is accepted
+pub record IsNoLine (l : Progress) (hand : List Outcome) : Type 0 where
+  pub none : hand ≡ []
+  pub settles : l.settles ≡ false
+  pub code : accepted_code (kind_told l.accepted) ≡ false
+  pub jog : accepted_jog (kind_told l.accepted) ≡ false
+
+-- A line of this work was begun, or none: what is left to do of it, and what its tasks so far say of it, agree. What has
+-- moved behind it is known by what had before it. It is at hand, unless it is not answered.
 pub record OfLine (j : CourseJudge) (p : Point) (hand : List Outcome) : Type 0 where
   pub work : List Task
-  pub settles : Bool
   pub limit : Bool
-  pub last : last_behind j.line.last j.work.left ≡ last_behind Nothing work
   pub moves : (j.line.moves || has_moves j.work.left) ≡ has_moves work
   pub ticks : (j.line.asks || has_ticks j.work.left) ≡ has_ticks work
   pub halts : (j.line.halts || has_halt j.work.left) ≡ limit
-  pub other : accepted_code (kind_told j.line.accepted) ≡ false → settles ≡ false
-  pub stays : (last_behind Nothing work ≡ Rest → ⊥) → settles ≡ false
-  pub moved : j.moved ≡ true → settles ≡ false → p.before.moved ≡ true
-  pub jog_moved : j.jog_moved ≡ true → settles ≡ false → p.before.jog_moved ≡ true
-  pub moves_now : settles ≡ false → accepted_code (kind_told j.line.accepted) ≡ true → has_moves work ≡ true → p.before.moved ≡ true
-  pub jogs_now : settles ≡ false → accepted_jog (kind_told j.line.accepted) ≡ true → has_moves work ≡ true → p.before.jog_moved ≡ true
+  pub moved : p.before.moved ≡ (not j.line.settles && (accepted_code (kind_told j.line.accepted) && has_moves work || j.moved))
+  pub jog_moved : p.before.jog_moved ≡ (not j.line.settles && (accepted_jog (kind_told j.line.accepted) && has_moves work || j.jog_moved))
   pub jogged : p.before.jogged ≡ j.jogged
   pub alarmed : p.before.alarmed ≡ (not j.unanswered && limit)
   pub unheld : j.unanswered ≡ true → hand ≡ []
-  pub unsettles : j.unanswered ≡ true → settles ≡ false
-  pub none : j.in_hand ≡ false → (hand ≡ []) × (settles ≡ false)
-  pub are : AllByRecursion (λ o. (o.work ≡ work) × (o.settles ≡ settles) × (o.kind ≡ kind_told j.line.accepted)) hand
+  pub none : j.in_hand ≡ false → IsNoLine j.line hand
+  pub are : AllByRecursion (λ o. (o.work ≡ work) × (o.settles ≡ j.line.settles) × (o.kind ≡ kind_told j.line.accepted)) hand
 
 -- ---- the part
 
@@ -204,8 +204,8 @@ EndsSoFar j k = (first : State) (sent : List Sent) (replies : List Reply) (recor
 -- a point of which a judge knows this
 pub record Knows (j : CourseJudge) (p : Point) : Type 0 where
   pub locked : p.locked ≡ j.locked
-  pub moved : j.moved ≡ true → p.before.moved ≡ true
-  pub jog_moved : j.jog_moved ≡ true → p.before.jog_moved ≡ true
+  pub moved : p.before.moved ≡ j.moved
+  pub jog_moved : p.before.jog_moved ≡ j.jog_moved
   pub jogged : p.before.jogged ≡ j.jogged
 
 -- of a line of which this is kept it becomes what is found

@@ -6,17 +6,17 @@ ghost use Rattle.status_report.specs.Answering.{is_report};
 ghost use Rattle.status_report.specs.Replies.{IsReply};
 ghost use Rattle.step_line.specs.declared.Mark.{Mark as AnyMark};
 ghost use Rattle.step_line.specs.declared.planned_move.PlannedMove.{PlannedMove as AnyMove};
-ghost use Rattle.step_line.specs.Asking.Asked.{a_move, a_mark, a_rest};
+ghost use Rattle.step_line.specs.Asking.Asked.{a_move, a_mark};
 ghost use Rattle.run_rules.specs.declared.State.{State as AnyState};
 ghost use Rattle.run_rules.specs.States.{IsOpening};
 ghost use Rattle.run_rules.specs.Work.{Task};
-ghost use Rattle.run_rules.specs.Work.Task.{ask, tell, pause, normal, finish, halt};
+ghost use Rattle.run_rules.specs.Work.Task.{ask, tell, halt};
 ghost use Rattle.line_interpreter.specs.Lefts.{IsNextOf, IsTodo};
 ghost use Rattle.audit_course.specs.Progressing.{Counts, IsNew};
 ghost use Rattle.audit_course.specs.SoFar.{HasJudged, AddsReply};
 
+use crate::Progress;
 use crate::valid::ValidState;
-use crate::{LastTask, Progress};
 use line_interpreter::{Accepted, Interpreter, Todo};
 use part_making::{Item, PartJudge};
 use status_report::Reply;
@@ -69,16 +69,17 @@ pub struct CourseJudge {
 }
 
 impl Progress {
-    /// No task is done.
-    pub(crate) fn begin(accepted: Accepted) -> Progress
+    /// No task is done of a line that settles or doesn't.
+    pub(crate) fn begin(accepted: Accepted, settles: bool) -> Progress
         ensures is_new { IsNew result }
         ensures accepted { result.accepted ≡ accepted }
+        ensures settles { result.settles ≡ settles }
     {
         Progress {
             accepted,
             moves: false,
             asks: false,
-            last: LastTask::Nothing,
+            settles,
             halts: false,
         }
     }
@@ -90,7 +91,6 @@ impl Progress {
         Progress {
             moves: true,
             asks: true,
-            last: LastTask::Move,
             ..self
         }
     }
@@ -99,24 +99,7 @@ impl Progress {
     fn with_mark(self) -> Progress
         ensures { (m : AnyMark) → Counts self result (ask (a_mark m)) }
     {
-        Progress {
-            asks: true,
-            last: LastTask::Rest,
-            ..self
-        }
-    }
-
-    /// The machine comes to rest, or is at rest.
-    fn with_rest(self) -> Progress
-        ensures rest { Counts self result (ask a_rest) }
-        ensures pause { Counts self result pause }
-        ensures normal { Counts self result normal }
-        ensures finish { Counts self result finish }
-    {
-        Progress {
-            last: LastTask::Rest,
-            ..self
-        }
+        Progress { asks: true, ..self }
     }
 
     /// The machine is halted.
@@ -124,7 +107,6 @@ impl Progress {
         ensures { Counts self result halt }
     {
         Progress {
-            last: LastTask::Rest,
             halts: true,
             ..self
         }
@@ -132,6 +114,7 @@ impl Progress {
 }
 
 /// What a task says of the line.
+#[tactic(auto, using(crate::proofs::Saying::counts_nothing))]
 pub(crate) fn counted(line: Progress, todo: Todo) -> Progress
     ensures { (left : List Task) → IsTodo todo left → (t : Task) → IsNextOf t left → Counts line result t }
 {
@@ -139,8 +122,7 @@ pub(crate) fn counted(line: Progress, todo: Todo) -> Progress
         Todo::Move => line.with_move(),
         Todo::Mark(_) => line.with_mark(),
         Todo::Halt => line.with_halt(),
-        Todo::Rest | Todo::Pause | Todo::Normal | Todo::Finish => line.with_rest(),
-        Todo::Tell | Todo::Nothing => line,
+        _ => line,
     }
 }
 
@@ -169,7 +151,7 @@ impl CourseJudge {
             moved: false,
             jog_moved: false,
             jogged: false,
-            line: Progress::begin(Accepted::Neither),
+            line: Progress::begin(Accepted::Neither, false),
         }
     }
 

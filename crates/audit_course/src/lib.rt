@@ -13,18 +13,7 @@ mod valid;
 pub use judge::{CourseJudge, Next};
 use line_interpreter::Accepted;
 
-/// What the last task of a line is that tells nothing.
-#[derive(Clone, Copy, PartialEq, Eq)]
-pub(crate) enum LastTask {
-    /// There is none.
-    Nothing,
-    /// A move.
-    Move,
-    /// Another one, behind which the machine stands.
-    Rest,
-}
-
-/// What is known of the line at hand by its tasks so far.
+/// What is known of the line at hand, by how it was judged and by its tasks so far.
 #[derive(Clone, Copy)]
 pub(crate) struct Progress {
     /// What was accepted.
@@ -33,7 +22,8 @@ pub(crate) struct Progress {
     pub(crate) moves: bool,
     /// It asks for a move or a mark.
     pub(crate) asks: bool,
-    pub(crate) last: LastTask,
+    /// The machine stands behind it: it has items, and the last is no move. A line that is not answered doesn't settle.
+    pub(crate) settles: bool,
     /// It halts the machine: it raises the alarm of a soft limit.
     pub(crate) halts: bool,
 }

@@ -6,12 +6,12 @@ ghost use Rattle.run_rules.specs.Work.{accepted_code, accepted_jog};
 ghost use Rattle.run_texts.specs.Sent.Sent.{a_text};
 ghost use Rattle.line_interpreter.specs.Desks.{kind_told};
 ghost use Rattle.line_interpreter.specs.Keeping.{IsKept};
-ghost use Rattle.audit_course.specs.Progressing.{moved_now, stays_on, fresh};
+ghost use Rattle.audit_course.specs.Progressing.{moved_now, fresh};
 ghost use Rattle.audit_course.specs.SoFar.{StaysSoFar, AddsSent, RefusesLine, MayBegin, IsIdle, FindsRight, FindsStill};
 
 use crate::machines::unlocks;
 use crate::valid::ValidState;
-use crate::{CourseJudge, LastTask, MotionError, Progress};
+use crate::{CourseJudge, MotionError, Progress};
 use line_interpreter::{Accepted, KeptLine};
 use run_rules::Machine;
 
@@ -69,18 +69,11 @@ impl Progress {
         self.is_jog() || !self.asks
     }
 
-    /// Whether the line does not settle, where all of it is done.
-    fn stays_on(&self) -> bool
-        ensures { result ≡ stays_on self.now }
-    {
-        !self.is_code() || self.last != LastTask::Rest
-    }
-
     /// Whether lines of G-code have moved, or jogs have, up to it, since an answered line settled.
-    fn moved_now(&self, unanswered: bool, of_kind: bool, before: bool) -> bool
-        ensures { result ≡ moved_now unanswered of_kind self.now before }
+    fn moved_now(&self, of_kind: bool, before: bool) -> bool
+        ensures { result ≡ moved_now of_kind self.now before }
     {
-        if_answered(unanswered, self.stays_on()) && (of_kind && self.moves || before)
+        !self.settles && (of_kind && self.moves || before)
     }
 
     /// No line is at hand, whether or not the machine was halted.
@@ -91,7 +84,7 @@ impl Progress {
             accepted: Accepted::Neither,
             moves: false,
             asks: false,
-            last: LastTask::Nothing,
+            settles: false,
             halts,
         }
     }
@@ -129,13 +122,9 @@ impl CourseJudge {
             self.jogs,
             if_answered(self.unanswered, line.loses_jogs()),
         );
-        self.unsettled = may_lose(
-            idle,
-            self.unsettled,
-            if_answered(self.unanswered, line.stays_on()),
-        );
-        self.moved = line.moved_now(self.unanswered, line.is_code(), self.moved);
-        self.jog_moved = line.moved_now(self.unanswered, line.is_jog(), self.jog_moved);
+        self.unsettled = may_lose(idle, self.unsettled, !line.settles);
+        self.moved = line.moved_now(line.is_code(), self.moved);
+        self.jog_moved = line.moved_now(line.is_jog(), self.jog_moved);
         self.in_hand = false;
         self.line = Progress::fresh(line.halts);
     }
@@ -159,13 +148,13 @@ impl CourseJudge {
         ensures { (kept : List ℕ) → IsKept line.now kept → AddsSent self.old self.new (a_text kept ∷ []) }
     {
         let unlocked = unlocks(line);
-        let accepted = self.work.judge(line, machine);
+        let judged = self.work.judge_settling(line, machine);
         self.state = ValidState::of(self.work.state());
         self.locked = still_locked(self.locked, unlocked);
-        self.jogged = jogged_behind(accepted, self.jogged);
+        self.jogged = jogged_behind(judged.accepted, self.jogged);
         self.has_line = true;
         self.in_hand = true;
-        self.line = Progress::begin(accepted);
+        self.line = Progress::begin(judged.accepted, judged.settles);
     }
 
     /// A line is begun, of which the console tells this error, if any: whether it may be. Then it is the line at hand. If it may
@@ -196,7 +185,7 @@ impl CourseJudge {
         self.unanswered = true;
         self.touched = false;
         self.in_hand = true;
-        self.line = Progress::begin(Accepted::Code);
+        self.line = Progress::begin(Accepted::Code, false);
     }
 
     /// A line is begun that a reset keeps from its answer: whether it may be. Then it is the line at hand, and the next

@@ -41,7 +41,7 @@ fn is_dollar(kept: &[u8]) -> bool
 impl CourseJudge {
     /// Whether lines of this kind may be refused with 8.
     fn has_cause(&self, kind: Kind) -> bool
-        ensures { result ≡ true → (p : Point) → Knows self.now p → has_cause p.before kind ≡ true }
+        ensures { (p : Point) → Knows self.now p → result ≡ has_cause p.before kind }
     {
         match kind {
             Kind::ListOffsets | Kind::Setting => self.moved || self.jog_moved,

@@ -117,20 +117,20 @@ with_body d body = record d { line = record d.line { body = body; stage = 0 } }
 
 -- a line that changes the settings alone, or nothing
 pub accepted_begun : (old new : Desk) (s : State) → new ≡ with_body (record old { state = s }) Accepted → Begun new (told s []) Neither
-accepted_begun old new s same = rw same (record { state = refl; left = refl; answer = refl })
+accepted_begun old new s same = rw same (record { state = refl; left = refl; answer = refl; settles = refl })
 
 pub settings_begun : (old new : Desk) → new ≡ with_body old Settings → Begun new (told old.state (setting_replies old.state.settings)) Neither
-settings_begun old new same = rw same (record { state = refl; left = append-nil _; answer = refl })
+settings_begun old new same = rw same (record { state = refl; left = append-nil _; answer = refl; settles = refl })
 
 pub modes_begun : (old new : Desk) → new ≡ with_body old Modes → Begun new (told old.state (modes_replies old.state.parser)) Neither
-modes_begun old new same = rw same (record { state = refl; left = append-nil _; answer = refl })
+modes_begun old new same = rw same (record { state = refl; left = append-nil _; answer = refl; settles = refl })
 
 -- and a line that unlocks the machine
 pub unlock_begun : (old new : Desk) (b : Before) → b.state ≡ old.state → new ≡ with_body old Unlocks → Begun new (unlocked b) Neither
-unlock_begun old new b is same = rw same (record { state = sym is; left = refl; answer = refl })
+unlock_begun old new b is same = rw same (record { state = sym is; left = refl; answer = refl; settles = refl })
 
 pub offsets_begun : (old new : Desk) → new ≡ with_body old Offsets → Begun new (told old.state (offset_replies old.state.parser.offsets)) Neither
-offsets_begun old new same = rw same (record { state = refl; left = append-nil _; answer = refl })
+offsets_begun old new same = rw same (record { state = refl; left = append-nil _; answer = refl; settles = refl })
 
 pub begun_number : (old new : Desk) (body : Body) → new ≡ with_body old body → new.number ≡ old.number
 begun_number old new body same = ap (λ (d : Desk). d.number) same

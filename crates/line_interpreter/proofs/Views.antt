@@ -1,5 +1,5 @@
 -- What contracts see of an interpreter.
-use Rattle.std.proofs.Common.{◌≡◌, ℕ, ◌+◌, List, ap, ◌∙◌, subst}
+use Rattle.std.proofs.Common.{◌≡◌, ℕ, ◌+◌, Bool, List, ap, ◌∙◌, subst}
 use Rattle.run_rules.specs.declared.State.{State}
 use Rattle.run_rules.specs.Work.{Task, Outcome}
 use Rattle.run_rules.specs.declared.machine.Machine.{Machine}
@@ -7,7 +7,7 @@ use Rattle.run_rules.specs.Finding.{Found}
 use Rattle.line_interpreter.specs.Since.{Since}
 use Rattle.line_interpreter.specs.declared.desk.Desk.{Desk}
 use Rattle.line_interpreter.specs.declared.desk.Accepted.{Accepted}
-use Rattle.line_interpreter.specs.Desks.{standing, kind_told, Begun}
+use Rattle.line_interpreter.specs.Desks.{standing, kind_told, settles_of, Begun}
 use Rattle.line_interpreter.specs.Interpreting.{Interpreting, interpreting, stands_before}
 
 same_view : (a b : Interpreting) → a.state ≡ b.state → a.number ≡ b.number → a.left ≡ b.left → a ≡ b
@@ -26,3 +26,14 @@ pub judged : (d new : Desk) (i : Interpreting) (m : Machine) (kept : List ℕ) (
 judged d new i m kept since accepted e number x =
     subst (JudgedFrom m kept since accepted (interpreting new)) e
     (x.0, x.1, same_view (interpreting new) (record { state = x.0.next; number = d.number + 1; left = x.0.work }) x.2.state number x.2.left, x.2.answer)
+
+-- and whether the machine stands behind it
+abbrev pub SettledFrom : Machine → List ℕ → Since → Accepted → Bool → Interpreting → Interpreting → Type 0
+SettledFrom m kept since accepted settles new i =
+    (o : Outcome) × Found m (stands_before i since) kept o × (new ≡ record { state = o.next; number = i.number + 1; left = o.work }) × (kind_told accepted ≡ o.kind) × (settles ≡ o.settles)
+
+pub judged_settling : (d new : Desk) (i : Interpreting) (m : Machine) (kept : List ℕ) (since : Since) (accepted : Accepted) (settles : Bool) → interpreting d ≡ i → new.number ≡ d.number + 1 → settles ≡ settles_of new.line
+    → ((o : Outcome) × Found m (standing d since) kept o × Begun new o accepted) → SettledFrom m kept since accepted settles (interpreting new) i
+judged_settling d new i m kept since accepted settles e number told x =
+    subst (SettledFrom m kept since accepted settles (interpreting new)) e
+    (x.0, x.1, same_view (interpreting new) (record { state = x.0.next; number = d.number + 1; left = x.0.work }) x.2.state number x.2.left, x.2.answer, told ∙ x.2.settles)

@@ -59,6 +59,15 @@ pub enum Accepted {
     Neither,
 }
 
+/// What a line is judged to be.
+#[derive(Clone, Copy)]
+pub struct Judged {
+    /// What is accepted.
+    pub accepted: Accepted,
+    /// The machine stands behind the line: it has items, and the last is no move.
+    pub settles: bool,
+}
+
 /// The error of words that can't be read.
 fn fault_code(fault: WordFault) -> Code
     ensures { result.0 ≡ fault_number fault }

@@ -23,7 +23,7 @@ ghost use Rattle.line_interpreter.specs.Interpreting.{stands_before};
 ghost use Rattle.line_interpreter.specs.Desks.{kind_told};
 ghost use Rattle.run_rules.specs.Resets.{reset_state};
 
-use crate::desk::{Accepted, Desk};
+use crate::desk::{Accepted, Desk, Judged};
 use crate::kept::KeptLine;
 use crate::reporting::{Seen, report, shows_room};
 use crate::tasks::Todo;
@@ -77,6 +77,19 @@ impl Interpreter {
         ensures number { self.new.number ≡ self.old.number + 1 }
     {
         self.desk.judge(line, machine)
+    }
+
+    /// Begins the next line as `judge` does, and answers whether the machine stands behind it, too.
+    pub fn judge_settling(&mut self, line: &KeptLine, machine: Machine) -> Judged
+        requires few { self.old.number + 1 < 2 ^ 32 }
+        ensures becomes { (since : Since) (kept : List ℕ) → IsKept line.now kept → (o : Outcome) × Found machine (stands_before self.old since) kept o
+            × (self.new ≡ record { state = o.next; number = self.old.number + 1; left = o.work }) × (kind_told result.accepted ≡ o.kind) × (result.settles ≡ o.settles) }
+        ensures valid { IsState self.new.state }
+        ensures number { self.new.number ≡ self.old.number + 1 }
+    {
+        let accepted = self.desk.judge(line, machine);
+        let settles = self.desk.line.settles();
+        Judged { accepted, settles }
     }
 
     /// Behind the last line the machine gets the end, which waits for it to rest, and Bye is told.

@@ -11,7 +11,7 @@ mod kept;
 mod reporting;
 mod tasks;
 
-pub use desk::Accepted;
+pub use desk::{Accepted, Judged};
 pub use interpreter::Interpreter;
 pub use kept::KeptLine;
 pub use reporting::Seen;

@@ -4,7 +4,7 @@ ghost use Rattle.std.specs.Prelude.{◌≡◌, ℕ, ◌≢◌, List, ◌+◌, �
 ghost use Rattle.step_line.specs.Records.{IsMark};
 ghost use Rattle.step_line.specs.Asking.{IsPlannedMove};
 ghost use Rattle.step_line.specs.Asking.Asked.{a_move, a_mark, a_rest};
-ghost use Rattle.gcode_check.specs.Items.{IsItem};
+ghost use Rattle.gcode_check.specs.Items.{IsItem, is_move, settling};
 ghost use Rattle.run_rules.specs.Asks.{planned, move_asked, spindle_off, coolant_off, spindle_after, flood_after, at_rest, item_work};
 ghost use Rattle.run_rules.specs.Work.{telling, asking, closing_work, halting_work};
 ghost use Rattle.run_rules.specs.Work.Task.{ask, tell, pause, normal, finish, halt};
@@ -23,6 +23,7 @@ ghost use Rattle.status_report.specs.declared.Reply.{Reply as AnyReply};
 ghost use Rattle.step_line.specs.declared.planned_move.PlannedMove.{PlannedMove as AnyMove};
 ghost use Rattle.units.specs.declared.Move.{Move as AnyWay};
 ghost use Rattle.units.specs.declared.Rate.{Rate as AnyRate};
+ghost use Rattle.line_interpreter.specs.Desks.{settles_of};
 ghost use Rattle.line_interpreter.specs.Lefts.{IsTodo, IsNextOf, IsSound, part_left, work_left, IsSettled, KnowsNext};
 
 use crate::greetings::{greeting_count, greeting_told};
@@ -375,6 +376,23 @@ fn unlock_told(stage: u8) -> Reply
     }
 }
 
+/// Whether an item is a move.
+fn is_move(item: &Item) -> bool
+    ensures { result ≡ is_move item.now }
+{
+    matches!(item, Item::Move(_, _))
+}
+
+/// Whether items settle: there are some, and the last is no move.
+fn settles(items: &[Item]) -> bool
+    ensures { result ≡ settling items.now }
+{
+    match items.last() {
+        Some(item) => !is_move(item),
+        None => false,
+    }
+}
+
 impl Line {
     /// Nothing is left of it.
     pub(crate) fn opening() -> Line
@@ -410,6 +428,13 @@ impl Line {
         };
         self.place = 0;
         self.stage = 0;
+    }
+
+    /// Whether the machine stands behind the line: it has items, and the last is no move.
+    pub(crate) fn settles(&self) -> bool
+        ensures { result ≡ settles_of self.now }
+    {
+        matches!(self.body, Body::Items) && settles(self.items.as_slice())
     }
 
     /// What is next of the present item, or `ok` behind the last one.
@@ -546,6 +571,7 @@ impl Line {
         ensures left { (s : AnyState) → work_left self.new s ≡ work_left self.old s }
         ensures settled { (s : AnyState) → IsSettled self.new s }
         ensures next { KnowsNext self.new }
+        ensures settles { settles_of self.new ≡ settles_of self.old }
     {
         while self.is_passed() {
             self.pass();

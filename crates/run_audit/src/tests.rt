@@ -187,6 +187,35 @@ fn limited_lines_are_left_unanswered(rt: HostRuntime) -> Result<(), Fail> {
     Ok(())
 }
 
+/// A mark and then a move of no steps: the machine stands behind them, but the line does not settle. So the mark may be lost at
+/// a reset, and a list may be refused behind it as if the machine ran.
+#[test]
+fn moves_of_no_steps_settle_nothing(rt: HostRuntime) -> Result<(), Fail> {
+    let console = b"\r\nGrbl 1.1h ['$' for help]\r\nok\r\n\r\nGrbl 1.1h ['$' for help]\r\nok\r\n";
+    let job = b"G4P1G0X0\n\x18";
+    assert_eq!(rt;
+        found(&rt, job, console, b"Z 1\nE\n")?,
+        Audit::Fits { events: 0 }
+    );
+    let job = b"G0X0\nG4P1\n\x18";
+    let console =
+        b"\r\nGrbl 1.1h ['$' for help]\r\nok\r\nok\r\n\r\nGrbl 1.1h ['$' for help]\r\nok\r\n";
+    assert_eq!(rt;
+        found(&rt, job, console, b"Z 2\nE\n")?,
+        Audit::Misfit { at: 0 }
+    );
+    let steps = b"s 1 1 0 320000\nX+\nD 1000\nE\n";
+    let console = b"\r\nGrbl 1.1h ['$' for help]\r\nok\r\nok\r\nerror:8\r\n";
+    let job = b"G0X0.004\nG4P1X0.004\n$$\n";
+    assert_eq!(rt; found(&rt, job, console, steps)?, Audit::Fits { events: 1 });
+    let job = b"G0X0.004\nG4P1\n$$\n";
+    assert_eq!(rt;
+        found(&rt, job, console, steps)?,
+        Audit::BadReplies { line: 3 }
+    );
+    Ok(())
+}
+
 #[test]
 fn words_are_three(rt: HostRuntime) -> Result<(), Fail> {
     let mut job = MemSource::new(b"", 1, &[]);

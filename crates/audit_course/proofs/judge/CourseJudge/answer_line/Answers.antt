@@ -4,10 +4,10 @@ use Rattle.audit_course.proofs.Beginning.{line_answered}
 use Rattle.audit_course.proofs.judge.CourseJudge.answer_line.Goals as goal
 
 pub of-self-requires : goal.of-self-requires
-of-self-requires c = subst IsState (sym c.state.ensures.is) c.judge-accepted.ensures.valid
+of-self-requires c = subst IsState (sym c.state.ensures.is) c.judge_settling-judged.ensures.valid
 
 pub returns : goal.returns
 returns c = λ kept is first sent replies records s.
-    line_answered c.args.self.now c.args.machine c.judge-accepted.new.self c.of-self.result c.still_locked-self.result c.jogged_behind-self.result c.begin-self.result c.judge-accepted.result kept first sent replies records s
-    c.requires.may (λ since. c.judge-accepted.ensures.becomes since kept is) (c.requires.found kept is) (c.of-self.ensures ∙ c.state.ensures.is) c.begin-self.ensures.is_new c.begin-self.ensures.accepted c.jogged_behind-self.ensures
+    line_answered c.args.self.now c.args.machine c.judge_settling-judged.new.self c.of-self.result c.still_locked-self.result c.jogged_behind-self.result c.begin-self.result c.judge_settling-judged.result.accepted c.judge_settling-judged.result.settles kept first sent replies records s
+    c.requires.may (λ since. c.judge_settling-judged.ensures.becomes since kept is) (c.requires.found kept is) (c.of-self.ensures ∙ c.state.ensures.is) c.begin-self.ensures.is_new c.begin-self.ensures.accepted c.begin-self.ensures.settles c.jogged_behind-self.ensures
     (c.still_locked-self.ensures ∙ ap (λ (b : Bool). c.args.self.now.locked && not b) (c.unlocks-unlocked.ensures kept is))

@@ -8,9 +8,9 @@ returns-clause-stays c = λ first sent replies records s.
     let j = c.args.self.now in
     closes j c.is_idle-idle.result c.fresh-self.result c.moved_now-self.result c.moved_now-self-2.result c.may_lose-self.result c.may_lose-self-2.result first sent replies records s c.requires c.is_idle-idle.ensures.idle c.fresh-self.ensures
     (c.may_lose-self.ensures ∙ ap (λ (b : Bool). c.is_idle-idle.result || (j.jogs && b)) (c.if_answered.ensures ∙ ap (λ (b : Bool). j.unanswered || b) c.loses_jogs.ensures))
-    (c.may_lose-self-2.ensures ∙ ap (λ (b : Bool). c.is_idle-idle.result || (j.unsettled && b)) (c.if_answered-2.ensures ∙ ap (λ (b : Bool). j.unanswered || b) c.stays_on.ensures))
-    (c.moved_now-self.ensures ∙ ap (λ (b : Bool). moved_now j.unanswered b j.line j.moved) c.is_code.ensures)
-    (c.moved_now-self-2.ensures ∙ ap (λ (b : Bool). moved_now j.unanswered b j.line j.jog_moved) c.is_jog.ensures)
+    c.may_lose-self-2.ensures
+    (c.moved_now-self.ensures ∙ ap (λ (b : Bool). moved_now b j.line j.moved) c.is_code.ensures)
+    (c.moved_now-self-2.ensures ∙ ap (λ (b : Bool). moved_now b j.line j.jog_moved) c.is_jog.ensures)
 
 pub returns-clause-unsettled : goal.returns-clause-unsettled
 returns-clause-unsettled c = λ e. c.is_idle-idle.ensures.owes (or_first c.is_idle-idle.result _ (sym c.may_lose-self-2.ensures ∙ e))

@@ -10,4 +10,4 @@ returns c =
     (subst IsOpening (sym (ap (λ (i : Interpreting). i.state) c.done.ensures)) c.new-work.ensures.opening) c.opening.ensures
     (ap (λ (i : Interpreting). i.number) c.done.ensures ∙ c.new-work.ensures.number)
     (ap (λ (i : Interpreting). i.left) c.done.ensures ∙ ap (drop 1) c.new-work.ensures.left)
-    c.new.ensures c.begin.ensures.is_new c.begin.ensures.accepted
+    c.new.ensures c.begin.ensures.is_new c.begin.ensures.settles c.begin.ensures.accepted

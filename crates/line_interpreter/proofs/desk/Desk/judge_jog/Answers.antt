@@ -11,7 +11,7 @@ returns-in-Ok-clause-begun c = λ since.
     let is = c.judge_jog_words.ensures.begun since in (
       is.0,
       by_jog b _ (Ok c.read_words.new.words.items) is.0 (sym c.in-Ok.ensures.ok ∙ ap words_of c.jog_words.ensures) is.1,
-      record { state = is.2.state; left = is.2.left; answer = is.2.answer },
+      record { state = is.2.state; left = is.2.left; answer = is.2.answer; settles = is.2.settles },
     )
 
 pub returns-in-Err-clause-begun : goal.returns-in-Err-clause-begun
@@ -20,7 +20,7 @@ returns-in-Err-clause-begun c = λ since.
     let begun = rw c.fault_code.ensures at (c.refuse.ensures.begun since) in (
       refused b (fault_number c.in-Err.fault),
       by_jog b _ (Err c.in-Err.fault) (refused b (fault_number c.in-Err.fault)) (sym c.in-Err.ensures.err ∙ ap words_of c.jog_words.ensures) refl,
-      record { state = begun.state; left = begun.left; answer = begun.answer },
+      record { state = begun.state; left = begun.left; answer = begun.answer; settles = begun.settles },
     )
 
 pub returns-in-Ok-clause-number : goal.returns-in-Ok-clause-number

@@ -20,6 +20,7 @@ returns-in-Ok-clause-begun c = λ since.
         state = refl;
         left = rw c.begin_items.ensures.same (work_is d.number (record { parser = a.next; settings = d.state.settings }) d.state.parser.modal.spindle d.state.parser.modal.flood c.take_line.new.items.items);
         answer = refl;
+        settles = rw c.begin_items.ensures.same refl;
       },
     )
 
@@ -33,7 +34,7 @@ returns-in-Err-Error-clause-begun c = λ since.
     let same : record { parser = c.take_line.new.p; settings = s.settings } ≡ s = ap (λ (p : Parser). let next : State = record { parser = p; settings = s.settings } in next) c.in-Err-Error.ensures.same in (
       refused b code.0,
       by_verdict b _ (Refuse code) (refused b code.0) (sym (c.in-Err-Error.ensures.refused ∙ ap verdict_of c.in-Err-Error.field-0-is)) refl,
-      record { state = begun.state ∙ same; left = begun.left; answer = begun.answer },
+      record { state = begun.state ∙ same; left = begun.left; answer = begun.answer; settles = begun.settles },
     )
 
 pub returns-in-Err-SoftLimit-clause-begun : goal.returns-in-Err-SoftLimit-clause-begun
@@ -44,7 +45,7 @@ returns-in-Err-SoftLimit-clause-begun c = λ since.
     let same : record { parser = c.take_line.new.p; settings = s.settings } ≡ s = ap (λ (p : Parser). let next : State = record { parser = p; settings = s.settings } in next) c.in-Err-SoftLimit.ensures.same in (
       limited b,
       by_verdict b _ Limit (limited b) (sym (c.in-Err-SoftLimit.ensures.refused ∙ ap verdict_of c.in-Err-SoftLimit.field-0-is)) refl,
-      record { state = begun.state ∙ same; left = begun.left; answer = begun.answer },
+      record { state = begun.state ∙ same; left = begun.left; answer = begun.answer; settles = begun.settles },
     )
 
 pub take_line-requires : goal.take_line-requires
