@@ -32,7 +32,7 @@ use Rattle.run_texts.proofs.Making.{line_made}
 use Rattle.audit_course.specs.declared.Progress.{Progress}
 use Rattle.audit_course.specs.declared.judge.CourseJudge.{CourseJudge}
 use Rattle.audit_course.specs.Progressing.{has_ticks, has_halt, IsNew}
-use Rattle.audit_course.specs.SoFar.{GoesTo, HasJudged, OfLine, IsBare, EndsLate, MayBegin, Knows, FindsRight, FindsStill, left_to_tell}
+use Rattle.audit_course.specs.SoFar.{GoesTo, HasJudged, OfLine, IsBare, EndsLate, MayBegin, Knows, FindsRight, FindsStill, TellsFound, left_to_tell}
 use Rattle.audit_course.proofs.Going.{by_line, by_broken}
 use Rattle.audit_course.proofs.Parting.{none_of}
 use Rattle.audit_course.proofs.Passing.{same_moved}
@@ -48,7 +48,7 @@ pub record IsJudged (j : CourseJudge) (p : Point) (runs : Bool) (kept : List ℕ
   pub work : w ≡ record { state = o.next; number = j.work.number + 1; left = o.work }
   pub is_new : IsNew l
 
-no_alarm : (j : CourseJudge) (p : Point) (hand : List Outcome) → OfLine j p hand → MayBegin j → p.before.alarmed ≡ false
+pub no_alarm : (j : CourseJudge) (p : Point) (hand : List Outcome) → OfLine j p hand → MayBegin j → p.before.alarmed ≡ false
 no_alarm j p hand o b =
     let none : (j.line.halts || has_halt j.work.left) ≡ false = ap (λ (t : Bool). t || has_halt j.work.left) b.calm ∙ ap has_halt b.done in
     o.alarmed ∙ ap (λ (u : Bool). not u && o.limit) b.answered ∙ (sym o.halts ∙ none)
@@ -329,11 +329,11 @@ stands_there j first sent replies records s b =
     ap (λ (n : ℕ). before_line n j.work.state (since_at s.point)) (sym s.number)
     ∙ ap (λ (x : State). before_line s.point.before.number x (since_at s.point)) (sym (s.state ∙ s.same_state b.answered))
 
-taken_true : (t : Bool) (A B : Type 0) → t ≡ true → A → either t A B
+pub taken_true : (t : Bool) (A B : Type 0) → t ≡ true → A → either t A B
 taken_true true A B e a = a
 taken_true false A B e a = absurd cc
 
-taken_false : (t : Bool) (A B : Type 0) → t ≡ false → B → either t A B
+pub taken_false : (t : Bool) (A B : Type 0) → t ≡ false → B → either t A B
 taken_false true A B e b = absurd cc
 taken_false false A B e b = b
 
@@ -366,6 +366,16 @@ line_unanswered j machine w l accepted kept first sent replies records s b judge
     let becomes = finds s.point (known_at j first sent replies records s b) o.0 found in
     line_broken j (record j { work = w; has_line = true; unanswered = true; touched = false; in_hand = true; line = l }) kept o.0 w first sent replies records s b
     (record { becomes = becomes; says = says_still s.point kept o.0 becomes; work = o.2; is_new = new }) (ap kind_told code) settles refl
+
+pub line_tells : (j k : CourseJudge) (machine : Machine) (w : Interpreting) (accepted : Accepted) (settles : Bool) (kept : List ℕ) → MayBegin j
+    → ((since : Since) → (o : Outcome) × Found machine (stands_before j.work since) kept o × (w ≡ record { state = o.next; number = j.work.number + 1; left = o.work }) × (kind_told accepted ≡ o.kind) × (settles ≡ o.settles))
+    → k.work ≡ w → k.unanswered ≡ j.unanswered → TellsFound j k machine kept
+line_tells j k machine w accepted settles kept b judged work unanswered first sent replies records s =
+    let o = judged (since_at s.point) in (
+      o.0,
+      subst (λ (x : Before). Found machine x kept o.0) (stands_there j first sent replies records s b) o.1,
+      ap (λ (u : Bool). cond u [] (tells k.work.left)) (unanswered ∙ b.answered) ∙ ap (λ (i : Interpreting). tells i.left) (work ∙ o.2),
+    )
 
 -- ---- how the machine is found
 

@@ -8,11 +8,11 @@ use Rattle.run_rules.specs.Work.{Outcome}
 use Rattle.run_rules.proofs.Finding.{becomes_still}
 
 -- what holds of one choice holds of both
-on_either : (t : Bool) (A B C D : Type 0) → (t ≡ true → A → C) → (t ≡ false → B → D) → either t A B → either t C D
+pub on_either : (t : Bool) (A B C D : Type 0) → (t ≡ true → A → C) → (t ≡ false → B → D) → either t A B → either t C D
 on_either true A B C D f g x = f refl x
 on_either false A B C D f g x = g refl x
 
-chosen : (t : Bool) (A B : Type 0) → t ≡ true → either t A B → A
+pub chosen : (t : Bool) (A B : Type 0) → t ≡ true → either t A B → A
 chosen true A B e x = x
 chosen false A B e x = absurd cc
 

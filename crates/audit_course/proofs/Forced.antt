@@ -194,6 +194,25 @@ pub forced_line : (p last : Point) (since begun : List Outcome) (place : Steps3)
     → GoesTo p since begun place n (a_text kept ∷ more) (tells o.work ++ told) records last → GoesTo (behind_line p kept o) (since ++ o ∷ []) begun place n more told records last
 forced_line p last since begun place n kept o more told records free is later g = line_by p last since begun place n kept o more told records g.course free is later g.follows g.told g.recorded g.few
 
+-- a line comes next that is answered, where a reply is told first that no reset tells
+only_by : (p last : Point) (since begun : List Outcome) (place : Steps3) (kept : List ℕ) (more : List Sent) (r : Reply) (told : List Reply) (records : List Record) (ps : List Passed)
+    → p.before.alarmed ≡ false → EndsLate (p.before.number + 1) records → is_of_reset r ≡ false
+    → Follows p (a_text kept ∷ more) ps last → ◌≡◌ {A = List Reply} (r ∷ told) (told_in ps) → AreRecorded place (behind_lines since begun (parts_of ps)) records
+    → (u : Outcome) × BecomesAt true p kept u × (ys : List Reply) × (◌≡◌ {A = List Reply} (r ∷ told) (tells u.work ++ ys))
+only_by p last since begun place kept more r told records [] free later plain f e are = not_left p kept more f.1 free
+only_by p last since begun place kept more r told records (a_cut k at ∷ ps) free later plain f e are =
+    cut_too_early p k (by_cut k at) place since begun (a_cut k at ∷ ps) records f.0.number refl refl later are
+only_by p last since begun place kept more r told records (a_reset u ∷ ps) free later plain f e are =
+    cut_too_early p u.number (by_reset u) place since begun (a_reset u ∷ ps) records (sym f.0.number) refl refl later are
+only_by p last since begun place kept more r told records (a_broken u ∷ ps) free later plain f e are =
+    absurd (let g : false ≡ true = sym plain ∙ ap begins_epoch e ∙ broken_begins (behind_broken p u) last more ps f.1 refl in cc)
+only_by p last since begun place kept more r told records (a_line u ∷ ps) free later plain f e are = (u, f.0.becomes, told_in ps, e)
+
+pub only_line : (p last : Point) (since begun : List Outcome) (place : Steps3) (n : ℕ) (kept : List ℕ) (more : List Sent) (r : Reply) (told : List Reply) (records : List Record)
+    → p.before.alarmed ≡ false → EndsLate (p.before.number + 1) records → is_of_reset r ≡ false → GoesTo p since begun place n (a_text kept ∷ more) (r ∷ told) records last
+    → (u : Outcome) × BecomesAt true p kept u × (ys : List Reply) × (◌≡◌ {A = List Reply} (r ∷ told) (tells u.work ++ ys))
+only_line p last since begun place n kept more r told records free later plain g = only_by p last since begun place kept more r told records g.course free later plain g.follows g.told g.recorded
+
 -- ---- a line that is not answered
 
 broken_by : (p last : Point) (since begun : List Outcome) (place : Steps3) (n : ℕ) (kept : List ℕ) (o : Outcome) (more : List Sent) (told : List Reply) (records : List Record) (ps : List Passed)

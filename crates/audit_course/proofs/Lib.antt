@@ -10,3 +10,4 @@ pub mod Ending
 pub mod Opening
 pub mod FirstPart
 pub mod Refused
+pub mod Choosing

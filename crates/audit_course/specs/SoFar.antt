@@ -6,7 +6,7 @@ use Rattle.units.specs.declared.Steps3.{Steps3}
 use Rattle.flight.specs.Places.{moved_by, origin}
 use Rattle.legal_heads.specs.Whole.{events_among}
 use Rattle.status_report.specs.declared.Reply.{Reply}
-use Rattle.status_report.specs.declared.Reply.TheVariants.{Banner, Alarm}
+use Rattle.status_report.specs.declared.Reply.TheVariants.{Banner, Alarm, Error}
 use Rattle.step_line.specs.Asking.{ticks_of_all, moves_of, ticks_among}
 use Rattle.step_line.specs.declared.Mark.TheVariants.{Cut as CutMark, Reset as ResetMark}
 use Rattle.step_line.specs.declared.Record.{Record}
@@ -29,6 +29,8 @@ use Rattle.run_texts.specs.Recorded.{AreRecorded, ticks_for_all}
 use Rattle.run_texts.specs.Sent.{Sent}
 use Rattle.run_texts.specs.Sent.Sent.{a_text, a_stop}
 use Rattle.run_texts.specs.Told.{told_in}
+use Rattle.audit_course.specs.declared.MotionError.{MotionError}
+use Rattle.audit_course.specs.declared.MotionError.TheVariants as errors
 use Rattle.audit_course.specs.declared.Progress.{Progress}
 use Rattle.audit_course.specs.declared.judge.CourseJudge.{CourseJudge}
 use Rattle.audit_course.specs.Progressing.{has_ticks, has_halt}
@@ -211,6 +213,31 @@ pub record Knows (j : CourseJudge) (p : Point) : Type 0 where
 -- of a line of which this is kept it becomes what is found
 abbrev pub FindsRight : CourseJudge → Machine → List ℕ → Type 0
 FindsRight j machine kept = (p : Point) → Knows j p → (o : Outcome) → Found machine p.before kept o → BecomesAt true p kept o
+
+-- a reply that is told first of a line fits the error that the motion can cause, or that there is none
+abbrev pub IsErrorOf : MotionError → Reply → Type 0
+IsErrorOf errors.None r = (r ≡ Error 8 → ⊥) × (r ≡ Error 9 → ⊥)
+IsErrorOf errors.Busy r = r ≡ Error 8
+IsErrorOf errors.Locked r = r ≡ Error 9
+
+-- it becomes nothing else, if a reply is told first of it that fits the error
+abbrev pub FindsAlone : CourseJudge → MotionError → Machine → List ℕ → Type 0
+FindsAlone j error machine kept =
+    (p : Point) → Knows j p → (o u : Outcome) → Found machine p.before kept o → BecomesAt true p kept u → (r : Reply) (xs ys : List Reply) → tells u.work ++ ys ≡ r ∷ xs → IsErrorOf error r → u ≡ o
+
+-- the line is begun as it is found, and all that it tells is left to tell
+abbrev pub TellsFound : CourseJudge → CourseJudge → Machine → List ℕ → Type 0
+TellsFound j k machine kept =
+    (first : State) (sent : List Sent) (replies : List Reply) (records : List Record) (s : HasJudged j first sent replies records) → (o : Outcome) × Found machine s.point.before kept o × (left_to_tell k ≡ tells o.work)
+
+-- Texts that begin with what it was told, have this line next, end no part before it, and tell first of it a reply that fits the
+-- error and that no reset tells, tell all that is left to tell of the line now.
+abbrev pub TellsAlone : CourseJudge → CourseJudge → MotionError → List ℕ → Type 0
+TellsAlone j k error kept =
+    (first : State) (sent : List Sent) (replies : List Reply) (records : List Record) → HasJudged j first sent replies records → (n : ℕ) (more : List Sent) (r : Reply) (told : List Reply) (rest : List Record) (last : Point)
+    → EndsLate (j.work.number + 1) rest → is_of_reset r ≡ false → IsErrorOf error r
+    → GoesTo (opening first) [] [] origin (n + j.cuts) (sent ++ a_text kept ∷ more) (replies ++ (left_to_tell j ++ r ∷ told)) (records ++ rest) last
+    → (behind : List Reply) × (r ∷ told ≡ left_to_tell k ++ behind)
 
 -- and of one that is not answered what it would have become
 abbrev pub FindsStill : CourseJudge → Machine → List ℕ → Type 0

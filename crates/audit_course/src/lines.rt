@@ -7,7 +7,7 @@ ghost use Rattle.run_texts.specs.Sent.Sent.{a_text};
 ghost use Rattle.line_interpreter.specs.Desks.{kind_told};
 ghost use Rattle.line_interpreter.specs.Keeping.{IsKept};
 ghost use Rattle.audit_course.specs.Progressing.{moved_now, fresh};
-ghost use Rattle.audit_course.specs.SoFar.{StaysSoFar, AddsSent, RefusesLine, MayBegin, IsIdle, FindsRight, FindsStill};
+ghost use Rattle.audit_course.specs.SoFar.{StaysSoFar, AddsSent, RefusesLine, MayBegin, IsIdle, FindsRight, FindsStill, TellsAlone, TellsFound};
 
 use crate::machines::unlocks;
 use crate::valid::ValidState;
@@ -145,7 +145,8 @@ impl CourseJudge {
         requires may { MayBegin self.old }
         requires few { self.old.work.number + 1 < 2 ^ 32 }
         requires found { (kept : List ℕ) → IsKept line.now kept → FindsRight self.old machine kept }
-        ensures { (kept : List ℕ) → IsKept line.now kept → AddsSent self.old self.new (a_text kept ∷ []) }
+        ensures adds { (kept : List ℕ) → IsKept line.now kept → AddsSent self.old self.new (a_text kept ∷ []) }
+        ensures tells { (kept : List ℕ) → IsKept line.now kept → TellsFound self.old self.new machine kept }
     {
         let unlocked = unlocks(line);
         let judged = self.work.judge_settling(line, machine);
@@ -157,12 +158,14 @@ impl CourseJudge {
         self.line = Progress::begin(judged.accepted, judged.settles);
     }
 
-    /// A line is begun, of which the console tells this error, if any: whether it may be. Then it is the line at hand. If it may
-    /// not, though the last line is done and one more can be counted, no line may be begun here.
+    /// A line is begun, of which the console tells this error, if any: whether it may be. Then it is the line at hand, and texts
+    /// that tell first of it a reply that fits the error tell all that is left to tell of it. If it may not, though the last line
+    /// is done and one more can be counted, no line may be begun here.
     #[tactic(auto, using(crate::proofs::Refused::none_begins))]
     pub fn begin(&mut self, line: &KeptLine, error: MotionError) -> bool
         ensures no { result ≡ false → self.old.work.left ≡ [] → self.old.work.number + 1 < 2 ^ 32 → RefusesLine self.old }
         ensures yes { IsTrue result → (kept : List ℕ) → IsKept line.now kept → AddsSent self.old self.new (a_text kept ∷ []) }
+        ensures alone { IsTrue result → (kept : List ℕ) → IsKept line.now kept → TellsAlone self.old self.new error kept }
     {
         if !self.may_begin() {
             return false;

@@ -1,12 +1,12 @@
 //! How the machine is found, by the error that is told of a line.
 
-ghost use Rattle.std.specs.Prelude.{◌≡◌, true, List, ℕ};
+ghost use Rattle.std.specs.Prelude.{◌≡◌, true, false, List, ℕ};
 ghost use Rattle.run_rules.specs.Locking.{unlocks};
 ghost use Rattle.run_rules.specs.Outcomes.{has_cause, begins_with_dollar};
 ghost use Rattle.run_texts.specs.Points.{Point};
 ghost use Rattle.system_lines.specs.Commands.{kind_of, refused_in_run};
 ghost use Rattle.line_interpreter.specs.Keeping.{IsKept};
-ghost use Rattle.audit_course.specs.SoFar.{Knows, FindsRight, FindsStill};
+ghost use Rattle.audit_course.specs.SoFar.{Knows, FindsRight, FindsAlone, FindsStill};
 
 use crate::{CourseJudge, MotionError};
 use line_interpreter::KeptLine;
@@ -51,10 +51,12 @@ impl CourseJudge {
     }
 
     /// Whether a line may be refused with 8.
+    #[tactic(auto, using(crate::proofs::Choosing::none_caused))]
     fn is_busy(&self, kept: &[u8]) -> bool
         ensures dollar { result ≡ true → begins_with_dollar kept.now ≡ true }
         ensures kind { result ≡ true → refused_in_run (kind_of kept.now) ≡ true }
         ensures cause { result ≡ true → (p : Point) → Knows self.now p → has_cause p.before (kind_of kept.now) ≡ true }
+        ensures no { result ≡ false → begins_with_dollar kept.now ≡ true → (p : Point) → Knows self.now p → has_cause p.before (kind_of kept.now) ≡ false }
     {
         if !is_dollar(kept) {
             return false;
@@ -65,7 +67,8 @@ impl CourseJudge {
 
     /// How the machine is found where this error is told of a line.
     pub(crate) fn machine_for(&self, line: &KeptLine, error: MotionError) -> Machine
-        ensures { (kept : List ℕ) → IsKept line.now kept → FindsRight self.now result kept }
+        ensures right { (kept : List ℕ) → IsKept line.now kept → FindsRight self.now result kept }
+        ensures alone { (kept : List ℕ) → IsKept line.now kept → FindsAlone self.now error result kept }
     {
         if self.locked {
             return Machine::Locked;

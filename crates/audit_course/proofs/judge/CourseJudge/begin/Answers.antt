@@ -1,0 +1,11 @@
+use Rattle.std.proofs.Common.{rules, ap, ◌∙◌}
+use Rattle.line_interpreter.specs.Interpreting.{Interpreting}
+use Rattle.audit_course.specs.SoFar.{MayBegin}
+use Rattle.audit_course.proofs.Choosing.{tells_alone}
+use Rattle.audit_course.proofs.judge.CourseJudge.begin.Goals as goal
+
+pub returns-clause-alone : goal.returns-clause-alone
+returns-clause-alone c = λ yes kept is.
+    let may : MayBegin c.close.new.self = search rules in
+    tells_alone c.args.self.now c.close.new.self c.answer_line.new.self c.args.error c.machine_for-machine.result kept may
+    c.close.ensures.stays c.close.ensures.work c.close.ensures.unanswered c.close.ensures.cuts (c.machine_for-machine.ensures.alone kept is) (c.answer_line.ensures.tells kept is)
