@@ -248,7 +248,7 @@ cut_is k (by_cut j at) is = (refl, cc)
 cut_is k (by_reset r) is = absurd cc
 cut_is k by_end is = absurd cc
 
-reset_is : (k : ℕ) (e : Ending) → ◌≡◌ {A = Record} (kinds.Mark (marks.Reset k)) (ending_record e) → (is_stop e ≡ true) × (number_of e ≡ k)
+pub reset_is : (k : ℕ) (e : Ending) → ◌≡◌ {A = Record} (kinds.Mark (marks.Reset k)) (ending_record e) → (is_stop e ≡ true) × (number_of e ≡ k)
 reset_is k (by_cut j at) is = absurd cc
 reset_is k (by_reset r) is = (refl, cc)
 reset_is k by_end is = absurd cc

@@ -11,3 +11,4 @@ pub mod Opening
 pub mod FirstPart
 pub mod Refused
 pub mod Choosing
+pub mod Resetting

@@ -189,6 +189,13 @@ RefusesRecord j r =
     (first : State) (sent : List Sent) (replies : List Reply) (records : List Record) → HasJudged j first sent replies records → (n : ℕ) (more : List Sent) (told : List Reply) (rest : List Record) (last : Point)
     → MayFollow j told rest → GoesTo (opening first) [] [] origin (n + j.cuts) (sent ++ more) (replies ++ (left_to_tell j ++ told)) (records ++ r ∷ rest) last → ⊥
 
+-- Nor do texts with this reset next behind lines that are not begun, and its mark, told with or without its alarm.
+abbrev pub RefusesReset : CourseJudge → ℕ → ℕ → Bool → Type 0
+RefusesReset j k dropped alarm =
+    (lines : List (List ℕ)) → dropped ≡ length lines → (first : State) (sent : List Sent) (replies : List Reply) (records : List Record) → HasJudged j first sent replies records
+    → (n : ℕ) (more : List Sent) (told : List Reply) (rest : List Record) (last : Point)
+    → GoesTo (opening first) [] [] origin (n + j.cuts) (sent ++ (map a_text lines ++ a_stop ∷ more)) (replies ++ (left_to_tell j ++ (cond alarm (Alarm 3 ∷ []) [] ++ Banner ∷ told))) (records ++ kinds.Mark (ResetMark k) ∷ rest) last → ⊥
+
 -- No line may be begun where it stands, answered or not.
 abbrev pub RefusesLine : CourseJudge → Type 0
 RefusesLine j = (first : State) (sent : List Sent) (replies : List Reply) (records : List Record) (s : HasJudged j first sent replies records) (kept : List ℕ) (o : Outcome)

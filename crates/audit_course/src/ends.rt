@@ -6,7 +6,7 @@ ghost use Rattle.step_line.specs.declared.Record.TheVariants as kinds;
 ghost use Rattle.units.specs.Lengths.{IsPlace, IsCoordinate};
 ghost use Rattle.legal_heads.specs.Speeds.{MayStop};
 ghost use Rattle.part_making.specs.Judging.{coming_of, head_of};
-ghost use Rattle.audit_course.specs.SoFar.{AddsRecord, AddsReset, EndsSoFar, RefusesEnd, RefusesRecord, IsClosed, IsIdle, MayCut, MayReset, MayEnd};
+ghost use Rattle.audit_course.specs.SoFar.{AddsRecord, AddsReset, EndsSoFar, RefusesEnd, RefusesRecord, RefusesReset, IsClosed, IsIdle, MayCut, MayReset, MayEnd};
 
 use crate::{CourseJudge, Progress};
 use part_making::PartJudge;
@@ -119,15 +119,37 @@ impl CourseJudge {
         true
     }
 
-    /// Whether a reset may end the part behind this line, with or without its alarm.
-    fn may_reset(&self, k: u32, alarm: bool) -> bool
-        requires { IsClosed self.now }
-        ensures { IsTrue result → MayReset self.now k alarm }
+    /// Whether the machine is in its range, and so many lines can be counted besides.
+    fn can_drop(&self, dropped: u32) -> bool
+        ensures place { IsTrue result → IsPlace self.now.place }
+        ensures few { IsTrue result → self.now.work.number + dropped < 2 ^ 32 }
+        ensures no { result ≡ false → IsPlace self.now.place → self.now.work.number + dropped < 2 ^ 32 → ⊥ }
     {
-        !self.has_alarm()
+        u64::from(self.work.number()) + u64::from(dropped) <= u64::from(u32::MAX)
+            && is_place(&self.place)
+    }
+
+    /// Whether a reset may have its alarm, if it has one: something has moved.
+    fn has_moved_for(&self, alarm: bool) -> bool
+        ensures yes { IsTrue result → alarm ≡ true → (self.now.moved || self.now.jog_moved) ≡ true }
+        ensures no { result ≡ false → (alarm ≡ true → (self.now.moved || self.now.jog_moved) ≡ true) → ⊥ }
+    {
+        !alarm || self.moved || self.jog_moved
+    }
+
+    /// Whether a reset may end the part behind this line, with or without its alarm, and drop so many lines.
+    fn may_reset(&self, k: u32, dropped: u32, alarm: bool) -> bool
+        requires { IsClosed self.now }
+        ensures yes { IsTrue result → MayReset self.now k alarm }
+        ensures place { IsTrue result → IsPlace self.now.place }
+        ensures few { IsTrue result → self.now.work.number + dropped < 2 ^ 32 }
+        ensures no { result ≡ false → self.now.work.number ≡ k + 1 → self.now.unsettled ≡ true → IsPlace self.now.place → self.now.work.number + dropped < 2 ^ 32 → (not self.now.unanswered && self.now.line.halts) ≡ false → (alarm ≡ true → (self.now.moved || self.now.jog_moved) ≡ true) → ⊥ }
+    {
+        self.can_drop(dropped)
+            && !self.has_alarm()
             && u64::from(self.work.number()) == u64::from(k) + 1
             && self.unsettled
-            && (!alarm || self.moved || self.jog_moved)
+            && self.has_moved_for(alarm)
     }
 
     /// A reset ends the part, where the machine is, and drops so many lines.
@@ -156,18 +178,18 @@ impl CourseJudge {
     }
 
     /// A reset comes of the job, which drops so many lines that are not begun, and its mark, behind this line: whether it
-    /// may. Then what is told at it is to be told, with or without the alarm.
+    /// may. Then what is told at it is to be told, with or without the alarm. If it may not, though that is the last line, which is
+    /// done, and no tick is lost of a line up to the last that settles, no texts fit that have this reset next; the machine is in
+    /// its range, and the lines can be counted.
     pub fn reset(&mut self, k: u32, dropped: u32, alarm: bool) -> bool
-        ensures { IsTrue result → AddsReset self.old self.new k dropped }
+        ensures yes { IsTrue result → AddsReset self.old self.new k dropped }
+        ensures no { result ≡ false → self.old.work.left ≡ [] → self.old.work.number ≡ k + 1 → IsPlace self.old.place → self.old.work.number + dropped < 2 ^ 32 → self.new.unsettled ≡ true → RefusesReset self.old k dropped alarm }
     {
         if !self.work.is_done() {
             return false;
         }
         self.close();
-        if u64::from(self.work.number()) + u64::from(dropped) > u64::from(u32::MAX)
-            || !is_place(&self.place)
-            || !self.may_reset(k, alarm)
-        {
+        if !self.may_reset(k, dropped, alarm) {
             return false;
         }
         self.make_reset(k, dropped, alarm);

@@ -10,7 +10,7 @@ returns-then-reset-clause-so_far c = λ lines few job console steps jt ct st u.
     let a = c.args.self.now in
     let b : Auditor = record a { course = c.reset.new.self; recorded = c.take.new.self } in
     reset_told a b c.args.k c.args.dropped lines job console steps jt ct st (λ t told h. h) (λ t told h. h) (λ t told h. c.take.ensures.told (kinds.Mark (ResetMark c.args.k)) c.requires.next steps t told h) refl
-    (c.reset.ensures c.if-reset.true) few u
+    (c.reset.ensures.yes c.if-reset.true) few u
 
 pub returns-clause-so_far : goal.returns-clause-so_far
 returns-clause-so_far c = λ lines few job console steps jt ct st u.
