@@ -3,3 +3,4 @@ pub mod Reading
 pub mod Going
 pub mod SoFar
 pub mod UnderWay
+pub mod Along
