@@ -80,7 +80,7 @@ fn fault_code(fault: WordFault) -> Code
 
 /// What a reset leaves of a state, with the machine at this place: the settings, and the offsets but that of G92. All else of
 /// the parser begins anew there.
-fn reset_state(state: State, at: Steps3) -> State
+pub(crate) fn reset_state(state: State, at: Steps3) -> State
     requires state { IsState state }
     requires place { IsPlace at }
     ensures is { result ≡ reset_state at state }
@@ -116,7 +116,7 @@ impl Desk {
 
     /// The line asks for this, of which nothing is done.
     #[inline]
-    fn begin(&mut self, body: Body)
+    pub(crate) fn begin(&mut self, body: Body)
         requires body { body ≢ Body.Items }
         ensures same { self.new ≡ record self.old { line = record self.old.line { body = body; stage = 0 } } }
     {
@@ -360,119 +360,5 @@ impl Desk {
         self.line.settle();
         self.number += 1;
         accepted
-    }
-
-    /// The end is to be done.
-    pub(crate) fn close(&mut self)
-        requires ready { IsReady self.old }
-        ensures left { work_left self.new.line self.new.state ≡ closing_work }
-        ensures same { self.new ≡ record self.old { line = self.new.line } }
-        ensures ready { IsReady self.new }
-        ensures settled { IsSettled self.new.line self.new.state }
-        ensures next { KnowsNext self.new.line }
-    {
-        self.begin(Body::Closing);
-        self.line.settle();
-    }
-
-    /// A reset is worked behind the answered lines, which leave this state, with the machine at this place: lines are judged
-    /// from what the reset leaves on, behind so many more lines, and what greets behind it is to be told.
-    pub(crate) fn open_behind(
-        &mut self,
-        answered: State,
-        at: Steps3,
-        dropped: u32,
-        alarm: bool,
-        locked: bool,
-    )
-        requires ready { IsReady self.old }
-        requires state { IsState answered }
-        requires place { IsPlace at }
-        requires few { self.old.number + dropped < 2 ^ 32 }
-        ensures same { self.new ≡ record self.old { state = reset_state at answered; number = self.old.number + dropped; line = self.new.line } }
-        ensures left { work_left self.new.line self.new.state ≡ telling (greeting alarm locked) }
-        ensures ready { IsReady self.new }
-        ensures settled { IsSettled self.new.line self.new.state }
-        ensures next { KnowsNext self.new.line }
-    {
-        self.begin(Body::Greets(alarm, locked));
-        self.line.settle();
-        self.state = reset_state(answered, at);
-        self.number += dropped;
-    }
-
-    /// What there is to do next.
-    #[inline(always)]
-    pub(crate) fn todo(&self) -> Todo
-        requires next { KnowsNext self.now.line }
-        requires settled { IsSettled self.now.line self.now.state }
-        ensures { IsTodo result (work_left self.now.line self.now.state) }
-    {
-        self.line.next
-    }
-
-    /// Whether nothing is left to do.
-    #[inline(always)]
-    pub(crate) fn is_done(&self) -> bool
-        requires next { KnowsNext self.now.line }
-        requires settled { IsSettled self.now.line self.now.state }
-        ensures done { result ≡ true → work_left self.now.line self.now.state ≡ [] }
-        ensures going { result ≡ false → work_left self.now.line self.now.state ≢ [] }
-    {
-        self.line.is_done()
-    }
-
-    /// The reply that is next.
-    pub(crate) fn reply(&self) -> Reply
-        requires ready { IsReady self.now }
-        requires settled { IsSettled self.now.line self.now.state }
-        requires some { (reply : AnyReply) × IsNextOf (tell reply) (work_left self.now.line self.now.state) }
-        ensures next { IsNextOf (tell result) (work_left self.now.line self.now.state) }
-        ensures valid { IsReply result }
-        ensures plain { is_report result ≡ false }
-    {
-        self.line.part_reply(&self.state)
-    }
-
-    /// The move that is next.
-    pub(crate) fn planned_move(&self) -> PlannedMove
-        requires ready { IsReady self.now }
-        requires settled { IsSettled self.now.line self.now.state }
-        requires some { (m : AnyMove) × IsNextOf (ask (a_move m)) (work_left self.now.line self.now.state) }
-        ensures next { IsNextOf (ask (a_move result)) (work_left self.now.line self.now.state) }
-        ensures planned { IsPlannedMove result }
-    {
-        self.line.part_move(&self.state)
-    }
-
-    /// The place becomes the position from which the next line is judged.
-    pub(crate) fn rebase(&mut self, at: Steps3)
-        requires place { IsPlace at }
-        requires ready { IsReady self.old }
-        ensures same { self.new ≡ record self.old { state = record self.old.state { parser = rebased self.old.state.parser at self.old.state.settings.limits.per_mm } } }
-        ensures ready { IsReady self.new }
-        ensures left { work_left self.new.line self.new.state ≡ work_left self.old.line self.old.state }
-        ensures settled { IsSettled self.old.line self.old.state → IsSettled self.new.line self.new.state }
-        ensures next { KnowsNext self.old.line → KnowsNext self.new.line }
-    {
-        self.state
-            .parser
-            .rebase(at, &self.state.settings.limits.per_mm);
-    }
-
-    /// What there was to do next is done.
-    #[inline]
-    pub(crate) fn done(&mut self)
-        requires ready { IsReady self.old }
-        requires settled { IsSettled self.old.line self.old.state }
-        requires some { work_left self.old.line self.old.state ≢ [] }
-        ensures left { work_left self.new.line self.new.state ≡ drop 1 (work_left self.old.line self.old.state) }
-        ensures same { self.new ≡ record self.old { line = self.new.line } }
-        ensures ready { IsReady self.new }
-        ensures settled { IsSettled self.new.line self.new.state }
-        ensures next { KnowsNext self.new.line }
-    {
-        self.line.stage += 1;
-        self.line.settle();
     }
 }

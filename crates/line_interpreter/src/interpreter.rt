@@ -23,10 +23,10 @@ ghost use Rattle.line_interpreter.specs.Interpreting.{stands_before};
 ghost use Rattle.line_interpreter.specs.Desks.{kind_told};
 ghost use Rattle.run_rules.specs.Resets.{reset_state};
 
-use crate::desk::{Accepted, Desk, Judged};
+use crate::desk::{Accepted, Desk, Judged, reset_state};
 use crate::kept::KeptLine;
 use crate::reporting::{Seen, report, shows_room};
-use crate::tasks::Todo;
+use crate::tasks::{Body, Todo};
 use run_rules::{Machine, State};
 use status_report::{Reply, Report};
 use std::marker::Model;
@@ -96,7 +96,8 @@ impl Interpreter {
     pub fn close(&mut self)
         ensures { self.new ≡ record self.old { left = closing_work } }
     {
-        self.desk.close();
+        self.desk.begin(Body::Closing);
+        self.desk.line.settle();
     }
 
     /// A reset is worked behind the answered lines, which leave this state, with the machine at this place, in steps from its
@@ -116,7 +117,10 @@ impl Interpreter {
         requires few { self.old.number + dropped < 2 ^ 32 }
         ensures { self.new ≡ record { state = reset_state at answered; number = self.old.number + dropped; left = telling (greeting alarm locked) } }
     {
-        self.desk.open_behind(answered, at, dropped, alarm, locked);
+        self.desk.begin(Body::Greets(alarm, locked));
+        self.desk.line.settle();
+        self.desk.state = reset_state(answered, at);
+        self.desk.number += dropped;
     }
 
     /// What there is to do next; nothing exactly where nothing is left.
@@ -124,7 +128,7 @@ impl Interpreter {
     pub fn todo(&self) -> Todo
         ensures { IsTodo result self.now.left }
     {
-        self.desk.todo()
+        self.desk.line.next
     }
 
     /// Whether nothing is left to do.
@@ -132,7 +136,7 @@ impl Interpreter {
     pub fn is_done(&self) -> bool
         ensures { (result ≡ true) ↔ (self.now.left ≡ []) }
     {
-        self.desk.is_done()
+        self.desk.line.is_done()
     }
 
     /// The reply that is told next. Call it where `todo` says `Tell`.
@@ -142,7 +146,7 @@ impl Interpreter {
         ensures valid { IsReply result }
         ensures plain { is_report result ≡ false }
     {
-        self.desk.reply()
+        self.desk.line.part_reply(&self.desk.state)
     }
 
     /// The move that is given to the machine next. Call it where `todo` says `Move`.
@@ -151,7 +155,7 @@ impl Interpreter {
         ensures next { IsNextOf (ask (a_move result)) self.now.left }
         ensures planned { IsPlannedMove result }
     {
-        self.desk.planned_move()
+        self.desk.line.part_move(&self.desk.state)
     }
 
     /// Whether reports tell the free room.
@@ -200,7 +204,8 @@ impl Interpreter {
         requires place { IsPlace at }
         ensures { self.new ≡ record self.old { state = record self.old.state { parser = rebased self.old.state.parser at self.old.state.settings.limits.per_mm } } }
     {
-        self.desk.rebase(at);
+        let per_mm = self.desk.state.settings.limits.per_mm;
+        self.desk.state.parser.rebase(at, &per_mm);
     }
 
     /// What there was to do next is done.
@@ -209,6 +214,7 @@ impl Interpreter {
         requires { self.old.left ≢ [] }
         ensures { self.new ≡ record self.old { left = drop 1 self.old.left } }
     {
-        self.desk.done();
+        self.desk.line.stage += 1;
+        self.desk.line.settle();
     }
 }
