@@ -1,7 +1,7 @@
 //! The numbered settings.
 #![tactic(auto)]
 
-ghost use Rattle.std.specs.Prelude.{◌≡◌, ◌≤◌, ◌&&◌, false, nat_le, int_lt, pos, Some, None, IsTrue, OnOk, OnErr, IfOk, IfErr};
+ghost use Rattle.std.specs.Prelude.{◌≡◌, ◌<◌, ◌≤◌, slice_get, ◌&&◌, false, nat_le, int_lt, pos, Some, None, IsTrue, OnOk, OnErr, IfOk, IfErr};
 ghost use Rattle.code_table.specs.Tables.{value_of};
 ghost use Rattle.settings.specs.Numbers.{values, defaults, is_kept_whole, is_whole, kept, shown, set_refusal, value_set, with_value, can_have_at, IsSettings};
 
@@ -66,6 +66,13 @@ macro_rules! read_row {
             $($number => Some(u64::from($settings.$($field).+)),)+
             _ => None,
         }
+    };
+}
+
+/// The number of each setting, and its value.
+macro_rules! list_rows {
+    (($settings:ident) $($number:literal $keeping:ident $low:literal..=$high:literal, $($field:ident).+;)+) => {
+        [$(($number, u32::from($settings.$($field).+)),)+]
     };
 }
 
@@ -186,6 +193,22 @@ impl Settings {
             },
             travel: each_axis(200_000),
         }
+    }
+
+    /// The number of each setting, in order, and its value.
+    #[inline]
+    fn rows(&self) -> [(u16, u32); 15]
+        ensures { result ≡ values self.now }
+    {
+        with_rows!(list_rows(self))
+    }
+
+    /// The number of the setting at a place, from 0, in the order of the numbers, and its value.
+    pub fn row(&self, place: usize) -> (u16, u32)
+        requires { place < 15 }
+        ensures { slice_get (values self.now) place ≡ Some result }
+    {
+        self.rows()[place]
     }
 
     /// The value of a setting: the whole number for 10 and 20, and thousandths for the others. None

@@ -19,31 +19,6 @@ pub const SETTING_REPLIES: usize = 15;
 /// How many replies `$#` lists.
 pub const OFFSET_REPLIES: usize = 11;
 
-/// The number of the setting at a place, from 0, among those that `$$` lists, and its value.
-#[tactic(auto, unfolding(crate::specs::Lists::setting_replies))]
-fn setting_at(settings: &Settings, place: usize) -> (u16, u32)
-    requires { place < SETTING_REPLIES }
-    ensures { slice_get (setting_replies settings.now) place ≡ Some (Reply.Setting result.0 result.1) }
-{
-    match place {
-        0 => (10, u32::from(settings.report)),
-        1 => (11, settings.deviation),
-        2 => (20, u32::from(settings.soft)),
-        3 => (100, settings.limits.per_mm.x),
-        4 => (101, settings.limits.per_mm.y),
-        5 => (102, settings.limits.per_mm.z),
-        6 => (110, settings.limits.rate.x),
-        7 => (111, settings.limits.rate.y),
-        8 => (112, settings.limits.rate.z),
-        9 => (120, settings.limits.accel.x),
-        10 => (121, settings.limits.accel.y),
-        11 => (122, settings.limits.accel.z),
-        12 => (130, settings.travel.x),
-        13 => (131, settings.travel.y),
-        _ => (132, settings.travel.z),
-    }
-}
-
 /// The reply at a place, from 0, among those that `$$` lists: each setting, in the order of the numbers.
 pub fn setting_reply(settings: &Settings, place: usize) -> Reply
     requires { place < SETTING_REPLIES }
@@ -51,7 +26,7 @@ pub fn setting_reply(settings: &Settings, place: usize) -> Reply
     ensures valid { IsReply result }
     ensures plain { is_report result ≡ false }
 {
-    let (n, value) = setting_at(settings, place);
+    let (n, value) = settings.row(place);
     Reply::Setting {
         n,
         value: u64::from(value),
