@@ -5,20 +5,8 @@ ghost use Rattle.outside.specs.Writing.{Took};
 ghost use Rattle.demo_job.specs.Jobs.{job_events, pins_text, stop, summary_of};
 
 use crate::{Answers, put_pins, put_summary};
-use outside::{Failed, Sink};
+use outside::{Failed, Sink, write_text};
 use units::Text;
-
-/// Writes a text, all of it unless a call fails. After a call that failed nothing more is written.
-fn write_text<S: Sink>(text: &[u8], sink: &mut S) -> Result<(), Failed>
-    ensures { Took (S.state sink.old) (S.state sink.new) (not (is_ok result)) text.now }
-{
-    let mut rest = text;
-    while !rest.is_empty() {
-        let count = sink.write(rest)?;
-        rest = &rest[count..];
-    }
-    Ok(())
-}
 
 /// Gives the console the line on a run of the job of `n` moves: all of it, or a front of it if the console fails.
 pub fn tell_summary<S: Sink>(n: u32, answers: Answers, console: &mut S) -> Result<(), Failed>

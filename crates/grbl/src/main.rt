@@ -1,7 +1,7 @@
 //! The Grbl interpreter: a job from standard input, replies to standard output, step events to `steps.out`.
 #![tactic(auto)]
 
-ghost use Rattle.std.specs.Prelude.{◌≡◌, ◌↔◌, Bool, map, not, is_ok, IfOk, IfErr};
+ghost use Rattle.std.specs.Prelude.{◌≡◌, ◌↔◌, Bool, map, IfOk, IfErr};
 ghost use Rattle.std.specs.IoError.{error_kind};
 ghost use Rattle.std.specs.Process.{exit_status};
 ghost use Rattle.std.specs.String.{string_bytes};
@@ -13,7 +13,7 @@ ghost use Rattle.grbl_app.specs.Sizes.{setup_of};
 ghost use Rattle.outside.specs.Writing.{Took};
 
 use grbl_app::{Status, exit_number, put_fault, run_grbl};
-use outside::{Failed, Gate, ReadSource, Sink, Source, WriteSink};
+use outside::{Gate, ReadSource, Sink, Source, WriteSink, write_text};
 use std::alloc::{AllocError, Global};
 use std::fs;
 use std::io::{self, ErrorKind};
@@ -68,18 +68,6 @@ fn run<
         Ok(words) => run_grbl(rt, alloc, words.as_slice(), job, console, steps, gate),
         Err(AllocError) => Status::OutOfMemory,
     }
-}
-
-/// Writes a text, all of it unless a call fails. After a call that failed nothing more is written.
-fn write_text<S: Sink>(text: &[u8], sink: &mut S) -> Result<(), Failed>
-    ensures { Took (S.state sink.old) (S.state sink.new) (not (is_ok result)) text.now }
-{
-    let mut rest = text;
-    while !rest.is_empty() {
-        let count = sink.write(rest)?;
-        rest = &rest[count..];
-    }
-    Ok(())
 }
 
 /// Tells on standard error what did not go well, as far as that can be written, and answers with the number that the program ends

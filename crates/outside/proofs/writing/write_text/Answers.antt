@@ -2,7 +2,7 @@ use Rattle.std.proofs.Common.{◌≡◌, ◌-◌, ℕ, List, false, length, take
 use Rattle.std.proofs.lemmas.List.{take_all}
 use Rattle.outside.specs.Writing.{Wrote}
 use Rattle.outside.proofs.Written.{some_taken}
-use Rattle.grbl.proofs.write_text.Goals as goal
+use Rattle.outside.proofs.writing.write_text.Goals as goal
 
 pub loop-rest-preserved : goal.loop-rest-preserved
 loop-rest-preserved g c =
