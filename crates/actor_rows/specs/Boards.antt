@@ -4,8 +4,8 @@ use Rattle.status_report.specs.declared.Reply.{Reply}
 use Rattle.status_report.specs.Answering.{lfs_in}
 use Rattle.serial_ring.specs.Marks.{Mark, last_of}
 use Rattle.serial_ring.specs.Lists.{answers_behind_mark}
-use Rattle.stream_host.specs.Links.{banners_in, behind_mark, AreGreetings}
-use Rattle.stream_host.specs.Steps.{HostLog, latest_got, marks_in, marks_at_banners, stored_in}
+use Rattle.host_journal.specs.Links.{banners_in, behind_mark, AreGreetings}
+use Rattle.host_journal.specs.Steps.{HostLog, latest_got, marks_in, marks_at_banners, stored_in}
 
 -- So many lines that were stored behind the mark of the last banner have no answer, so many replies were told, so many marks are
 -- stored, and no banner is of a mark with a larger number than this: by the replies, the latest first, the marks, those that were

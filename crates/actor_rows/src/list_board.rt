@@ -202,7 +202,7 @@ pub(crate) struct RoomyLine<'a, const ROOM: usize> {
 }
 
 impl<'a, const ROOM: usize> Model for RoomyLine<'a, ROOM> {
-    ghost use Rattle.stream_host.specs.Steps.{Journal, port_log};
+    ghost use Rattle.host_journal.specs.Steps.{Journal, port_log};
     ghost use Rattle.actor_rows.specs.Boards.{HasTold};
     ghost use Rattle.stream_host.specs.Hosts.{HostFits, IsBetween};
 

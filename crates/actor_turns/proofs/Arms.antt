@@ -6,7 +6,7 @@ use Rattle.outside.specs.declared.Actor.TheVariants as actors
 use Rattle.outside.specs.declared.Turn.{Turn}
 use Rattle.step_line.specs.declared.Record.{Record}
 use Rattle.stream_host.specs.declared.host.Host.{Host}
-use Rattle.stream_host.specs.Steps.{Journal as HostJournal, port_log as host_log, HostLog}
+use Rattle.host_journal.specs.Steps.{Journal as HostJournal, port_log as host_log, HostLog}
 use Rattle.stream_host.specs.Hosts.{HostFits, HostTurned, HostTellsOn}
 use Rattle.stream_host.specs.Hosts.{IsBetween as IsBetweenOfHost}
 use Rattle.board_rules.specs.Ports.{BoardLog}

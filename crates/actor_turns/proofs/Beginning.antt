@@ -1,6 +1,6 @@
 -- Before anything is done.
 use Rattle.std.proofs.Common.{◌≡◌, [], Bool, refl, sym, subst, ℕ}
-use Rattle.stream_host.specs.Steps.{HostLog, beginning}
+use Rattle.host_journal.specs.Steps.{HostLog, beginning}
 use Rattle.stream_host.specs.Hosts.{HostFits}
 use Rattle.stream_host.proofs.Running.{tells_nothing, new_shows_nothing, logs_nothing, between_nothing}
 use Rattle.board_epochs.specs.Epochs.Epochs.{goes}

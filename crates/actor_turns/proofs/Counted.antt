@@ -10,7 +10,7 @@ use Rattle.motion_pulse.specs.declared.pulse.Stepping.{Stepping}
 use Rattle.motion_pulse.specs.Pulses.{pins_of, pins_by_heads, stepping_of}
 use Rattle.epoch_records.specs.Epochs.{Epoch}
 use Rattle.epoch_records.specs.Publishing.{AreSameHalts, halts_in}
-use Rattle.stream_host.specs.Steps.{is_attended}
+use Rattle.host_journal.specs.Steps.{is_attended}
 use Rattle.stream_host.proofs.Running.{turned_attended, attended_own}
 use Rattle.actor_turns.specs.Worlds.{Seen, History, Holds, Adds, Turns, no_history, pins_in}
 use Rattle.actor_turns.specs.Pacing.{PacedTurns, pace_after}

@@ -1,7 +1,7 @@
 -- In a world, in each epoch, each line has at most as many reports as it has `?`.
 use Rattle.std.proofs.Common.{◌≡◌, ℕ, ◌-◌, false, sym, ◌∙◌}
 use Rattle.run_rules.specs.Lines.{lines_of}
-use Rattle.stream_host.specs.Steps.{got_of, scanned_of}
+use Rattle.host_journal.specs.Steps.{got_of, scanned_of}
 use Rattle.controller.proofs.Kept.{kept_by}
 use Rattle.list_ports.specs.PerLine.{ReportsPerLine}
 use Rattle.list_ports.proofs.Counting.{reports_per_line}

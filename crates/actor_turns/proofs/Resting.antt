@@ -6,7 +6,7 @@ use Rattle.outside.specs.declared.Actor.TheVariants as actors
 use Rattle.outside.specs.declared.Turn.{Turn}
 use Rattle.outside.specs.declared.Turn.TheVariants.{Wait}
 use Rattle.outside.specs.declared.On.TheVariants as on
-use Rattle.stream_host.specs.Steps.{HostLog}
+use Rattle.host_journal.specs.Steps.{HostLog}
 use Rattle.board_rules.specs.Ports.{BoardLog}
 use Rattle.pulse_engine.specs.Logs.{PieceLog}
 use Rattle.pulse_engine.specs.Logs.PieceEvent.{asked, none}

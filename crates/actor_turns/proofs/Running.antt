@@ -14,9 +14,9 @@ use Rattle.run_rules.specs.States.{IsOpening}
 use Rattle.run_rules.specs.declared.State.{State}
 use Rattle.run_texts.specs.Fronts.{BeginsWith}
 use Rattle.status_report.specs.Answering.{reply_room}
-use Rattle.stream_host.specs.declared.Reading.{Reading}
-use Rattle.stream_host.specs.declared.Reading.TheVariants.{Ended, Failed, Large, Stopped}
-use Rattle.stream_host.specs.Steps.{port_log as host_log, marks_of, got_of}
+use Rattle.host_journal.specs.declared.Reading.{Reading}
+use Rattle.host_journal.specs.declared.Reading.TheVariants.{Ended, Failed, Large, Stopped}
+use Rattle.host_journal.specs.Steps.{port_log as host_log, marks_of, got_of}
 use Rattle.stream_host.specs.Ran.{is_failed}
 use Rattle.board_rules.specs.Conduct.{IsFinished}
 use Rattle.board_rules.specs.Ports.{answered_in, known_in, sent_in}

@@ -5,8 +5,8 @@ use Rattle.outside.specs.declared.Actor.TheVariants as actors
 use Rattle.outside.specs.declared.Turn.{Turn}
 use Rattle.outside.specs.declared.Turn.TheVariants.{Did, Wait, Done}
 use Rattle.outside.specs.declared.On.TheVariants as on
-use Rattle.stream_host.specs.Steps.{Journal as HostJournal}
-use Rattle.stream_host.specs.Steps.Step.{turned as host_turned}
+use Rattle.host_journal.specs.Steps.{Journal as HostJournal}
+use Rattle.host_journal.specs.Steps.Step.{turned as host_turned}
 use Rattle.board_rules.specs.Steps.{Journal}
 use Rattle.board_rules.specs.Steps.Step.{turned as board_turned}
 use Rattle.board_epochs.specs.Epochs.{Epochs}

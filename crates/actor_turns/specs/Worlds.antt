@@ -5,8 +5,8 @@ use Rattle.outside.specs.declared.Actor.TheVariants as actors
 use Rattle.outside.specs.declared.Turn.{Turn}
 use Rattle.step_line.specs.declared.Record.{Record as AnyRecord}
 use Rattle.stream_host.specs.declared.host.Host.{Host}
-use Rattle.stream_host.specs.Steps.{Journal as HostJournal, port_log as host_log, beginning, stored_of, marks_of, got_of}
-use Rattle.stream_host.specs.Raises.{raises_in}
+use Rattle.host_journal.specs.Steps.{Journal as HostJournal, port_log as host_log, beginning, stored_of, marks_of, got_of}
+use Rattle.host_journal.specs.Raises.{raises_in}
 use Rattle.stream_host.specs.Hosts.{HostFits, HostTurned, HostRests, TellsJob, TellsText}
 use Rattle.stream_host.specs.Hosts.{IsBetween as IsBetweenOfHost}
 use Rattle.stream_host.specs.Ran.{end_of}
@@ -45,9 +45,9 @@ use Rattle.run_rules.specs.Told.{replies_text}
 use Rattle.std.specs.Io.KnownBytes.{Consumes}
 use Rattle.outside.specs.Writing.{Wrote}
 use Rattle.status_report.specs.declared.Reply.{Reply}
-use Rattle.stream_host.specs.declared.Reading.{Reading}
-use Rattle.stream_host.specs.declared.Stop.{Stop}
-use Rattle.stream_host.specs.Jobs.{IsSentSoFar}
+use Rattle.host_journal.specs.declared.Reading.{Reading}
+use Rattle.host_journal.specs.declared.Stop.{Stop}
+use Rattle.host_journal.specs.Jobs.{IsSentSoFar}
 
 -- what callers see of a world, whose plan has so many slots: for how many bytes its link has room, its actors, and what is on its
 -- way

@@ -9,9 +9,9 @@ use Rattle.run_rules.specs.declared.State.{State}
 use Rattle.run_rules.specs.Lines.{ended}
 use Rattle.step_line.specs.Logs.{NewestFirst}
 use Rattle.stream_host.specs.Conduct.{Conducted}
-use Rattle.stream_host.specs.Raises.{raises_in}
+use Rattle.host_journal.specs.Raises.{raises_in}
 use Rattle.stream_host.proofs.Cutting.{epochs_are}
-use Rattle.stream_host.specs.Steps as hosts
+use Rattle.host_journal.specs.Steps as hosts
 use Rattle.board_rules.specs.Ports as ports
 use Rattle.board_rules.specs.Takes.{takes_in}
 use Rattle.board_epochs.specs.Epochs.{Closed, Epochs, AreEpochs, log_of}

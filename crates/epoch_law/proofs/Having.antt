@@ -11,7 +11,7 @@ use Rattle.step_line.specs.declared.Piece.TheVariants as pieces
 use Rattle.stream_host.specs.Conduct.{Conducted}
 use Rattle.stream_host.specs.Ran.{HasFinished, TellsConsole, end_of}
 use Rattle.stream_host.specs.Hosts.{TellsJob}
-use Rattle.stream_host.specs.Steps.{Journal, is_shut, has_limit, is_attended, scanned_of, cut_of, raw_of, stored_of, marks_of}
+use Rattle.host_journal.specs.Steps.{Journal, is_shut, has_limit, is_attended, scanned_of, cut_of, raw_of, stored_of, marks_of}
 use Rattle.stream_host.proofs.Keeping.{IsCut, cut_is}
 use Rattle.stream_host.proofs.Running.{has_run_of, ran_lines, runs_of, ran_forgotten}
 use Rattle.epoch_links.specs.Pieces.{IsFrontOf}

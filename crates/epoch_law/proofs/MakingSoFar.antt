@@ -15,8 +15,8 @@ use Rattle.step_line.specs.Asking.{ticks_among}
 use Rattle.step_line.specs.declared.Piece.{Piece}
 use Rattle.step_line.specs.declared.Record.{Record}
 use Rattle.step_record.specs.declared.forms.Form.{Form}
-use Rattle.stream_host.specs.declared.Stop.{Stop}
-use Rattle.stream_host.specs.Jobs.{IsSentSoFar}
+use Rattle.host_journal.specs.declared.Stop.{Stop}
+use Rattle.host_journal.specs.Jobs.{IsSentSoFar}
 use Rattle.epoch_courses.specs.Told.{without_byes}
 use Rattle.epoch_links.specs.Links.{EndAtMarks}
 use Rattle.epoch_links.specs.Pieces.{joined, items_in}

@@ -6,7 +6,7 @@ use Rattle.run_law.specs.Runs.{slows_in}
 use Rattle.run_law.proofs.Changing.{words_were_scanned}
 use Rattle.run_law.proofs.Flagging.{scanned_where_raised}
 use Rattle.run_rules.specs.Reports.{is_query}
-use Rattle.stream_host.specs.Jobs.{served_in}
+use Rattle.host_journal.specs.Jobs.{served_in}
 use Rattle.stream_host.specs.Ran.{AreRaised}
 use Rattle.epoch_effects.specs.Effects.{EpochEffects}
 use Rattle.epoch_effects.specs.Words.{WordsTaken, IsTakenIn}

@@ -24,7 +24,7 @@ use Rattle.step_line.specs.Logs.{NewestFirst}
 use Rattle.step_line.specs.declared.Piece.{Piece}
 use Rattle.step_line.specs.declared.Piece.TheVariants as pieces_as
 use Rattle.step_line.specs.declared.Record.{Record}
-use Rattle.stream_host.specs.Links.{banners_in}
+use Rattle.host_journal.specs.Links.{banners_in}
 use Rattle.stream_host.specs.Ran.{HostEnd, HostRan, is_sent_out}
 use Rattle.step_line.specs.Pieces.{ticks_of}
 use Rattle.epoch_courses.specs.Drives.{Driven, AreDriven}

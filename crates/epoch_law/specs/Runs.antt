@@ -27,12 +27,12 @@ use Rattle.step_line.specs.Ending.{IsEnded}
 use Rattle.step_line.specs.declared.Record.{Record}
 use Rattle.step_record.specs.declared.forms.Form.{Form}
 use Rattle.step_record.specs.Forms.{text_in}
-use Rattle.stream_host.specs.declared.Reading.{Reading}
-use Rattle.stream_host.specs.declared.Reading.TheVariants.{Ended}
+use Rattle.host_journal.specs.declared.Reading.{Reading}
+use Rattle.host_journal.specs.declared.Reading.TheVariants.{Ended}
 use Rattle.stream_host.specs.Epochs as host
-use Rattle.stream_host.specs.Jobs.{served_in, resets_scanned, stop_by, IsSent, IsSentSoFar}
+use Rattle.host_journal.specs.Jobs.{served_in, resets_scanned, stop_by, IsSent, IsSentSoFar}
 use Rattle.stream_host.specs.Ran.{is_failed}
-use Rattle.stream_host.specs.Steps.{or_alarm}
+use Rattle.host_journal.specs.Steps.{or_alarm}
 use Rattle.epoch_courses.specs.Drives.{Driven, AreDriven}
 use Rattle.epoch_courses.specs.Told.{without_byes}
 use Rattle.epoch_effects.specs.Effects.{EpochEffects, AreEffects}

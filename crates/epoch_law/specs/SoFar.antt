@@ -28,9 +28,9 @@ use Rattle.step_line.specs.declared.Piece.{Piece}
 use Rattle.step_line.specs.declared.Record.{Record}
 use Rattle.step_record.specs.declared.forms.Form.{Form}
 use Rattle.step_record.specs.Forms.{text_in}
-use Rattle.stream_host.specs.declared.Reading.{Reading}
+use Rattle.host_journal.specs.declared.Reading.{Reading}
 use Rattle.stream_host.specs.Epochs as host
-use Rattle.stream_host.specs.Jobs.{stop_by, IsSentSoFar}
+use Rattle.host_journal.specs.Jobs.{stop_by, IsSentSoFar}
 use Rattle.stream_host.specs.Ran.{HostRuns}
 use Rattle.epoch_courses.specs.Drives.{Driven, AreDriven}
 use Rattle.epoch_courses.specs.Told.{without_byes}

@@ -12,9 +12,9 @@ use Rattle.status_report.specs.declared.Reply.{Reply}
 use Rattle.status_report.proofs.Answered.{answers_first, answers_on}
 use Rattle.stream_host.specs.Conduct.{Conducted}
 use Rattle.stream_host.specs.Epochs.{Epoch, replies_in, epoch_now, ended_of}
-use Rattle.stream_host.specs.Steps.{HostLog, Journal, port_log, got_in, latest_got, begins}
-use Rattle.stream_host.specs.Steps.PortStep.{got}
-use Rattle.stream_host.specs.Steps.Step.{at_port}
+use Rattle.host_journal.specs.Steps.{HostLog, Journal, port_log, got_in, latest_got, begins}
+use Rattle.host_journal.specs.Steps.PortStep.{got}
+use Rattle.host_journal.specs.Steps.Step.{at_port}
 use Rattle.stream_host.proofs.Cutting.{epochs_are}
 use Rattle.board_rules.specs.Ports.{BoardLog, answered_in, link_steps}
 use Rattle.board_rules.proofs.LinkSteps.{answered_back}

@@ -9,8 +9,8 @@ use Rattle.status_report.specs.Answering.{answers_in}
 use Rattle.status_report.proofs.Answered.{answers_on}
 use Rattle.step_line.specs.Logs.{NewestFirst}
 use Rattle.stream_host.specs.Epochs.{Epoch, AreEnds, IsOver, lines_in, replies_in}
-use Rattle.stream_host.specs.Jobs.{sent_text}
-use Rattle.stream_host.specs.Links.{on_link}
+use Rattle.host_journal.specs.Jobs.{sent_text}
+use Rattle.host_journal.specs.Links.{on_link}
 use Rattle.stream_host.proofs.Pieces.{lines_back}
 use Rattle.board_rules.specs.Ports.{BoardLog, taken_in, link_steps}
 use Rattle.board_rules.specs.Steps.{port_log, answered_of}

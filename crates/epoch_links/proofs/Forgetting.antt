@@ -9,8 +9,8 @@ use Rattle.status_report.proofs.Answered.{answers_on}
 use Rattle.step_line.specs.Logs.{NewestFirst}
 use Rattle.stream_host.specs.Conduct.{Conducted as HostConducted}
 use Rattle.stream_host.specs.Epochs.{Epoch, AreEnds, lines_in, told_in, replies_in, ended_of, lines_now, got_now}
-use Rattle.stream_host.specs.Links.{on_link}
-use Rattle.stream_host.specs.Steps as hosts
+use Rattle.host_journal.specs.Links.{on_link}
+use Rattle.host_journal.specs.Steps as hosts
 use Rattle.stream_host.proofs.Awaiting.{banners_got}
 use Rattle.stream_host.proofs.Cutting.{epochs_are}
 use Rattle.stream_host.proofs.Ending.{ends_by}

@@ -8,9 +8,9 @@ use Rattle.status_report.proofs.Answered.{answers_on}
 use Rattle.step_line.specs.Logs.{NewestFirst}
 use Rattle.stream_host.specs.Conduct.{Conducted}
 use Rattle.stream_host.specs.Epochs.{Epoch, dropped_lines, ended_of, lines_in, lines_now, replies_in, told_in, told_lines}
-use Rattle.stream_host.specs.Jobs.{sent_text}
-use Rattle.stream_host.specs.Links.{on_link}
-use Rattle.stream_host.specs.Steps.{Journal, cut_of, forgotten_of, live_of}
+use Rattle.host_journal.specs.Jobs.{sent_text}
+use Rattle.host_journal.specs.Links.{on_link}
+use Rattle.host_journal.specs.Steps.{Journal, cut_of, forgotten_of, live_of}
 use Rattle.stream_host.proofs.Cutting.{epochs_are}
 use Rattle.stream_host.proofs.Epochs.{all_lines}
 use Rattle.stream_host.proofs.Pieces.{lines_back}

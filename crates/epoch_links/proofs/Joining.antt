@@ -6,7 +6,7 @@ use Rattle.run_texts.specs.Fronts.{BeginsWith}
 use Rattle.run_texts.specs.Sent.{Sent, sent_of}
 use Rattle.serial_ring.specs.Marks.{Mark}
 use Rattle.stream_host.specs.Conduct.{Conducted as HostConducted}
-use Rattle.stream_host.specs.Steps.{Journal as HostJournal, stored_of, marks_of, is_shut, has_limit, due_of, cut_of, raw_of, resets_of}
+use Rattle.host_journal.specs.Steps.{Journal as HostJournal, stored_of, marks_of, is_shut, has_limit, due_of, cut_of, raw_of, resets_of}
 use Rattle.stream_host.proofs.Raised.{IsMarked, marks_are}
 use Rattle.stream_host.proofs.Raising.{none_due_shut}
 use Rattle.board_rules.specs.Ports.{has_closed_in}

@@ -8,7 +8,7 @@ use Rattle.run_texts.specs.Sent.{Sent, behind_reset, resets_in, sent_of}
 use Rattle.run_texts.specs.Sent.Sent.{a_text, a_stop}
 use Rattle.serial_ring.specs.Marks.{Mark}
 use Rattle.stream_host.specs.Conduct.{Conducted as HostConducted}
-use Rattle.stream_host.specs.Steps.{Journal as HostJournal, cut_of, raw_of}
+use Rattle.host_journal.specs.Steps.{Journal as HostJournal, cut_of, raw_of}
 use Rattle.board_epochs.specs.Epochs.{Epochs, AreEpochs}
 use Rattle.epoch_links.specs.Pieces.{Pieces, ends_behind, texts_in, items_closed, items_in, bytes_of, stops_behind, IsFrontOf, IsAllOf}
 use Rattle.epoch_links.specs.Taken.{taken_by}

@@ -10,7 +10,7 @@ use Rattle.status_report.proofs.Answered.{answers_on}
 use Rattle.step_line.specs.Logs.{NewestFirst}
 use Rattle.stream_host.specs.Conduct.{Conducted as HostConducted}
 use Rattle.stream_host.specs.Epochs.{ended_of}
-use Rattle.stream_host.specs.Steps as hosts
+use Rattle.host_journal.specs.Steps as hosts
 use Rattle.board_rules.specs.Conduct.{Conducted}
 use Rattle.board_rules.specs.Ports.{BoardLog, taken_in, known_in, link_steps}
 use Rattle.board_rules.specs.Openings.{Opening}

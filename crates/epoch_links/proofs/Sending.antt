@@ -8,9 +8,9 @@ use Rattle.gcode_words.specs.Stripping.{is_plain, is_realtime, capital}
 use Rattle.run_rules.specs.Lines.{HasNoLf}
 use Rattle.run_texts.specs.Sent.{Sent, behind_resets, kept_of, resets_of, sent_by, sent_of}
 use Rattle.run_texts.specs.Sent.Sent.{a_text, a_stop}
-use Rattle.stream_host.specs.Jobs.{is_reset, behind_last, sent_text, marks_at, marks_behind}
-use Rattle.stream_host.specs.Links.{on_link}
-use Rattle.stream_host.specs.Steps.{Journal, stored_of, is_shut, has_limit, marks_of, resets_of as raised_resets, raw_of, cut_of, to_store, due_of, banners_of, awaits_banner}
+use Rattle.host_journal.specs.Jobs.{is_reset, behind_last, sent_text, marks_at, marks_behind}
+use Rattle.host_journal.specs.Links.{on_link}
+use Rattle.host_journal.specs.Steps.{Journal, stored_of, is_shut, has_limit, marks_of, resets_of as raised_resets, raw_of, cut_of, to_store, due_of, banners_of, awaits_banner}
 use Rattle.stream_host.specs.Conduct.{Conducted}
 use Rattle.stream_host.proofs.Bordering.{AllMarked, stored_marks, left_none}
 use Rattle.stream_host.proofs.Keeping.{stored_is, shut_is}

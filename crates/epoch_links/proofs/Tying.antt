@@ -8,8 +8,8 @@ use Rattle.serial_ring.specs.Lists.{AreAtMost}
 use Rattle.serial_ring.specs.Marks.{Mark, AreMarks}
 use Rattle.serial_ring.specs.Rule.{AreTied}
 use Rattle.status_report.specs.declared.Reply.{Reply}
-use Rattle.stream_host.specs.Ports.{PortsAgree}
-use Rattle.stream_host.specs.Steps as hosts
+use Rattle.host_journal.specs.Ports.{PortsAgree}
+use Rattle.host_journal.specs.Steps as hosts
 use Rattle.board_rules.specs.Ports as ports
 use Rattle.board_rules.proofs.LinkSteps.{taken_back, answered_back}
 use Rattle.board_epochs.specs.Epochs.{Epochs, log_of}

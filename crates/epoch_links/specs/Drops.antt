@@ -7,7 +7,7 @@ use Rattle.run_texts.specs.Courses.Passed.{a_line, a_broken, a_cut, a_reset}
 use Rattle.run_texts.specs.Fronts.{BeginsWith}
 use Rattle.status_report.specs.Answering.{answers_in}
 use Rattle.step_line.specs.Logs.{NewestFirst}
-use Rattle.stream_host.specs.Steps as hosts
+use Rattle.host_journal.specs.Steps as hosts
 use Rattle.board_rules.specs.Ports.{answered_in}
 use Rattle.board_rules.specs.Steps.{answered_of}
 use Rattle.board_epochs.specs.Epochs.{Closed, Epochs, log_of}

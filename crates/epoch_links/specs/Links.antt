@@ -5,8 +5,8 @@ use Rattle.serial_ring.specs.Lists.{AreAtMost}
 use Rattle.status_report.specs.declared.Reply.{Reply}
 use Rattle.serial_ring.specs.Logs.{marked_in, taken_at_banners}
 use Rattle.serial_ring.specs.Marks.{Mark, AreMarks, AreRising, last_of}
-use Rattle.stream_host.specs.Steps.{stored_at_banners}
-use Rattle.stream_host.specs.Steps as hosts
+use Rattle.host_journal.specs.Steps.{stored_at_banners}
+use Rattle.host_journal.specs.Steps as hosts
 use Rattle.board_rules.specs.Ports as ports
 use Rattle.board_epochs.specs.Epochs.{Epochs, log_of}
 use Rattle.epoch_links.specs.Pieces.{Pieces, joined, ends_behind}

@@ -8,8 +8,8 @@ use Rattle.serial_ring.specs.Lists.{AreAtMost}
 use Rattle.serial_ring.specs.Logs.{taken_in, marked_in}
 use Rattle.serial_ring.specs.Marks.{Mark, AreMarks}
 use Rattle.serial_ring.specs.Rule.{AreTied}
-use Rattle.stream_host.specs.Ports.{PortsAgree}
-use Rattle.stream_host.specs.Steps.{HostLog}
+use Rattle.host_journal.specs.Ports.{PortsAgree}
+use Rattle.host_journal.specs.Steps.{HostLog}
 use Rattle.link_ports.specs.Hosts.{HostDid}
 
 none_before : {A : Type 0} (xs ys : List A) → ys ≡ xs ++ ys → xs ≡ []

@@ -12,7 +12,7 @@ use Rattle.status_report.proofs.Answered.{lfs_first}
 use Rattle.board_rules.specs.Ports.{PortStep, said}
 use Rattle.board_rules.specs.Ports.PortStep.{answered, reported}
 use Rattle.serial_ring.specs.Lists as link
-use Rattle.stream_host.specs.Links as host
+use Rattle.host_journal.specs.Links as host
 
 pub reverse_on : {X : Type 0} (x : X) (xs : List X) → reverse (x ∷ xs) ≡ reverse xs ++ x ∷ []
 reverse_on x xs = reverse_onto xs x []

@@ -6,10 +6,10 @@ use Rattle.code_table.specs.Tables.{Row, value_of, rows_of_bytes, query}
 use Rattle.realtime_flags.specs.declared.words.Raise.{Raise}
 use Rattle.realtime_flags.specs.Bits.{report_flag, is_flag, counted, raises_of}
 use Rattle.realtime_flags.specs.Bytes.{flag_of_bit, flag_of_row, flag_of_byte}
-use Rattle.stream_host.specs.Ports.{queries_in, TakesRaise}
-use Rattle.stream_host.specs.Raises.{raised_to, raises_in}
-use Rattle.stream_host.specs.Steps.{HostLog}
-use Rattle.stream_host.specs.Steps.PortStep.{raised}
+use Rattle.host_journal.specs.Ports.{queries_in, TakesRaise}
+use Rattle.host_journal.specs.Raises.{raised_to, raises_in}
+use Rattle.host_journal.specs.Steps.{HostLog}
+use Rattle.host_journal.specs.Steps.PortStep.{raised}
 
 by_bool : {Q : Type 0} (b : Bool) → (b ≡ true → Q) → (b ≡ false → Q) → Q
 by_bool true holds fails = holds refl

@@ -3,7 +3,7 @@ use Rattle.std.specs.Prelude.{◌≡◌, ℕ, []}
 use Rattle.outside.specs.Causes.{SourceState, SinkState}
 use Rattle.serial_ring.specs.Ends.{link_of_host}
 use Rattle.realtime_flags.specs.Ends.{raised_in}
-use Rattle.stream_host.specs.Steps.{Journal as HostJournal, port_log as host_log, beginning}
+use Rattle.host_journal.specs.Steps.{Journal as HostJournal, port_log as host_log, beginning}
 use Rattle.stream_host.specs.Hosts.{HostFits, HostRests, TellsJob, TellsText}
 use Rattle.stream_host.specs.Hosts.{IsBetween as IsBetweenOfHost}
 use Rattle.link_ports.specs.Standing.{HostLogs, HostSees}

@@ -5,11 +5,11 @@ use Rattle.realtime_flags.specs.declared.words.Raise.{Raise}
 use Rattle.serial_ring.specs.declared.ends.HostEnd.{HostEnd}
 use Rattle.serial_ring.specs.Ends.{stored_by, tail_shown, tail_loads_of, got_by, replies_shown, reply_loads_of}
 use Rattle.link_ports.specs.Loads.{StoredByte, FoundNoRoom}
-use Rattle.stream_host.specs.Steps.{HostLog, stored_in, stored_at_banners, got_in, latest_got, marks_in, is_shut_in}
-use Rattle.stream_host.specs.Ports.{AreGreeted}
-use Rattle.stream_host.specs.Raises.{raises_in}
+use Rattle.host_journal.specs.Steps.{HostLog, stored_in, stored_at_banners, got_in, latest_got, marks_in, is_shut_in}
+use Rattle.host_journal.specs.Ports.{AreGreeted}
+use Rattle.host_journal.specs.Raises.{raises_in}
 use Rattle.serial_ring.specs.Marks.{Mark}
-use Rattle.stream_host.specs.Steps.PortStep.{stored, dropped, marked, raised, got, no_reply, shut}
+use Rattle.host_journal.specs.Steps.PortStep.{stored, dropped, marked, raised, got, no_reply, shut}
 
 -- what the ends stored, marked, got and raised, the latest first, is what the log says, and these are marks of the Banners got
 pub record HostDid (bytes marks : List ℕ) (closed : Bool) (replies : List Reply) (greeted : List Mark) (raises : List Raise) (moments : List ℕ) (h : HostLog) : Type 0 where

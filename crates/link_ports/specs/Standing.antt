@@ -6,8 +6,8 @@ use Rattle.serial_ring.specs.Ends.{stored_by, closed_by, marks_by, got_by, greet
 use Rattle.realtime_flags.specs.Ends.{raises_by, takes_by}
 use Rattle.motion_ring.specs.Ends.{sent_by, known_by}
 use Rattle.motion_ring.specs.Sides.{published_in, ticks_published}
-use Rattle.stream_host.specs.Steps as host
-use Rattle.stream_host.specs.Ports.{IsOpen}
+use Rattle.host_journal.specs.Steps as host
+use Rattle.host_journal.specs.Ports.{IsOpen}
 use Rattle.board_rules.specs.Ports as board
 use Rattle.link_ports.specs.declared.host.HostLink.{HostLink}
 use Rattle.link_ports.specs.declared.board.BoardLink.{BoardLink}

@@ -3,8 +3,8 @@
 ghost use Rattle.std.specs.Prelude.{ℕ};
 ghost use Rattle.serial_ring.specs.Ends.{stored_by, closed_by, marks_by, got_by, greeted_by, moments_by, log_by, found_closed};
 ghost use Rattle.serial_ring.specs.Rule.{AreTied};
-ghost use Rattle.stream_host.specs.Ports.{PortsAgree};
-ghost use Rattle.stream_host.specs.Steps.{HostLog};
+ghost use Rattle.host_journal.specs.Ports.{PortsAgree};
+ghost use Rattle.host_journal.specs.Steps.{HostLog};
 ghost use Rattle.board_rules.specs.Ports.{BoardLog, link_steps, has_closed_in};
 ghost use Rattle.link_ports.specs.Standing.{HostLogs, BoardLogs};
 ghost use Rattle.link_ports.specs.declared.host.HostLink.{HostLink};

@@ -10,7 +10,7 @@ use Rattle.realtime_flags.specs.declared.words.Flag.TheVariants as flags
 use Rattle.realtime_flags.specs.Bits.{is_flag, is_up, report_flag}
 use Rattle.realtime_flags.specs.Bytes.{flag_of_byte}
 use Rattle.realtime_flags.proofs.Bits.{raised_up, same_flag}
-use Rattle.stream_host.specs.Links.{banners_in}
+use Rattle.host_journal.specs.Links.{banners_in}
 use Rattle.stream_host.proofs.Epochs.{no_answer, some_banner, none_banner}
 use Rattle.stream_host.proofs.Queries.{asks, only_query}
 use Rattle.stream_host.proofs.Raised.{banners_first}

@@ -12,7 +12,7 @@ use Rattle.step_line.specs.Logs.{NewestFirst}
 use Rattle.run_rules.specs.declared.State.{State}
 use Rattle.run_rules.specs.Work.{Task, tells}
 use Rattle.run_rules.specs.Work.Task.{tell}
-use Rattle.stream_host.specs.Links.{banners_in}
+use Rattle.host_journal.specs.Links.{banners_in}
 use Rattle.board_rules.specs.Openings.{Opening}
 use Rattle.board_rules.specs.Ports.{BoardLog, asks_report, asks_reset, answered_in}
 use Rattle.board_rules.specs.Ports.PortStep.{took, answered, reported, took_exec}

@@ -2,7 +2,7 @@
 use Rattle.std.proofs.Common.{◌≡◌, ℕ, false, reverse, ap, arith}
 use Rattle.run_rules.specs.declared.State.{State}
 use Rattle.run_rules.specs.Lines.{lines_of}
-use Rattle.stream_host.specs.Steps.{Journal, port_log, is_attended, latest_got, got_of, scanned_of}
+use Rattle.host_journal.specs.Steps.{Journal, port_log, is_attended, latest_got, got_of, scanned_of}
 use Rattle.stream_host.specs.Conduct.{Conducted}
 use Rattle.board_epochs.specs.Epochs.{Epochs, AreEpochs, log_of}
 use Rattle.pulse_engine.specs.Logs.{PieceLog}

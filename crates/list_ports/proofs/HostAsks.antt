@@ -12,11 +12,11 @@ use Rattle.serial_ring.specs.Marks.{latest}
 use Rattle.run_rules.specs.Lines.{lines_of}
 use Rattle.run_rules.specs.Reports.{is_query}
 use Rattle.run_rules.proofs.Cutting.{lines_are, some_bytes}
-use Rattle.stream_host.specs.Jobs.{resume, is_reset, served}
+use Rattle.host_journal.specs.Jobs.{resume, is_reset, served}
 use Rattle.stream_host.specs.Epochs.{lines_now, got_now}
-use Rattle.stream_host.specs.Steps.{Journal, port_log, latest_got, begins, stored_of, marks_of, resets_of, banners_of, awaits_banner, scanned_of, raw_of, cut_of, live_of, to_store, due_of, more_served, is_attended, resumes_next}
-use Rattle.stream_host.specs.Steps.PortStep.{dropped, marked, raised, got}
-use Rattle.stream_host.specs.Steps.Step.{at_port, scanned, line_over, attends}
+use Rattle.host_journal.specs.Steps.{Journal, port_log, latest_got, begins, stored_of, marks_of, resets_of, banners_of, awaits_banner, scanned_of, raw_of, cut_of, live_of, to_store, due_of, more_served, is_attended, resumes_next}
+use Rattle.host_journal.specs.Steps.PortStep.{dropped, marked, raised, got}
+use Rattle.host_journal.specs.Steps.Step.{at_port, scanned, line_over, attends}
 use Rattle.stream_host.specs.Conduct.{Conducted, MayMark, MayRaise, MayScanNext, waits_for_lines}
 use Rattle.stream_host.proofs.Raising.{served_nil, served_on, none_at_lf, one_more}
 use Rattle.stream_host.proofs.Keeping.{IsCut, cut_is}

@@ -18,10 +18,10 @@ use Rattle.serial_ring.specs.Logs as link
 use Rattle.serial_ring.specs.Logs.{AnswersWell, MayAnswer, greeted_in, next_mark, answers_since, lfs_since}
 use Rattle.serial_ring.proofs.Marking.{more_marks, past_below}
 use Rattle.serial_ring.proofs.Logs.{counts, greeted_on, well_on, taken_on, answers_stored}
-use Rattle.stream_host.specs.Links.{behind_lf, banners_in, AreGreetings}
-use Rattle.stream_host.specs.Ports.{AreGreeted, SeemsFull, AnswersLines}
-use Rattle.stream_host.specs.Steps.{HostLog, stored_in, got_in, latest_got, marks_in, marks_at_banners}
-use Rattle.stream_host.specs.Steps.PortStep.{got}
+use Rattle.host_journal.specs.Links.{behind_lf, banners_in, AreGreetings}
+use Rattle.host_journal.specs.Ports.{AreGreeted, SeemsFull, AnswersLines}
+use Rattle.host_journal.specs.Steps.{HostLog, stored_in, got_in, latest_got, marks_in, marks_at_banners}
+use Rattle.host_journal.specs.Steps.PortStep.{got}
 use Rattle.stream_host.proofs.Greeting.{answered_stored}
 use Rattle.stream_host.proofs.Links.{behind_taken}
 use Rattle.stream_host.proofs.Raised.{AreStored, banners_first}

@@ -11,9 +11,9 @@ use Rattle.serial_ring.specs.declared.view.LinkStep.TheVariants.{Took, Marked, A
 use Rattle.serial_ring.specs.Lists.{AreAtMost}
 use Rattle.serial_ring.specs.Logs as link
 use Rattle.serial_ring.specs.Logs.{taken_at_banners}
-use Rattle.stream_host.specs.Links.{banners_in}
-use Rattle.stream_host.specs.Steps.{HostLog, stored_in, stored_at_banners, got_in}
-use Rattle.stream_host.specs.Steps.PortStep.{got}
+use Rattle.host_journal.specs.Links.{banners_in}
+use Rattle.host_journal.specs.Steps.{HostLog, stored_in, stored_at_banners, got_in}
+use Rattle.host_journal.specs.Steps.PortStep.{got}
 use Rattle.board_rules.specs.Ports as board
 use Rattle.board_rules.specs.Ports.PortStep.{answered, reported}
 use Rattle.list_ports.specs.Joining.{IsInTime}

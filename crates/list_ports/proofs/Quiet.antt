@@ -21,11 +21,11 @@ use Rattle.serial_ring.specs.Lists.{has_banner, answers_behind_mark, since}
 use Rattle.serial_ring.specs.Logs as link
 use Rattle.serial_ring.specs.Logs.{greeted_in, answers_since, lfs_since}
 use Rattle.serial_ring.proofs.Logs.{counts}
-use Rattle.stream_host.specs.Jobs.{is_reset}
-use Rattle.stream_host.specs.Links.{banners_in}
-use Rattle.stream_host.specs.Raises.{raised_to, raises_in}
-use Rattle.stream_host.specs.Steps.{HostLog, stored_in, got_in, latest_got, marks_in, marks_at_banners, resets_in}
-use Rattle.stream_host.specs.Steps.PortStep.{raised}
+use Rattle.host_journal.specs.Jobs.{is_reset}
+use Rattle.host_journal.specs.Links.{banners_in}
+use Rattle.host_journal.specs.Raises.{raised_to, raises_in}
+use Rattle.host_journal.specs.Steps.{HostLog, stored_in, got_in, latest_got, marks_in, marks_at_banners, resets_in}
+use Rattle.host_journal.specs.Steps.PortStep.{raised}
 use Rattle.stream_host.proofs.Epochs.{some_banner}
 use Rattle.stream_host.proofs.Greeting.{answered_stored}
 use Rattle.stream_host.proofs.Raised.{AreStored, banners_first, low_mark, last_greeted}

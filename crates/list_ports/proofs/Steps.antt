@@ -19,18 +19,18 @@ use Rattle.pulse_engine.specs.Logs.PieceEvent.{asked as stop_asked, ticked, halt
 use Rattle.pulse_engine.specs.Logs.PieceEvent.{got as piece_came}
 use Rattle.status_report.specs.declared.Reply.{Reply}
 use Rattle.status_report.specs.declared.Reply.TheVariants as replies
-use Rattle.stream_host.specs.Ports.{TakesByte, TakesRaise, SeemsFull, AnswersLines, PortsAgree}
+use Rattle.host_journal.specs.Ports.{TakesByte, TakesRaise, SeemsFull, AnswersLines, PortsAgree}
 use Rattle.code_table.specs.Tables.{query}
-use Rattle.stream_host.specs.Links.{banners_in}
-use Rattle.stream_host.specs.Steps.{stored_in, stored_at_banners, got_in, latest_got, marks_in, marks_at_banners, is_shut_in}
+use Rattle.host_journal.specs.Links.{banners_in}
+use Rattle.host_journal.specs.Steps.{stored_in, stored_at_banners, got_in, latest_got, marks_in, marks_at_banners, is_shut_in}
 use Rattle.serial_ring.specs.Logs as link
 use Rattle.serial_ring.specs.Logs.{greeted_in, taken_at_banners, answers_since, lfs_since}
 use Rattle.board_rules.proofs.LinkSteps.{taken_back, same_taken}
-use Rattle.stream_host.specs.Steps.{HostLog}
-use Rattle.stream_host.specs.Steps.PortStep.{stored, dropped, marked, raised, got}
+use Rattle.host_journal.specs.Steps.{HostLog}
+use Rattle.host_journal.specs.Steps.PortStep.{stored, dropped, marked, raised, got}
 use Rattle.list_ports.specs.Asked.{AsksBetween, LooksFirst, AsksPass, report_is_up, raised_behind, words_behind, told_by, resets_taken, has_looked}
 use Rattle.list_ports.specs.Joining.{Listed, FlagsPass, MarksPass, RepliesPass, Joined, with_flag, one_if_some}
-use Rattle.stream_host.specs.Raises.{raised_to, raises_in}
+use Rattle.host_journal.specs.Raises.{raised_to, raises_in}
 use Rattle.board_rules.specs.Takes.{takes_in}
 use Rattle.list_ports.proofs.Asks as reports
 use Rattle.list_ports.proofs.Links as links

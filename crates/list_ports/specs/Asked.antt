@@ -7,10 +7,10 @@ use Rattle.realtime_flags.specs.Bits.{is_up, report_flag}
 use Rattle.serial_ring.specs.Lists.{answers_behind_mark}
 use Rattle.serial_ring.specs.Logs as link
 use Rattle.serial_ring.specs.Marks.{latest}
-use Rattle.stream_host.specs.Links.{banners_in}
-use Rattle.stream_host.specs.Steps.{stored_in, latest_got, marks_in, resets_in}
-use Rattle.stream_host.specs.Steps.{HostLog}
-use Rattle.stream_host.specs.Steps.PortStep.{raised}
+use Rattle.host_journal.specs.Links.{banners_in}
+use Rattle.host_journal.specs.Steps.{stored_in, latest_got, marks_in, resets_in}
+use Rattle.host_journal.specs.Steps.{HostLog}
+use Rattle.host_journal.specs.Steps.PortStep.{raised}
 use Rattle.board_rules.specs.Ports.{asks_report, asks_reset, link_steps}
 use Rattle.board_rules.specs.Ports.{PortStep as BoardStep, BoardLog}
 use Rattle.board_rules.specs.Ports.PortStep.{took, answered, took_exec}

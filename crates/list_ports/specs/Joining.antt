@@ -9,7 +9,7 @@ use Rattle.realtime_flags.specs.declared.words.Flag.TheVariants as flags
 use Rattle.realtime_flags.specs.declared.words.Raise.{Raise}
 use Rattle.realtime_flags.specs.declared.words.Take.{Take}
 use Rattle.realtime_flags.specs.Bits.{IsBalanced, raises_of, report_flag}
-use Rattle.stream_host.specs.Raises.{raises_in}
+use Rattle.host_journal.specs.Raises.{raises_in}
 use Rattle.board_rules.specs.Takes.{takes_in}
 use Rattle.step_line.specs.declared.Piece.{Piece}
 use Rattle.step_line.specs.Logs.{NewestFirst}
@@ -28,9 +28,9 @@ use Rattle.serial_ring.specs.declared.view.LinkStep.{LinkStep}
 use Rattle.serial_ring.specs.Marks.{Mark, AreMarks, AreRising, latest}
 use Rattle.serial_ring.specs.Lists.{IsRoom, AreAtMost}
 use Rattle.serial_ring.specs.Logs.{marked_in, greeted_in, taken_at_banners, answers_since, lfs_since, AnswersWell}
-use Rattle.stream_host.specs.Links.{banners_in, AreGreetings}
-use Rattle.stream_host.specs.Steps.{stored_in, stored_at_banners, got_in, marks_in, marks_at_banners, is_shut_in}
-use Rattle.stream_host.specs.Steps.{HostLog}
+use Rattle.host_journal.specs.Links.{banners_in, AreGreetings}
+use Rattle.host_journal.specs.Steps.{stored_in, stored_at_banners, got_in, marks_in, marks_at_banners, is_shut_in}
+use Rattle.host_journal.specs.Steps.{HostLog}
 use Rattle.list_ports.specs.Asked.{AsksBetween, LooksFirst, AsksPass, report_is_up, raised_behind, words_behind, told_by, resets_taken, has_looked}
 
 -- what the lists hold: bytes and replies on their way, whether the link is closed, how many bytes were stored, and the last mark;

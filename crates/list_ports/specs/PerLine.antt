@@ -3,7 +3,7 @@ use Rattle.std.specs.Prelude.{ℕ, ◌+◌, ◌≤◌, ◌&&◌, cond, nat_eq, L
 use Rattle.status_report.specs.declared.Reply.{Reply}
 use Rattle.status_report.specs.Answering.{is_report}
 use Rattle.run_rules.specs.Reports.{is_query}
-use Rattle.stream_host.specs.Jobs.{is_reset, served}
+use Rattle.host_journal.specs.Jobs.{is_reset, served}
 use Rattle.list_ports.specs.Asked.{is_at}
 
 -- ---- the reports among replies

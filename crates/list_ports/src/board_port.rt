@@ -6,7 +6,7 @@ ghost use Rattle.status_report.specs.Answering.{reply_room};
 ghost use Rattle.step_line.specs.Finishing.{most_unfinished};
 ghost use Rattle.board_rules.specs.Ports.{BoardLog, said, MayAnswer, MayBeDone, MayPublish, IsMarkedPast, HasTakenFew, HasFewReports, LacksPieceRoom, LacksReplyRoom, asks_report};
 ghost use Rattle.board_rules.specs.Ports.PortStep.{took, found_empty, found_closed, found_free, no_reply_room, took_exec, took_ovr, published, no_piece_room, loaded};
-ghost use Rattle.stream_host.specs.Steps.{HostLog};
+ghost use Rattle.host_journal.specs.Steps.{HostLog};
 ghost use Rattle.pulse_engine.specs.Logs.{PieceLog};
 ghost use Rattle.list_ports.specs.Joining.{Joined, one_if_some};
 ghost use Rattle.list_ports.specs.Finding.{byte_found};

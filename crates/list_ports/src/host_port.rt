@@ -4,9 +4,9 @@ ghost use Rattle.std.specs.Prelude.{◌≡◌, [], ◌∷◌, ◌≤◌, length,
 ghost use Rattle.std.specs.List.{slice_get};
 ghost use Rattle.status_report.specs.Replies.{IsReply};
 ghost use Rattle.board_rules.specs.Ports.{BoardLog};
-ghost use Rattle.stream_host.specs.Ports.{AnswersLines, SeemsFull, TakesByte};
-ghost use Rattle.stream_host.specs.Steps.{HostLog};
-ghost use Rattle.stream_host.specs.Steps.PortStep.{stored, dropped, got, no_reply};
+ghost use Rattle.host_journal.specs.Ports.{AnswersLines, SeemsFull, TakesByte};
+ghost use Rattle.host_journal.specs.Steps.{HostLog};
+ghost use Rattle.host_journal.specs.Steps.PortStep.{stored, dropped, got, no_reply};
 ghost use Rattle.pulse_engine.specs.Logs.{PieceLog};
 ghost use Rattle.list_ports.specs.Joining.{Joined};
 

@@ -1,7 +1,7 @@
 //! What the ports over the lists know of each other.
 
-ghost use Rattle.stream_host.specs.Ports.{PortsAgree};
-ghost use Rattle.stream_host.specs.Steps.{HostLog};
+ghost use Rattle.host_journal.specs.Ports.{PortsAgree};
+ghost use Rattle.host_journal.specs.Steps.{HostLog};
 ghost use Rattle.board_rules.specs.Ports.{BoardLog, link_steps, has_closed_in};
 ghost use Rattle.pulse_engine.specs.Logs.{PieceLog};
 ghost use Rattle.list_ports.specs.Joining.{Listed, Joined};

@@ -9,10 +9,10 @@ use Rattle.planner_runs.specs.declared.Action.{Action}
 use Rattle.planner_runs.specs.declared.Action.TheVariants.{Override}
 use Rattle.realtime_flags.specs.declared.words.Flag.TheVariants as flags
 use Rattle.realtime_flags.specs.Bits.{is_up, raised_down, takes_with, IsBalanced}
-use Rattle.stream_host.specs.Jobs.{served_in}
+use Rattle.host_journal.specs.Jobs.{served_in}
 use Rattle.stream_host.specs.Ran.{AreRaised}
-use Rattle.stream_host.specs.Steps.{HostLog}
-use Rattle.stream_host.specs.Steps as hosts
+use Rattle.host_journal.specs.Steps.{HostLog}
+use Rattle.host_journal.specs.Steps as hosts
 use Rattle.board_rules.specs.Ports.{BoardLog}
 use Rattle.board_rules.specs.Ports.PortStep.{took_exec, took_ovr}
 use Rattle.run_law.specs.Changes.{raises_change, is_change_at, IsAskedIn, IsAmong, IsChange, AreChanges, words_in}

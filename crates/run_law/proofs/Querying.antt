@@ -6,10 +6,10 @@ use Rattle.code_table.specs.Tables.{query}
 use Rattle.realtime_flags.specs.Bits.{is_up, report_flag, takes_with, IsBalanced}
 use Rattle.realtime_flags.proofs.Bits.{down_among, at_least}
 use Rattle.run_rules.specs.Reports.{is_query}
-use Rattle.stream_host.specs.Ports.{queries_in}
-use Rattle.stream_host.specs.Steps.{HostLog}
-use Rattle.stream_host.specs.Steps as hosts
-use Rattle.stream_host.specs.Steps.PortStep.{raised}
+use Rattle.host_journal.specs.Ports.{queries_in}
+use Rattle.host_journal.specs.Steps.{HostLog}
+use Rattle.host_journal.specs.Steps as hosts
+use Rattle.host_journal.specs.Steps.PortStep.{raised}
 use Rattle.stream_host.proofs.Queries.{few_queries}
 use Rattle.board_rules.specs.Ports.{BoardLog, reports_in}
 use Rattle.board_rules.proofs.Asking.{reports_are}

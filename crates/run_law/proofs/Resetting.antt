@@ -9,9 +9,9 @@ use Rattle.realtime_flags.specs.declared.words.Flag.{Flag}
 use Rattle.realtime_flags.specs.declared.words.Flag.TheVariants as flags
 use Rattle.realtime_flags.specs.Bits.{is_flag, is_up, raised_down, takes_with, IsBalanced}
 use Rattle.realtime_flags.specs.Bytes.{flag_of_row, flag_of_byte}
-use Rattle.stream_host.specs.Jobs.{is_reset}
-use Rattle.stream_host.specs.Steps.{HostLog}
-use Rattle.stream_host.specs.Steps as hosts
+use Rattle.host_journal.specs.Jobs.{is_reset}
+use Rattle.host_journal.specs.Steps.{HostLog}
+use Rattle.host_journal.specs.Steps as hosts
 use Rattle.board_rules.specs.Ports.{BoardLog, asks_reset, has_reset_in}
 use Rattle.board_rules.specs.Ports.PortStep.{took_exec}
 use Rattle.run_law.specs.Flags.{is_hold, is_change, AreTaken, words_taken}

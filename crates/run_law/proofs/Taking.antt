@@ -20,9 +20,9 @@ use Rattle.realtime_flags.specs.declared.words.Take.{Take}
 use Rattle.realtime_flags.specs.Bits.{is_flag, counted, raised_down, takes_with}
 use Rattle.realtime_flags.specs.Bytes.{flag_of_row, flag_of_byte}
 use Rattle.realtime_flags.proofs.Bits.{same_flag}
-use Rattle.stream_host.specs.Steps.{HostLog}
-use Rattle.stream_host.specs.Steps as hosts
-use Rattle.stream_host.specs.Steps.PortStep.{raised}
+use Rattle.host_journal.specs.Steps.{HostLog}
+use Rattle.host_journal.specs.Steps as hosts
+use Rattle.host_journal.specs.Steps.PortStep.{raised}
 use Rattle.board_rules.specs.Ports.{BoardLog, has_changes, has_held_in, has_changed_in}
 use Rattle.board_rules.specs.Ports.PortStep.{took_exec, took_ovr}
 use Rattle.run_law.specs.Flags.{is_hold, is_override, is_change}

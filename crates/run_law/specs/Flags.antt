@@ -9,7 +9,7 @@ use Rattle.board_rules.specs.Cuts.{cancel_words_in}
 use Rattle.board_rules.specs.Ports.{BoardLog, has_held_in, has_slowed_in, has_changed_in, has_reset_in, reports_in}
 use Rattle.feed_hold.specs.Motions.{hold_byte, cancel_byte}
 use Rattle.run_rules.specs.Reports.{is_query}
-use Rattle.stream_host.specs.Jobs.{is_reset}
+use Rattle.host_journal.specs.Jobs.{is_reset}
 use Rattle.run_law.specs.Changes.{words_in}
 
 -- `!` holds the machine

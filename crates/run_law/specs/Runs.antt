@@ -2,7 +2,7 @@
 use Rattle.std.specs.Prelude.{ℕ, Bool, List}
 use Rattle.std.specs.List.{count_by, list_any}
 use Rattle.outside.specs.Causes.{SinkState}
-use Rattle.stream_host.specs.Jobs.{served_in}
+use Rattle.host_journal.specs.Jobs.{served_in}
 use Rattle.stream_host.specs.Ran.{HostEnd}
 use Rattle.run_law.specs.declared.RunEnd.{RunEnd}
 use Rattle.run_law.specs.Flags.{is_hold, is_slow, is_change}

@@ -8,7 +8,7 @@ ghost use Rattle.step_record.specs.declared.forms.Form.{Form};
 ghost use Rattle.step_record.specs.Recording.{Recording, RecorderFits, Rests};
 ghost use Rattle.board_rules.specs.Ports.{BoardLog};
 ghost use Rattle.realtime_flags.specs.Bits.{IsBalanced};
-ghost use Rattle.stream_host.specs.Steps.{HostLog, bytes_raised_in};
+ghost use Rattle.host_journal.specs.Steps.{HostLog, bytes_raised_in};
 ghost use Rattle.run_law.specs.Changes.{AreAskedIn, words_in};
 ghost use Rattle.run_law.specs.Flags.{AreTaken, words_taken};
 ghost use Rattle.run_law.specs.Taking.{raises_in, takes_in};

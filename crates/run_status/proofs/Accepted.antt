@@ -20,8 +20,8 @@ use Rattle.run_texts.specs.Parts.Ending.{by_end}
 use Rattle.run_texts.specs.Points.{Point, opening, behind_line, behind_broken}
 use Rattle.run_texts.specs.Sent.{Sent, sent_of, has_reset}
 use Rattle.run_texts.specs.Sent.Sent.{a_text}
-use Rattle.stream_host.specs.Jobs.{is_reset, served}
-use Rattle.stream_host.specs.declared.Stop.TheVariants as stops
+use Rattle.host_journal.specs.Jobs.{is_reset, served}
+use Rattle.host_journal.specs.declared.Stop.TheVariants as stops
 use Rattle.run_law.specs.declared.RunEnd.{RunEnd}
 use Rattle.run_law.specs.Flags.{is_slow, is_change}
 use Rattle.run_law.specs.Runs.{Sinks, slows_in, asks_change}

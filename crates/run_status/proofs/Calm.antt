@@ -13,7 +13,7 @@ use Rattle.run_texts.proofs.Kept.{kept_without}
 use Rattle.run_texts.specs.Sent.{Sent, sent_by, resets_of}
 use Rattle.run_texts.specs.Sent as texts
 use Rattle.run_texts.specs.Sent.Sent.{a_text, a_stop}
-use Rattle.stream_host.specs.Jobs.{is_long, is_reset, served, behind_last, sent_text, fronts, has_too_many}
+use Rattle.host_journal.specs.Jobs.{is_long, is_reset, served, behind_last, sent_text, fronts, has_too_many}
 use Rattle.stream_host.proofs.Pieces.{neither}
 use Rattle.stream_host.proofs.Raising.{served_nil}
 use Rattle.stream_host.proofs.Texts.{any_map}

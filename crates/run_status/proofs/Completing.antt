@@ -29,10 +29,10 @@ use Rattle.run_texts.specs.Points.{Point, opening, behind_line, behind_broken}
 use Rattle.run_texts.specs.Sent.{Sent, sent_of, sent_by, resets_of, has_reset, behind_reset}
 use Rattle.run_texts.specs.Sent.Sent.{a_text, a_stop}
 use Rattle.run_status.specs.Setups.{Setup}
-use Rattle.stream_host.specs.declared.Reading.{Reading}
-use Rattle.stream_host.specs.declared.Reading.TheVariants.{Ended, Failed, Large, Stopped}
-use Rattle.stream_host.specs.declared.Stop.TheVariants.{End}
-use Rattle.stream_host.specs.Jobs.{ends_sending, ends_in, is_long, is_sent, lines_read, lines_to_send, long_line, served, stop_by, MayHaveRead, MayLeave}
+use Rattle.host_journal.specs.declared.Reading.{Reading}
+use Rattle.host_journal.specs.declared.Reading.TheVariants.{Ended, Failed, Large, Stopped}
+use Rattle.host_journal.specs.declared.Stop.TheVariants.{End}
+use Rattle.host_journal.specs.Jobs.{ends_sending, ends_in, is_long, is_sent, lines_read, lines_to_send, long_line, served, stop_by, MayHaveRead, MayLeave}
 use Rattle.stream_host.specs.Ran.{is_failed}
 use Rattle.stream_host.proofs.Pieces.{neither, ends_on, all_are_sent}
 use Rattle.run_law.specs.declared.RunEnd.{RunEnd}

@@ -1,7 +1,7 @@
 -- How a run of the generated job ends.
 use Rattle.std.proofs.Common.{◌≡◌, ℕ, ◌+◌, Bool, true, false, cond, ap, sym, refl, ◌∙◌, subst}
 use Rattle.outside.specs.Causes.{Rose, SinkState}
-use Rattle.stream_host.specs.declared.Stop.TheVariants as stops
+use Rattle.host_journal.specs.declared.Stop.TheVariants as stops
 use Rattle.run_status.specs.declared.Status.{Status}
 use Rattle.run_status.specs.declared.Status.TheVariants.{Done, LineErrors, Usage, SourceFault, ConsoleFault, StepsFault, LongLine, Alarm, TooLarge, OutOfMemory}
 use Rattle.run_law.specs.declared.RunEnd.{RunEnd}

@@ -9,11 +9,11 @@ use Rattle.run_rules.specs.Lines.{lines_of}
 use Rattle.run_rules.specs.Readings.{largest_job, job_of}
 use Rattle.run_rules.specs.Told.{replies_text}
 use Rattle.run_rules.proofs.Cutting.{lines_are}
-use Rattle.stream_host.specs.declared.Reading.{Reading}
-use Rattle.stream_host.specs.declared.Reading.TheVariants.{Ended, Failed, Large, Stopped}
-use Rattle.stream_host.specs.declared.Stop.{Stop}
-use Rattle.stream_host.specs.declared.Stop.TheVariants as stops
-use Rattle.stream_host.specs.Jobs.{MayHaveRead, MayLeave, ends_sending, is_long, lines_to_send}
+use Rattle.host_journal.specs.declared.Reading.{Reading}
+use Rattle.host_journal.specs.declared.Reading.TheVariants.{Ended, Failed, Large, Stopped}
+use Rattle.host_journal.specs.declared.Stop.{Stop}
+use Rattle.host_journal.specs.declared.Stop.TheVariants as stops
+use Rattle.host_journal.specs.Jobs.{MayHaveRead, MayLeave, ends_sending, is_long, lines_to_send}
 use Rattle.stream_host.specs.Ran.{is_failed}
 use Rattle.stream_host.proofs.Pieces.{all_are_sent, neither}
 use Rattle.run_law.specs.declared.RunEnd.{RunEnd}

@@ -18,7 +18,7 @@ use Rattle.run_texts.specs.Courses.Passed.{a_line, a_broken, a_cut, a_reset}
 use Rattle.run_texts.specs.Points.{Point, IsPassed, behind_line, behind_broken, opening}
 use Rattle.run_texts.specs.Sent.{Sent, behind_reset, sent_of}
 use Rattle.run_texts.specs.Sent.Sent.{a_text, a_stop}
-use Rattle.stream_host.specs.declared.Stop.TheVariants as stops
+use Rattle.host_journal.specs.declared.Stop.TheVariants as stops
 use Rattle.run_law.specs.declared.RunEnd.{RunEnd}
 use Rattle.run_law.specs.Runs.{Sinks}
 use Rattle.epoch_law.specs.Ran.{lost_in}

@@ -8,9 +8,9 @@ use Rattle.std.proofs.lemmas.List.{append_cancel_right, length-append, take-appe
 use Rattle.std.proofs.Math.Seq.{take-append_seam}
 use Rattle.outside.specs.Causes.{SourceState}
 use Rattle.run_rules.specs.Lines.{lines_of}
-use Rattle.stream_host.specs.declared.Stop.{Stop}
-use Rattle.stream_host.specs.declared.Reading.TheVariants.{Ended}
-use Rattle.stream_host.specs.Jobs.{ScansFront, but_last, ends_sending, ends_in, stop_by}
+use Rattle.host_journal.specs.declared.Stop.{Stop}
+use Rattle.host_journal.specs.declared.Reading.TheVariants.{Ended}
+use Rattle.host_journal.specs.Jobs.{ScansFront, but_last, ends_sending, ends_in, stop_by}
 use Rattle.stream_host.proofs.Pieces.{neither}
 use Rattle.run_status.proofs.Completing.{none_ends_in}
 use Rattle.run_status.specs.Statuses.{SendsUpTo}

@@ -5,11 +5,11 @@ use Rattle.run_status.specs.Setups.{Setup}
 use Rattle.outside.specs.Causes.{Rose, SourceState}
 use Rattle.run_rules.specs.Readings.{largest_job, job_of}
 use Rattle.run_rules.specs.Told.{errors_in}
-use Rattle.stream_host.specs.declared.Reading.{Reading}
-use Rattle.stream_host.specs.declared.Reading.TheVariants.{Ended, Failed, Large, Stopped}
-use Rattle.stream_host.specs.declared.Stop.{Stop}
-use Rattle.stream_host.specs.declared.Stop.TheVariants as stops
-use Rattle.stream_host.specs.Jobs.{MayHaveRead, MayLeave, ScansFront, ends_in, stop_by}
+use Rattle.host_journal.specs.declared.Reading.{Reading}
+use Rattle.host_journal.specs.declared.Reading.TheVariants.{Ended, Failed, Large, Stopped}
+use Rattle.host_journal.specs.declared.Stop.{Stop}
+use Rattle.host_journal.specs.declared.Stop.TheVariants as stops
+use Rattle.host_journal.specs.Jobs.{MayHaveRead, MayLeave, ScansFront, ends_in, stop_by}
 use Rattle.stream_host.specs.Ran.{is_failed}
 use Rattle.run_texts.specs.Courses.{lines_in}
 use Rattle.run_law.specs.declared.RunEnd.{RunEnd}

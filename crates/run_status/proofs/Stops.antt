@@ -6,12 +6,12 @@ use Rattle.outside.specs.Causes.{SourceState}
 use Rattle.run_rules.specs.Lines.{lines_of}
 use Rattle.run_rules.specs.Readings.{job_of}
 use Rattle.run_texts.specs.Told.{has_alarm}
-use Rattle.stream_host.specs.declared.Reading.{Reading}
-use Rattle.stream_host.specs.declared.Reading.TheVariants.{Ended, Failed, Large, Stopped}
-use Rattle.stream_host.specs.declared.Stop.{Stop}
-use Rattle.stream_host.specs.declared.Stop.TheVariants as stops
-use Rattle.stream_host.specs.Jobs.{MayScan, ScansFront, is_long, is_sent, long_line, stop_by}
-use Rattle.stream_host.specs.Steps.{or_alarm}
+use Rattle.host_journal.specs.declared.Reading.{Reading}
+use Rattle.host_journal.specs.declared.Reading.TheVariants.{Ended, Failed, Large, Stopped}
+use Rattle.host_journal.specs.declared.Stop.{Stop}
+use Rattle.host_journal.specs.declared.Stop.TheVariants as stops
+use Rattle.host_journal.specs.Jobs.{MayScan, ScansFront, is_long, is_sent, long_line, stop_by}
+use Rattle.host_journal.specs.Steps.{or_alarm}
 use Rattle.run_law.specs.declared.RunEnd.{RunEnd}
 use Rattle.run_law.specs.Runs.{Sinks}
 use Rattle.epoch_law.specs.Runs.{IsRun}

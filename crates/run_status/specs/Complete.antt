@@ -11,8 +11,8 @@ use Rattle.run_rules.specs.Work.{Outcome}
 use Rattle.run_rules.specs.Outcomes.{Before, Follows, start, after, has_cause}
 use Rattle.run_rules.specs.Outcomes.Passed.{a_line}
 use Rattle.run_rules.specs.Told.{errors_in, limits_in}
-use Rattle.stream_host.specs.declared.Stop.TheVariants.{End}
-use Rattle.stream_host.specs.Jobs.{resets_scanned}
+use Rattle.host_journal.specs.declared.Stop.TheVariants.{End}
+use Rattle.host_journal.specs.Jobs.{resets_scanned}
 use Rattle.run_law.specs.declared.RunEnd.{RunEnd}
 
 -- no line comes after lines that give a cause for its refusal: none of G-code after a jog, and none that begins with

@@ -16,11 +16,11 @@ use Rattle.run_texts.specs.Points.{Point, opening}
 use Rattle.run_texts.specs.Sent.{Sent, sent_of}
 use Rattle.run_texts.specs.Sent.Sent.{a_text}
 use Rattle.run_texts.specs.SoFar.{LeadsTo}
-use Rattle.stream_host.specs.declared.Reading.{Reading}
-use Rattle.stream_host.specs.declared.Reading.TheVariants.{Large}
-use Rattle.stream_host.specs.declared.Stop.{Stop}
-use Rattle.stream_host.specs.declared.Stop.TheVariants as stops
-use Rattle.stream_host.specs.Jobs.{MayHaveRead, MayScan, is_long, is_sent, stop_by}
+use Rattle.host_journal.specs.declared.Reading.{Reading}
+use Rattle.host_journal.specs.declared.Reading.TheVariants.{Large}
+use Rattle.host_journal.specs.declared.Stop.{Stop}
+use Rattle.host_journal.specs.declared.Stop.TheVariants as stops
+use Rattle.host_journal.specs.Jobs.{MayHaveRead, MayScan, is_long, is_sent, stop_by}
 use Rattle.run_law.specs.declared.RunEnd.{RunEnd}
 use Rattle.run_law.specs.Runs.{Sinks}
 use Rattle.epoch_law.specs.Runs.{IsRun}

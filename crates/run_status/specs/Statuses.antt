@@ -4,10 +4,10 @@ use Rattle.std.specs.Io.KnownBytes.{Consumes, IsAtEnd}
 use Rattle.run_status.specs.Setups.{Setup}
 use Rattle.outside.specs.Causes.{Rose, SourceState}
 use Rattle.run_rules.specs.Readings.{largest_job}
-use Rattle.stream_host.specs.declared.Reading.TheVariants.{Ended}
-use Rattle.stream_host.specs.declared.Stop.{Stop}
-use Rattle.stream_host.specs.declared.Stop.TheVariants as stops
-use Rattle.stream_host.specs.Jobs.{ScansFront, ends_in, stop_by}
+use Rattle.host_journal.specs.declared.Reading.TheVariants.{Ended}
+use Rattle.host_journal.specs.declared.Stop.{Stop}
+use Rattle.host_journal.specs.declared.Stop.TheVariants as stops
+use Rattle.host_journal.specs.Jobs.{ScansFront, ends_in, stop_by}
 use Rattle.run_law.specs.Runs.{Sinks}
 use Rattle.run_status.specs.declared.Status.{Status}
 use Rattle.run_status.specs.declared.Status.TheVariants.{Done, LineErrors, Usage, SourceFault, ConsoleFault, StepsFault, LongLine, Alarm, TooLarge, OutOfMemory}

@@ -3,12 +3,12 @@ use Rattle.std.proofs.Common.{◌≡◌, ℕ, ◌||◌, Bool, true, false, cond,
 use Rattle.std.specs.List.{list_any}
 use Rattle.std.proofs.lemmas.List.Folds.{list_any-append}
 use Rattle.status_report.specs.declared.Reply.{Reply}
-use Rattle.stream_host.specs.declared.Stop.{Stop}
-use Rattle.stream_host.specs.declared.Stop.TheVariants.{End, LongLine, TooLarge, Alarm}
+use Rattle.host_journal.specs.declared.Stop.{Stop}
+use Rattle.host_journal.specs.declared.Stop.TheVariants.{End, LongLine, TooLarge, Alarm}
 use Rattle.run_rules.specs.Work.{is_limit}
-use Rattle.stream_host.specs.Steps.{Journal, got_of, has_limit, line_raises_of, or_alarm, resumes_next}
-use Rattle.stream_host.specs.Steps.PortStep.{stored, dropped, marked, raised, got, no_reply, shut}
-use Rattle.stream_host.specs.Steps.Step.{at_port, read_some, read_end, read_failed, scanned, line_over, wrote, gave_up, turned, attends}
+use Rattle.host_journal.specs.Steps.{Journal, got_of, has_limit, line_raises_of, or_alarm, resumes_next}
+use Rattle.host_journal.specs.Steps.PortStep.{stored, dropped, marked, raised, got, no_reply, shut}
+use Rattle.host_journal.specs.Steps.Step.{at_port, read_some, read_end, read_failed, scanned, line_over, wrote, gave_up, turned, attends}
 use Rattle.stream_host.specs.Conduct.{Conducted, MayRaise}
 use Rattle.stream_host.specs.Ran.{SentNoMore}
 

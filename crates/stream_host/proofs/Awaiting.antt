@@ -5,12 +5,12 @@ use Rattle.std.proofs.lemmas.Bool.Decides.{nat_tests}
 use Rattle.std.proofs.lemmas.List.Sums.{sum_by-append, sum_by-cons, count_by-le-length}
 use Rattle.status_report.specs.declared.Reply.{Reply}
 use Rattle.status_report.specs.Answering.{is_banner}
-use Rattle.stream_host.specs.Links.{banners_in}
-use Rattle.stream_host.specs.Jobs.{is_reset, is_long, served, resets_scanned, lacks_banner}
+use Rattle.host_journal.specs.Links.{banners_in}
+use Rattle.host_journal.specs.Jobs.{is_reset, is_long, served, resets_scanned, lacks_banner}
 use Rattle.stream_host.specs.Ran.{AreAwaited, EndsInReset}
-use Rattle.stream_host.specs.Steps.{HostLog, Journal, port_log, got_in, latest_got, got_of, bytes_raised_in, resets_in, raises_of, resets_of, resets_so_far, banners_of, awaits_banner, scanned_of, raw_of, cut_of, due_of, more_served}
-use Rattle.stream_host.specs.Steps.PortStep.{stored, dropped, marked, raised, got, no_reply, shut}
-use Rattle.stream_host.specs.Steps.Step.{at_port, read_some, read_end, read_failed, scanned, line_over, wrote, gave_up, turned, attends}
+use Rattle.host_journal.specs.Steps.{HostLog, Journal, port_log, got_in, latest_got, got_of, bytes_raised_in, resets_in, raises_of, resets_of, resets_so_far, banners_of, awaits_banner, scanned_of, raw_of, cut_of, due_of, more_served}
+use Rattle.host_journal.specs.Steps.PortStep.{stored, dropped, marked, raised, got, no_reply, shut}
+use Rattle.host_journal.specs.Steps.Step.{at_port, read_some, read_end, read_failed, scanned, line_over, wrote, gave_up, turned, attends}
 use Rattle.stream_host.specs.Conduct.{Conducted}
 use Rattle.stream_host.proofs.Texts.{reset_drops, long_same}
 use Rattle.stream_host.proofs.Raising.{served_on, none_at_lf, one_more, raised_is}

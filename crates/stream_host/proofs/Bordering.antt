@@ -6,12 +6,12 @@ use Rattle.std.proofs.lemmas.List.{map-append, reverse-append}
 use Rattle.std.proofs.lemmas.List.Elements.{filter-append}
 use Rattle.run_rules.specs.Lines.{lines_of}
 use Rattle.run_rules.proofs.Cutting.{lines_are, some_bytes}
-use Rattle.stream_host.specs.Links.{on_link}
-use Rattle.stream_host.specs.Jobs.{is_reset, sent_text, served, marks_at, marks_behind}
+use Rattle.host_journal.specs.Links.{on_link}
+use Rattle.host_journal.specs.Jobs.{is_reset, sent_text, served, marks_at, marks_behind}
 use Rattle.stream_host.specs.Ran.{AreMarks}
-use Rattle.stream_host.specs.Steps.{Journal, marks_of, resets_of, scanned_of, raw_of, cut_of, due_of, more_served, stored_of, resumes_next}
-use Rattle.stream_host.specs.Steps.PortStep.{stored, dropped, marked, raised, got, no_reply, shut}
-use Rattle.stream_host.specs.Steps.Step.{at_port, read_some, read_end, read_failed, scanned, line_over, wrote, gave_up, turned, attends}
+use Rattle.host_journal.specs.Steps.{Journal, marks_of, resets_of, scanned_of, raw_of, cut_of, due_of, more_served, stored_of, resumes_next}
+use Rattle.host_journal.specs.Steps.PortStep.{stored, dropped, marked, raised, got, no_reply, shut}
+use Rattle.host_journal.specs.Steps.Step.{at_port, read_some, read_end, read_failed, scanned, line_over, wrote, gave_up, turned, attends}
 use Rattle.stream_host.specs.Conduct.{Conducted, MayRaise}
 use Rattle.stream_host.proofs.Keeping.{IsCut, cut_is}
 use Rattle.stream_host.proofs.Raising.{served_nil, served_on, none_at_lf, one_more}

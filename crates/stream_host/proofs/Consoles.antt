@@ -5,8 +5,8 @@ use Rattle.std.proofs.lemmas.Bool.Decides.{nat_tests}
 use Rattle.std.proofs.lemmas.List.{length-drop}
 use Rattle.std.proofs.lemmas.List.Sums.{sum_by-cons}
 use Rattle.stream_host.specs.declared.host.Host.{Host}
-use Rattle.stream_host.specs.Steps.{Step, Journal, read_of, reading_of, text_of, this_turn}
-use Rattle.stream_host.specs.Steps.Step.{wrote, gave_up}
+use Rattle.host_journal.specs.Steps.{Step, Journal, read_of, reading_of, text_of, this_turn}
+use Rattle.host_journal.specs.Steps.Step.{wrote, gave_up}
 use Rattle.stream_host.specs.Conduct.{publishing, polling}
 use Rattle.stream_host.specs.Hosts.{HostFits, NothingPublished}
 use Rattle.std.specs.Io.KnownBytes.{Consumes}
@@ -14,7 +14,7 @@ use Rattle.std.proofs.lemmas.List.{drop-drop}
 use Rattle.outside.specs.Causes.{SourceState, SinkState}
 use Rattle.text_writer.specs.Writers.{Writing, Writes, TookSome, WriteFailed, WroteOnce}
 use Rattle.text_writer.proofs.Arriving.{well, once_more}
-use Rattle.stream_host.specs.Steps.{written_of}
+use Rattle.host_journal.specs.Steps.{written_of}
 use Rattle.stream_host.specs.Hosts.{DidAlone, HostTellsOn, TellsJob}
 
 -- ---- the console

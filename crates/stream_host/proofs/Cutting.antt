@@ -6,11 +6,11 @@ use Rattle.std.proofs.lemmas.List.Sums.{sum_by-append}
 use Rattle.status_report.specs.declared.Reply.{Reply}
 use Rattle.status_report.specs.Answering.{is_answer, answers_in, is_banner}
 use Rattle.serial_ring.specs.Lists.{has_banner}
-use Rattle.stream_host.specs.Links.{on_link, banners_in}
+use Rattle.host_journal.specs.Links.{on_link, banners_in}
 use Rattle.stream_host.specs.Epochs.{Epoch, told_lines, dropped_lines, lines_in, told_in, replies_in, AreEpochs, lines_now, got_now, epoch_now, ended_of}
-use Rattle.stream_host.specs.Steps.{Journal, port_log, got_of, latest_got, begins, answered_of, raw_of, cut_of, live_of}
-use Rattle.stream_host.specs.Steps.PortStep.{stored, dropped, marked, raised, got, no_reply, shut}
-use Rattle.stream_host.specs.Steps.Step.{at_port, read_some, read_end, read_failed, scanned, line_over, wrote, gave_up, turned, attends}
+use Rattle.host_journal.specs.Steps.{Journal, port_log, got_of, latest_got, begins, answered_of, raw_of, cut_of, live_of}
+use Rattle.host_journal.specs.Steps.PortStep.{stored, dropped, marked, raised, got, no_reply, shut}
+use Rattle.host_journal.specs.Steps.Step.{at_port, read_some, read_end, read_failed, scanned, line_over, wrote, gave_up, turned, attends}
 use Rattle.stream_host.specs.Conduct.{Conducted}
 use Rattle.stream_host.proofs.Epochs.{answered_live, begins_free, begins_none, both_true, some_banner, none_banner}
 use Rattle.stream_host.proofs.Awaiting.{banner_on, banners_got}

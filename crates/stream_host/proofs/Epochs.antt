@@ -9,13 +9,13 @@ use Rattle.status_report.specs.declared.Reply.TheVariants as replies
 use Rattle.status_report.specs.Answering.{lfs_in, is_answer, answers_in, is_banner}
 use Rattle.serial_ring.specs.Marks.{latest, last_of}
 use Rattle.serial_ring.specs.Lists.{has_banner, answers_behind_mark}
-use Rattle.stream_host.specs.Links.{on_link, behind_lf, behind_mark, banners_in}
-use Rattle.stream_host.specs.Jobs.{is_reset, sent_text}
-use Rattle.stream_host.specs.Ports.{AnswersLines, SeemsFull}
+use Rattle.host_journal.specs.Links.{on_link, behind_lf, behind_mark, banners_in}
+use Rattle.host_journal.specs.Jobs.{is_reset, sent_text}
+use Rattle.host_journal.specs.Ports.{AnswersLines, SeemsFull}
 use Rattle.stream_host.specs.Ran.{AreBorders}
-use Rattle.stream_host.specs.Steps.{HostLog, Journal, port_log, stored_of, got_in, latest_got, marks_of, resets_of, banners_of, awaits_banner, begins, answered_of, raw_of, cut_of, live_of, unanswered_of, forgotten_of, to_store, due_of}
-use Rattle.stream_host.specs.Steps.PortStep.{stored, dropped, marked, raised, got, no_reply, shut}
-use Rattle.stream_host.specs.Steps.Step.{at_port, read_some, read_end, read_failed, scanned, line_over, wrote, gave_up, turned, attends}
+use Rattle.host_journal.specs.Steps.{HostLog, Journal, port_log, stored_of, got_in, latest_got, marks_of, resets_of, banners_of, awaits_banner, begins, answered_of, raw_of, cut_of, live_of, unanswered_of, forgotten_of, to_store, due_of}
+use Rattle.host_journal.specs.Steps.PortStep.{stored, dropped, marked, raised, got, no_reply, shut}
+use Rattle.host_journal.specs.Steps.Step.{at_port, read_some, read_end, read_failed, scanned, line_over, wrote, gave_up, turned, attends}
 use Rattle.stream_host.specs.Conduct.{Conducted, MayMark, MayStore}
 use Rattle.stream_host.proofs.Links.{lfs_push, lfs_linked, behind_append, behind_ended, all_no_lf}
 use Rattle.stream_host.proofs.Keeping.{stored_is, none_next, linked_line}

@@ -6,9 +6,9 @@ use Rattle.outside.specs.declared.Turn.TheVariants.{Did, Done}
 use Rattle.serial_ring.specs.Marks.{start}
 use Rattle.status_report.specs.declared.Reply.TheVariants.{Banner, Ok, Bye}
 use Rattle.status_report.specs.Replies.{reply_text}
-use Rattle.stream_host.specs.Steps.{Journal, text_of}
-use Rattle.stream_host.specs.Steps.PortStep.{stored, got, no_reply, shut}
-use Rattle.stream_host.specs.Steps.Step.{at_port, read_some, read_end, scanned, line_over, wrote, turned}
+use Rattle.host_journal.specs.Steps.{Journal, text_of}
+use Rattle.host_journal.specs.Steps.PortStep.{stored, got, no_reply, shut}
+use Rattle.host_journal.specs.Steps.Step.{at_port, read_some, read_end, scanned, line_over, wrote, turned}
 use Rattle.stream_host.specs.Conduct.{Conducted}
 
 abbrev j0 : Journal

@@ -6,11 +6,11 @@ use Rattle.serial_ring.specs.declared.view.LinkStep.TheVariants.{Took, Marked, A
 use Rattle.serial_ring.specs.Logs.{AnswersWell, marked_in, greeted_in, next_mark}
 use Rattle.serial_ring.specs.Marks.{Mark, start, IsMark, AreMarks, Follows}
 use Rattle.serial_ring.proofs.Logs.{next_follows}
-use Rattle.stream_host.specs.Links.{AreGreetings, AreInOrder, banners_in, numbered}
-use Rattle.stream_host.specs.Ports.{AreGreeted, PortsAgree}
-use Rattle.stream_host.specs.Steps.{HostLog, Journal, port_log, stored_of, latest_got, marks_in, marks_at_banners, marks_of, banners_of, to_store}
-use Rattle.stream_host.specs.Steps.PortStep.{stored, dropped, marked, raised, got, no_reply, shut}
-use Rattle.stream_host.specs.Steps.Step.{at_port, read_some, read_end, read_failed, scanned, line_over, wrote, gave_up, turned, attends}
+use Rattle.host_journal.specs.Links.{AreGreetings, AreInOrder, banners_in, numbered}
+use Rattle.host_journal.specs.Ports.{AreGreeted, PortsAgree}
+use Rattle.host_journal.specs.Steps.{HostLog, Journal, port_log, stored_of, latest_got, marks_in, marks_at_banners, marks_of, banners_of, to_store}
+use Rattle.host_journal.specs.Steps.PortStep.{stored, dropped, marked, raised, got, no_reply, shut}
+use Rattle.host_journal.specs.Steps.Step.{at_port, read_some, read_end, read_failed, scanned, line_over, wrote, gave_up, turned, attends}
 use Rattle.stream_host.specs.Conduct.{Conducted}
 use Rattle.stream_host.proofs.Raised.{AreStored, banners_first, low_mark}
 use Rattle.stream_host.proofs.Epochs.{Stands, epoch_is}

@@ -4,27 +4,27 @@ use Rattle.std.proofs.lemmas.Bool.Decides.{nat_tests}
 use Rattle.std.proofs.lemmas.List.{map-append, drop-append-le, length-drop, length-take}
 use Rattle.std.proofs.lemmas.List.Sums.{sum_by-cons}
 use Rattle.run_rules.specs.Readings.{largest_job}
-use Rattle.stream_host.specs.declared.Reading.{Reading}
-use Rattle.stream_host.specs.declared.Reading.TheVariants.{Ended, Failed, Large, Stopped}
+use Rattle.host_journal.specs.declared.Reading.{Reading}
+use Rattle.host_journal.specs.declared.Reading.TheVariants.{Ended, Failed, Large, Stopped}
 use Rattle.stream_host.specs.declared.line.SentLine.{SentLine}
 use Rattle.stream_host.specs.declared.reader.Reader.{Reader}
 use Rattle.stream_host.specs.declared.host.Host.{Host}
-use Rattle.stream_host.specs.Links.{on_link}
-use Rattle.stream_host.specs.Jobs.{resume, is_reset, is_long, sent_text, ends_sending, MayHaveRead}
-use Rattle.stream_host.specs.Holding.{held_after, has_pause, pauses, resumed_after}
-use Rattle.stream_host.specs.Steps.{Journal, port_log, got_of, has_limit, answered_of, read_of, reading_of, scanned_of, unscanned_of, raw_of, cut_of, live_of, over_of, marks_of, resets_of, banners_of, awaits_banner, to_store, begun_of, due_of, asking_of, holds_of, pause_of, resumed_at, asked_more, more_served, HostLog, is_attended, is_shut, polls_of, empty_polls, long_polls, resumes_behind, resumes_next}
-use Rattle.stream_host.specs.Steps.PortStep.{marked, raised, no_reply, shut}
-use Rattle.stream_host.specs.Steps.Step.{at_port, scanned}
+use Rattle.host_journal.specs.Links.{on_link}
+use Rattle.host_journal.specs.Jobs.{resume, is_reset, is_long, sent_text, ends_sending, MayHaveRead}
+use Rattle.host_journal.specs.Holding.{held_after, has_pause, pauses, resumed_after}
+use Rattle.host_journal.specs.Steps.{Journal, port_log, got_of, has_limit, answered_of, read_of, reading_of, scanned_of, unscanned_of, raw_of, cut_of, live_of, over_of, marks_of, resets_of, banners_of, awaits_banner, to_store, begun_of, due_of, asking_of, holds_of, pause_of, resumed_at, asked_more, more_served, HostLog, is_attended, is_shut, polls_of, empty_polls, long_polls, resumes_behind, resumes_next}
+use Rattle.host_journal.specs.Steps.PortStep.{marked, raised, no_reply, shut}
+use Rattle.host_journal.specs.Steps.Step.{at_port, scanned}
 use Rattle.code_table.specs.Tables.{query}
-use Rattle.stream_host.specs.declared.line.Asking.{Asking}
-use Rattle.stream_host.specs.declared.line.Asking.TheVariants.{Nothing}
+use Rattle.host_journal.specs.declared.asking.Asking.{Asking}
+use Rattle.host_journal.specs.declared.asking.Asking.TheVariants.{Nothing}
 use Rattle.stream_host.specs.Conduct.{Conducted, AreAnswered, waits_for_lines, MayScanNext, MayMark, MayRaise, MayShut, HasSentAll, HasNoMore}
 use Rattle.stream_host.specs.Hosts.{HostFits, HasLine, KeepsLine, KeepsDue, KeepsPolls, KeepsJob, KeepsCounts, is_over, line_length, lengths, IsSummed, unread, KeepsResets, awaits_by, HasRoom, MayScanOn, MayReadOn, IsPiece}
 use Rattle.stream_host.specs.declared.resets.Resets.{Resets}
 use Rattle.stream_host.specs.declared.counts.Counts.{Counts}
 use Rattle.status_report.specs.declared.Reply.{Reply}
 use Rattle.status_report.specs.Answering.{answers_in}
-use Rattle.stream_host.specs.Ports.{TakesMark, TakesRaise, IsOpen}
+use Rattle.host_journal.specs.Ports.{TakesMark, TakesRaise, IsOpen}
 use Rattle.stream_host.proofs.Texts.{none_long, few_bytes}
 use Rattle.stream_host.proofs.Raised.{few_resets, banners_low}
 use Rattle.stream_host.proofs.Epochs.{marks_between, all_lines}

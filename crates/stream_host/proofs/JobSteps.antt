@@ -6,17 +6,17 @@ use Rattle.std.proofs.lemmas.List.{length-take, drop_all}
 use Rattle.std.specs.Io.KnownBytes.{Consumes, IsAtEnd}
 use Rattle.std.proofs.KnownBytes.{Consumes-trans, Consumes-kept}
 use Rattle.outside.specs.Causes.{SourceState, SinkState, Rose}
-use Rattle.stream_host.specs.Jobs.{sent_text}
+use Rattle.host_journal.specs.Jobs.{sent_text}
 use Rattle.run_rules.specs.Readings.{largest_job}
 use Rattle.run_rules.specs.Told.{replies_text}
-use Rattle.stream_host.specs.declared.Reading.TheVariants.{Ended, Failed, Large, Stopped}
+use Rattle.host_journal.specs.declared.Reading.TheVariants.{Ended, Failed, Large, Stopped}
 use Rattle.stream_host.specs.declared.line.SentLine.{SentLine}
 use Rattle.stream_host.specs.declared.reader.Reader.{Reader}
 use Rattle.stream_host.specs.declared.counts.Counts.{Counts}
 use Rattle.stream_host.specs.declared.host.Host.{Host}
-use Rattle.stream_host.specs.Steps.{Journal, port_log, got_in, got_of, read_of, reading_of, scanned_of, unscanned_of, raw_of, cut_of, live_of, pause_of, this_turn, due_of}
-use Rattle.stream_host.specs.Holding.{pauses}
-use Rattle.stream_host.specs.Steps.Step.{read_some, read_end, read_failed, scanned, line_over}
+use Rattle.host_journal.specs.Steps.{Journal, port_log, got_in, got_of, read_of, reading_of, scanned_of, unscanned_of, raw_of, cut_of, live_of, pause_of, this_turn, due_of}
+use Rattle.host_journal.specs.Holding.{pauses}
+use Rattle.host_journal.specs.Steps.Step.{read_some, read_end, read_failed, scanned, line_over}
 use Rattle.stream_host.specs.Conduct.{IsSettled, MayRead, HasWritten, polling, moving}
 use Rattle.stream_host.specs.Hosts.{HostFits, KeepsLine, KeepsCounts, NothingPublished, MayReadOn, GaveBytes, GaveEnd, GaveNone, DidAlone, HostTellsOn, TellsJob, unread, awaits_by, ends_turn}
 use Rattle.stream_host.proofs.Keeping.{read_is}

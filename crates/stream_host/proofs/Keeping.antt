@@ -8,16 +8,16 @@ use Rattle.std.proofs.Math.Seq.{take-append_seam}
 use Rattle.run_rules.specs.Lines.{CutsInto, ended, lines_of}
 use Rattle.run_rules.specs.Readings.{largest_job, largest_piece}
 use Rattle.run_rules.proofs.Cutting.{cut_byte, cut_line, cut_none, lines_with}
-use Rattle.stream_host.specs.declared.Reading.{Reading}
-use Rattle.stream_host.specs.declared.Reading.TheVariants.{Ended, Large, Stopped}
-use Rattle.stream_host.specs.Links.{on_link}
-use Rattle.stream_host.specs.Jobs.{sent_text, ends_sending, ends_in, but_last, MayHaveRead}
+use Rattle.host_journal.specs.declared.Reading.{Reading}
+use Rattle.host_journal.specs.declared.Reading.TheVariants.{Ended, Large, Stopped}
+use Rattle.host_journal.specs.Links.{on_link}
+use Rattle.host_journal.specs.Jobs.{sent_text, ends_sending, ends_in, but_last, MayHaveRead}
 use Rattle.std.proofs.lemmas.List.Folds.{list_any-append}
 use Rattle.status_report.specs.declared.Reply.{Reply}
 use Rattle.run_rules.specs.Work.{is_limit}
-use Rattle.stream_host.specs.Steps.{Step, Journal, stored_of, got_of, has_limit, is_shut, read_of, reading_of, scanned_of, unscanned_of, raw_of, cut_of, to_store}
-use Rattle.stream_host.specs.Steps.PortStep.{stored, dropped, marked, raised, got, no_reply, shut}
-use Rattle.stream_host.specs.Steps.Step.{at_port, read_some, read_end, read_failed, scanned, line_over, wrote, gave_up, turned, attends}
+use Rattle.host_journal.specs.Steps.{Step, Journal, stored_of, got_of, has_limit, is_shut, read_of, reading_of, scanned_of, unscanned_of, raw_of, cut_of, to_store}
+use Rattle.host_journal.specs.Steps.PortStep.{stored, dropped, marked, raised, got, no_reply, shut}
+use Rattle.host_journal.specs.Steps.Step.{at_port, read_some, read_end, read_failed, scanned, line_over, wrote, gave_up, turned, attends}
 use Rattle.stream_host.specs.Conduct.{Conducted, MayScanNext, HasSentAll}
 use Rattle.stream_host.proofs.Links.{all_push}
 use Rattle.stream_host.proofs.Pieces.{IsSendable, any_is, none_any, none_ends}

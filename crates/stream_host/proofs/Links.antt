@@ -10,8 +10,8 @@ use Rattle.gcode_words.specs.Stripping.{realtime, capital, is_plain}
 use Rattle.gcode_words.proofs.Scanning.{next, seen, shown}
 use Rattle.gcode_words.proofs.Fed.{kept_of}
 use Rattle.run_rules.specs.Lines.{HasNoLf, ended}
-use Rattle.stream_host.specs.Jobs.{is_reset, behind_last, sent_text}
-use Rattle.stream_host.specs.Links.{behind_lf, on_link}
+use Rattle.host_journal.specs.Jobs.{is_reset, behind_last, sent_text}
+use Rattle.host_journal.specs.Links.{behind_lf, on_link}
 use Rattle.stream_host.proofs.Texts.{sent_within}
 use Rattle.status_report.specs.Answering.{lfs_in}
 

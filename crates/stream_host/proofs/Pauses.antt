@@ -9,7 +9,7 @@ use Rattle.units.specs.declared.NumFault.TheVariants.{NoDigit, TooLarge}
 use Rattle.units.proofs.Longest.{front_is}
 use Rattle.gcode_words.specs.Words.{IsWord, Spells}
 use Rattle.gcode_words.specs.declared.Word.{Word}
-use Rattle.stream_host.specs.Holding.{begins_zero, has_pause, is_pause, is_zero}
+use Rattle.host_journal.specs.Holding.{begins_zero, has_pause, is_pause, is_zero}
 
 -- ---- a text without an `M` has no pause
 

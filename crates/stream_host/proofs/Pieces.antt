@@ -5,10 +5,10 @@ use Rattle.std.proofs.lemmas.List.Sums.{take_while-cons}
 use Rattle.std.proofs.lemmas.List.Folds.{list_any-append}
 use Rattle.run_rules.specs.Lines.{CutsInto, HasNoLf, ended, lines_of, whole_lines, onto_line, onto_first}
 use Rattle.run_rules.proofs.Cutting.{lines_on, wholes_on, lines_are, some_bytes}
-use Rattle.stream_host.specs.declared.Reading.{Reading}
-use Rattle.stream_host.specs.declared.Reading.TheVariants.{Ended, Failed, Large, Stopped}
-use Rattle.stream_host.specs.Links.{on_link}
-use Rattle.stream_host.specs.Jobs.{sent_text, ends_sending, is_sent, lines_read, lines_to_send}
+use Rattle.host_journal.specs.declared.Reading.{Reading}
+use Rattle.host_journal.specs.declared.Reading.TheVariants.{Ended, Failed, Large, Stopped}
+use Rattle.host_journal.specs.Links.{on_link}
+use Rattle.host_journal.specs.Jobs.{sent_text, ends_sending, is_sent, lines_read, lines_to_send}
 use Rattle.stream_host.proofs.Links.{all_no_lf, few_sent}
 use Rattle.stream_host.proofs.Texts.{none_long, long_on}
 

@@ -7,10 +7,10 @@ use Rattle.realtime_flags.specs.declared.words.Raise.{Raise}
 use Rattle.realtime_flags.specs.Bits.{is_flag, report_flag, raises_of}
 use Rattle.realtime_flags.specs.Bytes.{flag_of_row, flag_of_byte}
 use Rattle.realtime_flags.proofs.Bits.{one_more}
-use Rattle.stream_host.specs.Ports.{queries_in}
-use Rattle.stream_host.specs.Raises.{raised_to, raises_in}
-use Rattle.stream_host.specs.Steps.{HostLog}
-use Rattle.stream_host.specs.Steps.PortStep.{raised}
+use Rattle.host_journal.specs.Ports.{queries_in}
+use Rattle.host_journal.specs.Raises.{raised_to, raises_in}
+use Rattle.host_journal.specs.Steps.{HostLog}
+use Rattle.host_journal.specs.Steps.PortStep.{raised}
 
 -- whether a flag asks for a report
 abbrev pub asks : Option Flag → Bool

@@ -6,11 +6,11 @@ use Rattle.std.proofs.lemmas.List.Sums.{sum_by-cons}
 use Rattle.status_report.specs.declared.Reply.{Reply}
 use Rattle.status_report.specs.Answering.{is_banner}
 use Rattle.serial_ring.specs.Marks.{Mark, latest, last_of, IsMark, Follows, AreRising}
-use Rattle.stream_host.specs.Links.{banners_in, AreGreetings}
-use Rattle.stream_host.specs.Jobs.{resume, is_reset}
-use Rattle.stream_host.specs.Steps.{HostLog, Journal, port_log, stored_in, latest_got, marks_in, marks_at_banners, marks_of, resets_of, banners_of, awaits_banner, scanned_of, raw_of, to_store, due_of, more_served, resumes_next, is_shut, has_limit, got_of}
-use Rattle.stream_host.specs.Steps.PortStep.{stored, dropped, marked, raised, got, no_reply, shut}
-use Rattle.stream_host.specs.Steps.Step.{at_port, read_some, read_end, read_failed, scanned, line_over, wrote, gave_up, turned, attends}
+use Rattle.host_journal.specs.Links.{banners_in, AreGreetings}
+use Rattle.host_journal.specs.Jobs.{resume, is_reset}
+use Rattle.host_journal.specs.Steps.{HostLog, Journal, port_log, stored_in, latest_got, marks_in, marks_at_banners, marks_of, resets_of, banners_of, awaits_banner, scanned_of, raw_of, to_store, due_of, more_served, resumes_next, is_shut, has_limit, got_of}
+use Rattle.host_journal.specs.Steps.PortStep.{stored, dropped, marked, raised, got, no_reply, shut}
+use Rattle.host_journal.specs.Steps.Step.{at_port, read_some, read_end, read_failed, scanned, line_over, wrote, gave_up, turned, attends}
 use Rattle.stream_host.specs.Conduct.{Conducted, MayMark, MayRaise}
 use Rattle.stream_host.proofs.Keeping.{calm_before}
 use Rattle.stream_host.proofs.Raising.{none_due_shut, calm_is, one_more, still_none}

@@ -16,12 +16,12 @@ use Rattle.stream_host.specs.Hosts.{KeepsDue}
 use Rattle.gcode_words.proofs.Scanning.{shown}
 use Rattle.gcode_words.proofs.Fed.{realtime-append}
 use Rattle.run_rules.proofs.Cutting.{lines_are, some_bytes}
-use Rattle.stream_host.specs.Jobs.{resume, is_reset, served, served_in}
-use Rattle.stream_host.specs.Steps.{Journal, port_log, got_of, has_limit, is_shut, marks_of, resets_of, scanned_of, raw_of, cut_of, to_store, due_of, more_served, empty_polls, polls_of, raises_of, line_raises_of, resumes_of, resumes_next, all_empty_in, is_attended, resumes_behind}
-use Rattle.stream_host.specs.Steps.PortStep.{stored, dropped, marked, raised, got, no_reply, shut}
-use Rattle.stream_host.specs.Steps.Step.{at_port, read_some, read_end, read_failed, scanned, line_over, wrote, gave_up, turned, attends}
+use Rattle.host_journal.specs.Jobs.{resume, is_reset, served, served_in}
+use Rattle.host_journal.specs.Steps.{Journal, port_log, got_of, has_limit, is_shut, marks_of, resets_of, scanned_of, raw_of, cut_of, to_store, due_of, more_served, empty_polls, polls_of, raises_of, line_raises_of, resumes_of, resumes_next, all_empty_in, is_attended, resumes_behind}
+use Rattle.host_journal.specs.Steps.PortStep.{stored, dropped, marked, raised, got, no_reply, shut}
+use Rattle.host_journal.specs.Steps.Step.{at_port, read_some, read_end, read_failed, scanned, line_over, wrote, gave_up, turned, attends}
 use Rattle.stream_host.specs.Conduct.{Conducted, AreAnswered, MayStore, Waits, waits_for_lines}
-use Rattle.stream_host.specs.Ports.{queries_in}
+use Rattle.host_journal.specs.Ports.{queries_in}
 use Rattle.stream_host.specs.Ran.{AreRaised}
 use Rattle.stream_host.proofs.Links.{realtime_nil}
 use Rattle.stream_host.proofs.Keeping.{IsCut, cut_is, open_link, calm_before, calm_one}

@@ -5,23 +5,23 @@ use Rattle.std.specs.List.{list_any}
 use Rattle.std.proofs.lemmas.List.{drop-append-le, drop_all, length-take}
 use Rattle.std.proofs.lemmas.List.Sums.{sum_by-append}
 use Rattle.stream_host.specs.declared.host.Host.{Host}
-use Rattle.stream_host.specs.declared.line.Asking.{Asking}
+use Rattle.host_journal.specs.declared.asking.Asking.{Asking}
 use Rattle.run_rules.specs.Work.{is_limit}
-use Rattle.stream_host.specs.Steps.{Journal, port_log, got_of, latest_got, begins, answered_of, has_bye, cut_of, live_of, holds_of, pause_of, resets_of, banners_of, marks_of, got_one, text_of, is_attended, resumed_at, is_shut}
-use Rattle.stream_host.specs.Steps.PortStep.{got}
-use Rattle.stream_host.specs.Steps.Step.{at_port}
+use Rattle.host_journal.specs.Steps.{Journal, port_log, got_of, latest_got, begins, answered_of, has_bye, cut_of, live_of, holds_of, pause_of, resets_of, banners_of, marks_of, got_one, text_of, is_attended, resumed_at, is_shut}
+use Rattle.host_journal.specs.Steps.PortStep.{got}
+use Rattle.host_journal.specs.Steps.Step.{at_port}
 use Rattle.stream_host.specs.Hosts.{HostFits, KeepsCounts, KeepsResets, KeepsText, line_length, lengths, IsSummed, begins_by, with_banner}
 use Rattle.stream_host.specs.declared.counts.Counts.{Counts}
 use Rattle.stream_host.specs.declared.resets.Resets.{Resets}
 use Rattle.status_report.specs.declared.Reply.{Reply}
 use Rattle.status_report.specs.Answering.{is_answer, answers_in, is_banner, is_bye, is_report}
-use Rattle.stream_host.specs.Ports.{AnswersLines}
+use Rattle.host_journal.specs.Ports.{AnswersLines}
 use Rattle.stream_host.proofs.Hosting.{fresh_polls}
 use Rattle.stream_host.proofs.Sending as sending
 use Rattle.std.proofs.lemmas.List.{drop-drop}
 use Rattle.outside.specs.Causes.{SourceState, SinkState}
 use Rattle.text_writer.specs.Writers.{Writing}
-use Rattle.stream_host.specs.Steps.{written_of}
+use Rattle.host_journal.specs.Steps.{written_of}
 use Rattle.stream_host.specs.Hosts.{HostTellsOn}
 use Rattle.std.proofs.lemmas.List.{drop-map}
 use Rattle.std.proofs.lemmas.Grind.{flat_map-append}
@@ -31,7 +31,7 @@ use Rattle.status_report.specs.declared.Reply.TheVariants as replies
 use Rattle.status_report.specs.Replies.{reply_text}
 use Rattle.run_rules.specs.Told.{replies_text, is_error, errors_among}
 use Rattle.text_writer.specs.Writers.{with_text, with_all_asked}
-use Rattle.stream_host.specs.Steps.{has_given_up}
+use Rattle.host_journal.specs.Steps.{has_given_up}
 use Rattle.stream_host.specs.Hosts.{shown}
 use Rattle.stream_host.proofs.Consoles.{same_job}
 use Rattle.stream_host.proofs.Raised.{banners_first}

@@ -11,12 +11,12 @@ use Rattle.serial_ring.specs.Lists.{has_banner}
 use Rattle.status_report.specs.declared.Reply.TheVariants as replies
 use Rattle.status_report.specs.Answering.{is_answer, answers_in, is_banner, is_report}
 use Rattle.run_rules.specs.Reports.{is_query, asks_report, reports_behind, AreReported}
-use Rattle.stream_host.specs.declared.line.Asking.{Asking}
-use Rattle.stream_host.specs.declared.line.Asking.TheVariants.{Nothing, Awaits, HasOne, AsksAgain}
-use Rattle.stream_host.specs.Jobs.{resume, sent_text, served}
-use Rattle.stream_host.specs.Steps.{asked_more, got_one, is_waiting, awaits_report, more_served, Journal, got_of, answered_of, port_log, latest_got, begins, raw_of, live_of, to_store, begun_of, due_of, asking_of, resumes_next, is_attended}
-use Rattle.stream_host.specs.Steps.PortStep.{stored, dropped, marked, raised, got, no_reply, shut}
-use Rattle.stream_host.specs.Steps.Step.{at_port, read_some, read_end, read_failed, scanned, line_over, wrote, gave_up, turned, attends}
+use Rattle.host_journal.specs.declared.asking.Asking.{Asking}
+use Rattle.host_journal.specs.declared.asking.Asking.TheVariants.{Nothing, Awaits, HasOne, AsksAgain}
+use Rattle.host_journal.specs.Jobs.{resume, sent_text, served}
+use Rattle.host_journal.specs.Steps.{asked_more, got_one, is_waiting, awaits_report, more_served, Journal, got_of, answered_of, port_log, latest_got, begins, raw_of, live_of, to_store, begun_of, due_of, asking_of, resumes_next, is_attended}
+use Rattle.host_journal.specs.Steps.PortStep.{stored, dropped, marked, raised, got, no_reply, shut}
+use Rattle.host_journal.specs.Steps.Step.{at_port, read_some, read_end, read_failed, scanned, line_over, wrote, gave_up, turned, attends}
 use Rattle.stream_host.specs.Conduct.{Conducted, MayRaise, MayScanNext, MayEndLine, waits_for_lines}
 use Rattle.stream_host.proofs.Sending.{counts_are, answers_push}
 use Rattle.stream_host.proofs.Raising.{served_nil, served_on, none_at_lf}

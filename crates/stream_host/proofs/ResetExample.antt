@@ -8,9 +8,9 @@ use Rattle.outside.specs.declared.Turn.TheVariants.{Did, Wait}
 use Rattle.serial_ring.specs.Marks.{start}
 use Rattle.status_report.specs.declared.Reply.TheVariants.{Banner, Ok}
 use Rattle.status_report.specs.Replies.{reply_text}
-use Rattle.stream_host.specs.Steps.{Journal, cut_of, live_of, forgotten_of, text_of}
-use Rattle.stream_host.specs.Steps.PortStep.{stored, marked, raised, got, no_reply}
-use Rattle.stream_host.specs.Steps.Step.{at_port, read_some, scanned, wrote, turned}
+use Rattle.host_journal.specs.Steps.{Journal, cut_of, live_of, forgotten_of, text_of}
+use Rattle.host_journal.specs.Steps.PortStep.{stored, marked, raised, got, no_reply}
+use Rattle.host_journal.specs.Steps.Step.{at_port, read_some, scanned, wrote, turned}
 use Rattle.stream_host.specs.Conduct.{Conducted}
 
 abbrev j0 : Journal

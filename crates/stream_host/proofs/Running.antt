@@ -8,15 +8,15 @@ use Rattle.std.specs.Io.KnownBytes.{Consumes}
 use Rattle.outside.specs.Causes.{SourceState, SinkState}
 use Rattle.outside.specs.Writing.{Wrote, Took}
 use Rattle.outside.specs.declared.Turn.{Turn}
-use Rattle.stream_host.specs.declared.Reading.{Reading}
-use Rattle.stream_host.specs.declared.Reading.TheVariants.{Ended, Failed, Large, Stopped}
+use Rattle.host_journal.specs.declared.Reading.{Reading}
+use Rattle.host_journal.specs.declared.Reading.TheVariants.{Ended, Failed, Large, Stopped}
 use Rattle.stream_host.specs.declared.host.Host.{Host}
-use Rattle.stream_host.specs.Steps.{Journal, stored_of, got_of, is_shut, read_of, reading_of, scanned_of, cut_of, live_of, forgotten_of, marks_of, has_limit, stop_of, banners_of, to_store, due_of, raises_of, resumes_of, job_stop_of, text_of, written_of, has_given_up, has_bye, awaits_banner, is_attended, beginning, port_log}
-use Rattle.stream_host.specs.Steps.Step.{turned, attends}
+use Rattle.host_journal.specs.Steps.{Journal, stored_of, got_of, is_shut, read_of, reading_of, scanned_of, cut_of, live_of, forgotten_of, marks_of, has_limit, stop_of, banners_of, to_store, due_of, raises_of, resumes_of, job_stop_of, text_of, written_of, has_given_up, has_bye, awaits_banner, is_attended, beginning, port_log}
+use Rattle.host_journal.specs.Steps.Step.{turned, attends}
 use Rattle.stream_host.specs.Conduct.{Conducted, HasSentAll, HasWritten}
 use Rattle.stream_host.specs.Hosts.{HostFits, HostTurned, HostRests, TellsJob, TellsText, IsBetween, ends_turn}
-use Rattle.stream_host.specs.Links.{banners_in}
-use Rattle.stream_host.specs.Jobs.{is_reset, lacks_banner}
+use Rattle.host_journal.specs.Links.{banners_in}
+use Rattle.host_journal.specs.Jobs.{is_reset, lacks_banner}
 use Rattle.stream_host.specs.Ran.{AreRaised, is_sent_out, is_out, HostRan, HostRuns, HasFinished, TellsConsole, end_of, is_failed}
 use Rattle.stream_host.proofs.Keeping.{shut_is, stored_is}
 use Rattle.stream_host.proofs.Sending.{sent_so_far, sent_all, stop_behind, stop_calm}

@@ -2,11 +2,11 @@
 use Rattle.std.proofs.Common.{◌≡◌, ℕ, ◌⊎◌, ◌||◌, inl, inr, true, false, [], length, nat_lt, refl, sym, ap, ◌∙◌, subst}
 use Rattle.outside.specs.declared.On.TheVariants.{Answer}
 use Rattle.outside.specs.declared.Turn.TheVariants.{Wait}
-use Rattle.stream_host.specs.declared.Reading.{Reading}
-use Rattle.stream_host.specs.declared.Reading.TheVariants.{Stopped}
+use Rattle.host_journal.specs.declared.Reading.{Reading}
+use Rattle.host_journal.specs.declared.Reading.TheVariants.{Stopped}
 use Rattle.stream_host.specs.declared.host.Host.{Host}
-use Rattle.stream_host.specs.Jobs.{ends_sending}
-use Rattle.stream_host.specs.Steps.{Journal, reading_of, scanned_of, unscanned_of, raw_of, answered_of, holds_of}
+use Rattle.host_journal.specs.Jobs.{ends_sending}
+use Rattle.host_journal.specs.Steps.{Journal, reading_of, scanned_of, unscanned_of, raw_of, answered_of, holds_of}
 use Rattle.stream_host.specs.Conduct.{may_be_held, IsSettled, HasNoMore}
 use Rattle.stream_host.specs.Hosts.{HostFits, HostWorked, HasPolled, HasShown, MayReadOn}
 use Rattle.stream_host.proofs.Keeping.{calm_one}

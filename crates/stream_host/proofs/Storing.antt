@@ -2,16 +2,16 @@
 use Rattle.std.proofs.Common.{◌≡◌, ℕ, ◌+◌, ◌≤◌, ◌<◌, Bool, true, false, List, [], ◌∷◌, ◌++◌, length, drop, nat_lt, refl, sym, ap, ◌∙◌, arith, subst, length-append}
 use Rattle.std.proofs.lemmas.Bool.Decides.{nat_tests}
 use Rattle.std.proofs.lemmas.List.{drop_all}
-use Rattle.stream_host.specs.declared.line.Asking.{Asking}
-use Rattle.stream_host.specs.declared.line.Asking.TheVariants.{Nothing, Awaits, HasOne, AsksAgain}
+use Rattle.host_journal.specs.declared.asking.Asking.{Asking}
+use Rattle.host_journal.specs.declared.asking.Asking.TheVariants.{Nothing, Awaits, HasOne, AsksAgain}
 use Rattle.stream_host.specs.declared.line.SentLine.{SentLine}
 use Rattle.stream_host.specs.declared.host.Host.{Host}
-use Rattle.stream_host.specs.Steps.{Journal, port_log, raw_of, to_store, due_of, asking_of, is_waiting}
-use Rattle.stream_host.specs.Steps.PortStep.{stored}
-use Rattle.stream_host.specs.Steps.Step.{at_port}
+use Rattle.host_journal.specs.Steps.{Journal, port_log, raw_of, to_store, due_of, asking_of, is_waiting}
+use Rattle.host_journal.specs.Steps.PortStep.{stored}
+use Rattle.host_journal.specs.Steps.Step.{at_port}
 use Rattle.stream_host.specs.Conduct.{MayStore}
 use Rattle.stream_host.specs.Hosts.{HostFits, HasLine, IsStoring, KeepsLine, KeepsDue, awaits_by}
-use Rattle.stream_host.specs.Ports.{TakesByte, SeemsFull}
+use Rattle.host_journal.specs.Ports.{TakesByte, SeemsFull}
 use Rattle.stream_host.proofs.Keeping.{open_is}
 use Rattle.stream_host.proofs.Sending as sending
 use Rattle.stream_host.proofs.Hosting.{calm_now, calm_epoch, total_is}

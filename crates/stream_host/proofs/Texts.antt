@@ -12,7 +12,7 @@ use Rattle.gcode_words.specs.declared.stripping.Stripped.{Stripped}
 use Rattle.gcode_words.specs.Stripping.{is_plain, is_realtime, capital, plain, realtime, kept_by, taken_by}
 use Rattle.gcode_words.proofs.Scanning.{shown, cut_scan, shown-append}
 use Rattle.gcode_words.proofs.Fed.{kept_of, comment_is, plain-append, realtime-append}
-use Rattle.stream_host.specs.Jobs.{is_reset, behind_last, sent_text, fronts, has_too_many, is_long}
+use Rattle.host_journal.specs.Jobs.{is_reset, behind_last, sent_text, fronts, has_too_many, is_long}
 
 -- ---- behind the last byte that passes a test
 

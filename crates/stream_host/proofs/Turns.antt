@@ -12,10 +12,10 @@ use Rattle.outside.specs.declared.Turn.TheVariants.{Did, Wait, Done}
 use Rattle.status_report.specs.declared.Reply.{Reply}
 use Rattle.text_writer.specs.Writers.{Writing, is_due, with_all_asked}
 use Rattle.stream_host.specs.declared.host.Host.{Host}
-use Rattle.stream_host.specs.Jobs.{is_reset}
-use Rattle.stream_host.specs.Steps.{Step, Journal, awaits_banner, has_limit, is_shut, has_bye, to_store, due_of, awaits_report, text_of, written_of, this_turn, is_attended}
-use Rattle.stream_host.specs.Steps.PortStep.{stored, marked, raised, got, no_reply, shut}
-use Rattle.stream_host.specs.Steps.Step.{at_port, turned}
+use Rattle.host_journal.specs.Jobs.{is_reset}
+use Rattle.host_journal.specs.Steps.{Step, Journal, awaits_banner, has_limit, is_shut, has_bye, to_store, due_of, awaits_report, text_of, written_of, this_turn, is_attended}
+use Rattle.host_journal.specs.Steps.PortStep.{stored, marked, raised, got, no_reply, shut}
+use Rattle.host_journal.specs.Steps.Step.{at_port, turned}
 use Rattle.stream_host.specs.Conduct.{AreAnswered, waits_for_lines, HasWritten, IsOneTurn, MayShut, publishing, polling, moving}
 use Rattle.stream_host.specs.Hosts.{HostFits, HostWorked, HostTurned, HostTellsOn, HasPolled, NothingPublished, IsBetween, DidAlone, HasShown, HostRests, rank, awaits_by, ends_turn}
 use Rattle.stream_host.proofs.Keeping.{calm_one}

@@ -3,16 +3,16 @@ use Rattle.std.proofs.Common.{◌≡◌, ◌≢◌, ℕ, ◌+◌, ◌-◌, ◌�
 use Rattle.std.proofs.lemmas.Bool.Decides.{nat_tests}
 use Rattle.std.proofs.lemmas.List.{append_cancel_right, drop-append-le, drop_all, length-drop}
 use Rattle.run_rules.specs.Readings.{largest_job}
-use Rattle.stream_host.specs.declared.Reading.{Reading}
-use Rattle.stream_host.specs.declared.Reading.TheVariants.{Ended, Failed, Large, Stopped}
-use Rattle.stream_host.specs.declared.line.Asking.{Asking}
-use Rattle.stream_host.specs.declared.line.Asking.TheVariants.{Nothing, Awaits, HasOne, AsksAgain}
-use Rattle.stream_host.specs.Links.{on_link}
+use Rattle.host_journal.specs.declared.Reading.{Reading}
+use Rattle.host_journal.specs.declared.Reading.TheVariants.{Ended, Failed, Large, Stopped}
+use Rattle.host_journal.specs.declared.asking.Asking.{Asking}
+use Rattle.host_journal.specs.declared.asking.Asking.TheVariants.{Nothing, Awaits, HasOne, AsksAgain}
+use Rattle.host_journal.specs.Links.{on_link}
 use Rattle.status_report.specs.Answering.{lfs_in}
-use Rattle.stream_host.specs.Jobs.{is_reset, sent_text, ends_sending, MayHaveRead}
-use Rattle.stream_host.specs.Steps.{Journal, stored_of, has_limit, is_shut, is_greeted, answered_of, port_log, begins, awaits_banner, live_of, marks_of, resets_of, read_of, reading_of, scanned_of, unscanned_of, raw_of, to_store, begun_of, due_of, asking_of, is_waiting, is_asking, awaits_report, awaits_any_report}
-use Rattle.stream_host.specs.Steps.PortStep.{stored, dropped, marked, raised, got, no_reply, shut}
-use Rattle.stream_host.specs.Steps.Step.{at_port, read_some, read_end, read_failed, scanned, line_over, wrote, gave_up, turned, attends}
+use Rattle.host_journal.specs.Jobs.{is_reset, sent_text, ends_sending, MayHaveRead}
+use Rattle.host_journal.specs.Steps.{Journal, stored_of, has_limit, is_shut, is_greeted, answered_of, port_log, begins, awaits_banner, live_of, marks_of, resets_of, read_of, reading_of, scanned_of, unscanned_of, raw_of, to_store, begun_of, due_of, asking_of, is_waiting, is_asking, awaits_report, awaits_any_report}
+use Rattle.host_journal.specs.Steps.PortStep.{stored, dropped, marked, raised, got, no_reply, shut}
+use Rattle.host_journal.specs.Steps.Step.{at_port, read_some, read_end, read_failed, scanned, line_over, wrote, gave_up, turned, attends}
 use Rattle.stream_host.specs.Conduct.{AwaitsSome, Conducted, HasNoMore, IsSettled, Waits}
 use Rattle.stream_host.proofs.Pieces.{IsSendable}
 use Rattle.stream_host.proofs.Keeping.{read_is, linked_push, few_scanned, reading_fits}

@@ -7,14 +7,14 @@ use Rattle.status_report.specs.declared.Reply.{Reply}
 use Rattle.outside.specs.declared.On.TheVariants.{Answer}
 use Rattle.outside.specs.declared.Turn.{Turn}
 use Rattle.outside.specs.declared.Turn.TheVariants.{Did, Wait, Done}
-use Rattle.stream_host.specs.declared.Reading.{Reading}
-use Rattle.stream_host.specs.declared.Reading.TheVariants.{Ended, Failed, Large, Stopped}
-use Rattle.stream_host.specs.Links.{on_link}
-use Rattle.stream_host.specs.Jobs.{resume, cancel, is_reset, ends_sending}
-use Rattle.stream_host.specs.Ports.{AnswersLines}
-use Rattle.stream_host.specs.Steps.{PortStep, Step, Journal, port_log, has_limit, is_shut, has_bye, is_greeted, answered_of, marks_of, resets_of, awaits_banner, reading_of, scanned_of, unscanned_of, raw_of, live_of, unanswered_of, begun_of, to_store, due_of, awaits_report, awaits_any_report, is_attended, polls_of, held_polls, long_polls, resumes_next, holds_of, pause_of, resumed_at, text_of, written_of, has_given_up, this_turn}
-use Rattle.stream_host.specs.Steps.PortStep.{stored, dropped, marked, raised, got, no_reply, shut}
-use Rattle.stream_host.specs.Steps.Step.{at_port, read_some, read_end, read_failed, scanned, line_over, wrote, gave_up, turned, attends}
+use Rattle.host_journal.specs.declared.Reading.{Reading}
+use Rattle.host_journal.specs.declared.Reading.TheVariants.{Ended, Failed, Large, Stopped}
+use Rattle.host_journal.specs.Links.{on_link}
+use Rattle.host_journal.specs.Jobs.{resume, cancel, is_reset, ends_sending}
+use Rattle.host_journal.specs.Ports.{AnswersLines}
+use Rattle.host_journal.specs.Steps.{PortStep, Step, Journal, port_log, has_limit, is_shut, has_bye, is_greeted, answered_of, marks_of, resets_of, awaits_banner, reading_of, scanned_of, unscanned_of, raw_of, live_of, unanswered_of, begun_of, to_store, due_of, awaits_report, awaits_any_report, is_attended, polls_of, held_polls, long_polls, resumes_next, holds_of, pause_of, resumed_at, text_of, written_of, has_given_up, this_turn}
+use Rattle.host_journal.specs.Steps.PortStep.{stored, dropped, marked, raised, got, no_reply, shut}
+use Rattle.host_journal.specs.Steps.Step.{at_port, read_some, read_end, read_failed, scanned, line_over, wrote, gave_up, turned, attends}
 
 -- all that was got is written, but behind a write that failed
 abbrev pub HasWritten : Journal → Type 0

@@ -3,10 +3,10 @@ use Rattle.std.specs.Prelude.{◌≡◌, ℕ, ◌+◌, ◌-◌, ◌≤◌, cond,
 use Rattle.std.specs.List.{AllByRecursion}
 use Rattle.status_report.specs.declared.Reply.{Reply}
 use Rattle.status_report.specs.Answering.{answers_in}
-use Rattle.stream_host.specs.Links.{on_link, banners_in}
-use Rattle.stream_host.specs.Steps.{Journal, port_log, begins, raw_of}
-use Rattle.stream_host.specs.Steps.PortStep.{got}
-use Rattle.stream_host.specs.Steps.Step.{at_port, scanned, line_over}
+use Rattle.host_journal.specs.Links.{on_link, banners_in}
+use Rattle.host_journal.specs.Steps.{Journal, port_log, begins, raw_of}
+use Rattle.host_journal.specs.Steps.PortStep.{got}
+use Rattle.host_journal.specs.Steps.Step.{at_port, scanned, line_over}
 
 -- an epoch: its lines, and the replies got in it, both in order
 pub record Epoch : Type 0 where

@@ -11,8 +11,8 @@ use Rattle.status_report.specs.declared.Reply.{Reply}
 use Rattle.status_report.specs.Replies.{reply_text}
 use Rattle.gcode_words.specs.Comments.{comment_after}
 use Rattle.run_rules.specs.Readings.{largest_job, largest_piece}
-use Rattle.stream_host.specs.declared.Reading.{Reading}
-use Rattle.stream_host.specs.declared.Reading.TheVariants.{Ended, Failed, Large, Stopped}
+use Rattle.host_journal.specs.declared.Reading.{Reading}
+use Rattle.host_journal.specs.declared.Reading.TheVariants.{Ended, Failed, Large, Stopped}
 use Rattle.stream_host.specs.declared.line.SentLine.{SentLine}
 use Rattle.stream_host.specs.declared.reader.Reader.{Reader}
 use Rattle.stream_host.specs.declared.unanswered.Unanswered.{Unanswered}
@@ -22,9 +22,9 @@ use Rattle.stream_host.specs.declared.host.Host.{Host}
 use Rattle.run_rules.specs.Told.{errors_among}
 use Rattle.status_report.specs.Answering.{answers_in, is_banner, is_bye}
 use Rattle.std.specs.declared.option.Option.{Option}
-use Rattle.stream_host.specs.Jobs.{is_long, sent_text}
-use Rattle.stream_host.specs.Steps.{Step, Journal, port_log, got_of, has_limit, is_shut, has_bye, read_of, reading_of, scanned_of, unscanned_of, raw_of, cut_of, live_of, banners_of, resets_of, marks_of, to_store, due_of, asking_of, is_attended, polls_of, long_polls, resumes_next, holds_of, pause_of, resumed_at, is_greeted, text_of, written_of, has_given_up, this_turn}
-use Rattle.stream_host.specs.Steps.Step.{turned, attends}
+use Rattle.host_journal.specs.Jobs.{is_long, sent_text}
+use Rattle.host_journal.specs.Steps.{Step, Journal, port_log, got_of, has_limit, is_shut, has_bye, read_of, reading_of, scanned_of, unscanned_of, raw_of, cut_of, live_of, banners_of, resets_of, marks_of, to_store, due_of, asking_of, is_attended, polls_of, long_polls, resumes_next, holds_of, pause_of, resumed_at, is_greeted, text_of, written_of, has_given_up, this_turn}
+use Rattle.host_journal.specs.Steps.Step.{turned, attends}
 use Rattle.serial_ring.specs.Lists.{IsRoom}
 use Rattle.stream_host.specs.Conduct.{Conducted, MayTurn, publishing, polling, moving, found_none}
 

@@ -1,13 +1,7 @@
-pub mod Links
-pub mod Jobs
-pub mod Holding
-pub mod Steps
 pub mod Conduct
 pub mod Epochs
-pub mod Ports
 pub mod Hosts
 pub mod Ran
-pub mod Raises
 pub use Rattle.run_rules.specs.Lines
 pub use Rattle.run_rules.specs.Readings
 pub use Rattle.run_rules.specs.Told

@@ -4,28 +4,28 @@ ghost use Rattle.std.specs.Prelude.{◌+◌, ◌^◌, ◌≡◌, ◌≢◌, ◌�
 ghost use Rattle.status_report.specs.Replies.{IsReply};
 ghost use Rattle.outside.specs.declared.Turn.TheVariants.{Did};
 ghost use Rattle.text_writer.specs.Writers.{is_due};
-ghost use Rattle.stream_host.specs.Ports.{AnswersLines};
+ghost use Rattle.host_journal.specs.Ports.{AnswersLines};
 ghost use Rattle.run_rules.specs.Work.{is_limit};
-ghost use Rattle.stream_host.specs.Steps.{Journal, port_log, got_of, live_of, awaits_report, is_attended, beginning};
-ghost use Rattle.stream_host.specs.Holding.{pauses};
-ghost use Rattle.stream_host.specs.Steps.PortStep.{stored, marked, raised, got, shut};
-ghost use Rattle.stream_host.specs.Steps.Step.{at_port, scanned, turned};
+ghost use Rattle.host_journal.specs.Steps.{Journal, port_log, got_of, live_of, awaits_report, is_attended, beginning};
+ghost use Rattle.host_journal.specs.Holding.{pauses};
+ghost use Rattle.host_journal.specs.Steps.PortStep.{stored, marked, raised, got, shut};
+ghost use Rattle.host_journal.specs.Steps.Step.{at_port, scanned, turned};
 ghost use Rattle.status_report.specs.Answering.{answers_in, is_bye};
-ghost use Rattle.stream_host.specs.Jobs.{is_reset, sent_text};
+ghost use Rattle.host_journal.specs.Jobs.{is_reset, sent_text};
 ghost use Rattle.stream_host.specs.Conduct.{AreAnswered, waits_for_lines, IsSettled, MayShut};
 ghost use Rattle.stream_host.specs.Hosts.{HostFits, HostWorked, HostTurned, HostTellsOn, HasPolled, IsBetween, DidAlone, MayScanOn, MayReadOn, HasRoom, HasShown, HostRests, HasLine, IsSummed, lengths, with_banner, begins_by, awaits_by, KeepsLine, KeepsCounts, is_over, unread, shown};
 ghost use Rattle.outside.specs.Causes.{SourceState, SinkState};
 
-use crate::Reading;
 use crate::counts::Counts;
-use crate::line::{Asking, SentLine};
-use crate::pause::has_pause;
+use crate::line::SentLine;
 use crate::polls::polls_behind_end;
-use crate::ports::HostPort;
 use crate::reader::{Gave, LARGEST_JOB, Reader};
-use crate::realtime::{is_held_after, pause_after, resumed_after, waits_for_lines};
 use crate::resets::Resets;
 use crate::shown::put_text;
+use gcode_words::realtime_bytes::{CANCEL, QUERY};
+use host_journal::{
+    Asking, HostPort, Reading, has_pause, is_held_after, pause_after, resumed_after,
+};
 use outside::{On, Sink, Source, Turn};
 use serial_ring::Stored;
 use status_report::Reply;
@@ -33,6 +33,13 @@ use text_writer::TextWriter;
 
 /// The number of the alarm that ends the run: a line is beyond the limits.
 const SOFT_LIMIT: u8 = 2;
+
+/// Whether a realtime byte is raised only once each line before its own is answered: a `?` is, and the cancel of a jog.
+fn waits_for_lines(byte: u8) -> bool
+    ensures { result ≡ waits_for_lines byte }
+{
+    matches!(byte, QUERY | CANCEL)
+}
 
 /// Reads a job, raises its realtime bytes, sends its lines by counting characters, and shows the replies.
 #[derive(Drop)]

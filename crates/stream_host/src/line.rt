@@ -1,19 +1,15 @@
 //! The line in hand: first it is scanned, then it is stored.
 
-ghost use Rattle.std.specs.Prelude.{◌≡◌, ◌≢◌, ℕ, ◌+◌, ◌≤◌, ◌<◌, ◌++◌, ◌∷◌, [], List, take, drop, length, cond, nat_eq, nat_lt, true, false, ◌||◌, option_to_list, None};
+ghost use Rattle.std.specs.Prelude.{◌≡◌, ◌≢◌, ℕ, ◌+◌, ◌≤◌, ◌<◌, ◌++◌, ◌∷◌, [], List, take, drop, length, nat_lt, true, false, ◌||◌, option_to_list, None};
 ghost use Rattle.std.specs.List.{list_any};
-ghost use Rattle.code_table.specs.Tables.{query};
 ghost use Rattle.gcode_words.specs.Stripping.{taken_by};
-ghost use Rattle.status_report.specs.Answering.{is_report};
-ghost use Rattle.stream_host.specs.Jobs.{is_reset};
-ghost use Rattle.stream_host.specs.Steps.{more_served, asked_more, got_one, is_asking};
-ghost use Rattle.stream_host.specs.declared.line.Asking.TheVariants.{Nothing};
+ghost use Rattle.host_journal.specs.Jobs.{is_reset};
+ghost use Rattle.host_journal.specs.Steps.{more_served};
 ghost use Rattle.stream_host.specs.Hosts.{HasLine, KeepsDue, is_over};
 
 use arrayvec::ArrayVec;
 use gcode_words::realtime_bytes::RESET;
 use gcode_words::{Stripped, Stripper};
-use status_report::Reply;
 
 /// What has come of a line: where the stripper stands in it, the first 127 bytes kept behind its last reset, whether there were
 /// ever more, and whether any byte came; the realtime byte that is to be raised before it goes on, if any; whether it is
@@ -27,58 +23,6 @@ pub(crate) struct SentLine {
     pub(crate) due: Option<u8>,
     pub(crate) whole: bool,
     pub(crate) place: usize,
-}
-
-/// Whether a line has asked for a report, and whether one was got since it first did, and since it last did.
-#[derive(Clone, Copy, PartialEq, Eq)]
-pub(crate) enum Asking {
-    /// It has not asked for one.
-    Nothing,
-    /// It has, and none was got since it first did.
-    Awaits,
-    /// It has, and one was got since it last did.
-    HasOne,
-    /// It has again, behind one that was got.
-    AsksAgain,
-}
-
-impl Asking {
-    /// A byte is scanned. With its first one a line has not asked for a report.
-    pub(crate) fn scan(&mut self, begun: bool)
-        ensures { self.new ≡ cond begun self.old Nothing }
-    {
-        if !begun {
-            *self = Asking::Nothing;
-        }
-    }
-
-    /// A realtime byte is raised: a `?` asks for a report. The line waits for the first, the next read for each.
-    pub(crate) fn raised(self, byte: u8) -> Asking
-        ensures { result ≡ cond (nat_eq byte query) (asked_more self) self }
-    {
-        match (self, byte) {
-            (Asking::Nothing, b'?') => Asking::Awaits,
-            (Asking::HasOne, b'?') => Asking::AsksAgain,
-            _ => self,
-        }
-    }
-
-    /// Whether none was got since the line last asked for one.
-    pub(crate) fn is_open(self) -> bool
-        ensures { result ≡ is_asking self }
-    {
-        matches!(self, Asking::Awaits | Asking::AsksAgain)
-    }
-
-    /// A reply is got: one report is, where it is one.
-    pub(crate) fn told(self, reply: &Reply) -> Asking
-        ensures { result ≡ cond (is_report reply.now) (got_one self) self }
-    {
-        match (self, reply) {
-            (Asking::Awaits | Asking::AsksAgain, Reply::Report(_)) => Asking::HasOne,
-            _ => self,
-        }
-    }
 }
 
 /// The realtime byte that is to be raised, where a byte of a line is one.

@@ -1,17 +1,16 @@
 //! The polls of a host that find no reply, and what so many of them let it do.
 
 ghost use Rattle.std.specs.Prelude.{◌≡◌, ◌↔◌, ◌∷◌, ◌+◌, ℕ, Bool, true, false, not, ◌&&◌, cond, nat_lt};
-ghost use Rattle.stream_host.specs.Steps.{Journal, port_log, long_polls};
-ghost use Rattle.stream_host.specs.Steps.PortStep.{raised, no_reply};
-ghost use Rattle.stream_host.specs.Steps.Step.{at_port};
-ghost use Rattle.stream_host.specs.Jobs.{resume};
+ghost use Rattle.host_journal.specs.Steps.{Journal, port_log, long_polls};
+ghost use Rattle.host_journal.specs.Steps.PortStep.{raised, no_reply};
+ghost use Rattle.host_journal.specs.Steps.Step.{at_port};
+ghost use Rattle.host_journal.specs.Jobs.{resume};
 ghost use Rattle.stream_host.specs.Conduct.{may_be_held, may_be_still, SeemsHeld, SeemsStill, IsGreeted, IsSettled};
 ghost use Rattle.stream_host.specs.Hosts.{HostFits};
 
 use crate::host::Host;
-use crate::ports::HostPort;
-use crate::realtime::resumed_after;
 use gcode_words::realtime_bytes::RESUME;
+use host_journal::{HostPort, resumed_after};
 
 /// So many polls in a row that find no reply are enough to resume the machine.
 const EMPTY_POLLS: u16 = 4096;

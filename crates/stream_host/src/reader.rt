@@ -6,7 +6,7 @@ ghost use Rattle.outside.specs.Causes.{Rose};
 ghost use Rattle.run_rules.specs.Readings.{largest_job};
 ghost use Rattle.stream_host.specs.Hosts.{unread, IsPiece, GaveBytes, GaveEnd, GaveNone};
 
-use crate::Reading;
+use host_journal::Reading;
 use outside::Source;
 
 /// So many bytes at most are a job.

@@ -2,7 +2,7 @@
 
 ghost use Rattle.std.specs.Prelude.{◌≡◌, ◌+◌, ◌^◌, ◌<◌, false, ◌&&◌, not, cond};
 ghost use Rattle.stream_host.specs.Hosts.{awaits_by, begins_by, with_banner};
-ghost use Rattle.stream_host.specs.Jobs.{is_reset};
+ghost use Rattle.host_journal.specs.Jobs.{is_reset};
 
 use gcode_words::realtime_bytes::RESET;
 use status_report::Reply;

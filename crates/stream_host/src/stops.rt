@@ -1,11 +1,11 @@
 //! Why a host sends no more, and what it tells at its end.
 
 ghost use Rattle.std.specs.Prelude.{◌≡◌, ◌↔◌, ℕ, true, length};
-ghost use Rattle.stream_host.specs.Steps.{Journal, has_limit, job_stop_of, or_alarm, over_of, stop_of, stop_at, raw_of, cut_of, reading_of, has_given_up, answered_of, errors_of};
+ghost use Rattle.host_journal.specs.Steps.{Journal, has_limit, job_stop_of, or_alarm, over_of, stop_of, stop_at, raw_of, cut_of, reading_of, has_given_up, answered_of, errors_of};
 ghost use Rattle.stream_host.specs.Hosts.{HostFits};
 
 use crate::host::Host;
-use crate::{Reading, Stop};
+use host_journal::{Reading, Stop};
 
 impl Host {
     /// What the line in hand says of the sending.

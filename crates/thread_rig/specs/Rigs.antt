@@ -9,7 +9,7 @@ use Rattle.realtime_flags.specs.Bits.{IsBalanced}
 use Rattle.motion_ring.specs.Ends.{ring_of_out, ring_of_in, sent_by, known_by}
 use Rattle.motion_ring.specs.Ends.{taken_by as pieces_taken_by}
 use Rattle.motion_ring.specs.Rule.{PiecesAreTied}
-use Rattle.stream_host.specs.Steps.{Journal as HostJournal}
+use Rattle.host_journal.specs.Steps.{Journal as HostJournal}
 use Rattle.stream_host.specs.Hosts.{HostFits}
 use Rattle.stream_host.specs.Ran.{end_of}
 use Rattle.run_law.specs.declared.RunEnd.{RunEnd}

@@ -2,7 +2,7 @@
 
 ghost use Rattle.serial_ring.specs.Lists.{IsRoom};
 ghost use Rattle.std.specs.Prelude.{◌≡◌, ◌≤◌, false, IfOk};
-ghost use Rattle.stream_host.specs.Steps.{Journal};
+ghost use Rattle.host_journal.specs.Steps.{Journal};
 ghost use Rattle.stream_host.specs.Hosts.{HostFits};
 ghost use Rattle.stream_host.specs.Ran.{end_of};
 ghost use Rattle.run_law.specs.Runs.{run_end};

@@ -1,4 +1,4 @@
-use Rattle.stream_host.specs.Steps.{read_of, reading_of, scanned_of, cut_of, job_stop_of, got_of}
+use Rattle.host_journal.specs.Steps.{read_of, reading_of, scanned_of, cut_of, job_stop_of, got_of}
 use Rattle.actor_turns.proofs.Reports.{world_reports}
 use Rattle.actor_turns.proofs.laws.worlds_count_reports.Goals as goal
 

@@ -2,7 +2,7 @@ use Rattle.std.proofs.Common.{Bool, List, ℕ, ◌-◌, length, sym, subst, ◌�
 use Rattle.run_rules.specs.Lines.{lines_of}
 use Rattle.status_report.specs.declared.Reply.{Reply}
 use Rattle.stream_host.specs.Ran.{end_of}
-use Rattle.stream_host.specs.Steps.{is_attended, scanned_of}
+use Rattle.host_journal.specs.Steps.{is_attended, scanned_of}
 use Rattle.step_record.specs.Taking.{records}
 use Rattle.step_line.specs.Asking.{ticks_among}
 use Rattle.pulse_engine.specs.Logs.{halts_of, records_put}

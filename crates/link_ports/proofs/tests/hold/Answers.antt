@@ -1,5 +1,5 @@
 use Rattle.std.proofs.Common.{◌∷◌, refl, rules}
-use Rattle.stream_host.specs.Steps.PortStep.{raised}
+use Rattle.host_journal.specs.Steps.PortStep.{raised}
 use Rattle.link_ports.proofs.tests.hold.Goals as goal
 
 pub raise-requires : goal.raise-requires

@@ -1,5 +1,5 @@
 use Rattle.std.proofs.Common.{◌∷◌, refl}
-use Rattle.stream_host.specs.Steps.PortStep.{got, no_reply}
+use Rattle.host_journal.specs.Steps.PortStep.{got, no_reply}
 use Rattle.link_ports.proofs.Standing.{by_option}
 use Rattle.link_ports.proofs.tests.reply.Goals as goal
 

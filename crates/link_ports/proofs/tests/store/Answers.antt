@@ -1,6 +1,6 @@
 use Rattle.std.proofs.Common.{◌≡◌, ◌+◌, [], ◌∷◌, length, refl, rules, arith, length-append}
-use Rattle.stream_host.specs.Steps.{stored_in}
-use Rattle.stream_host.specs.Steps.PortStep.{stored, dropped, marked}
+use Rattle.host_journal.specs.Steps.{stored_in}
+use Rattle.host_journal.specs.Steps.PortStep.{stored, dropped, marked}
 use Rattle.link_ports.proofs.tests.store.Goals as goal
 
 pub store-requires : goal.store-requires

@@ -1,7 +1,7 @@
 use Rattle.std.proofs.Common.{refl, sym, ◌∙◌, subst}
 use Rattle.serial_ring.specs.Ends.{link_of_host}
 use Rattle.realtime_flags.specs.Ends.{raised_in}
-use Rattle.stream_host.specs.Steps.{beginning}
+use Rattle.host_journal.specs.Steps.{beginning}
 use Rattle.stream_host.proofs.Running.{tells_nothing, new_shows_nothing, between_nothing, logs_nothing, stays_attended}
 use Rattle.link_ports.specs.Standing.{HostLogs, HostSees}
 use Rattle.link_ports.proofs.thread.run_host.Goals as goal

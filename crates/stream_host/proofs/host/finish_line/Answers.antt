@@ -1,5 +1,5 @@
 use Rattle.std.proofs.Common.{◌+◌, cond, ap, ◌∙◌}
-use Rattle.stream_host.specs.Holding.{has_pause}
+use Rattle.host_journal.specs.Holding.{has_pause}
 use Rattle.stream_host.proofs.Hosting.{finished, size_is, pauses_is, counted_line}
 use Rattle.stream_host.proofs.host.finish_line.Goals as goal
 

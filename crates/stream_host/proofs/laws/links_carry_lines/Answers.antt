@@ -1,7 +1,7 @@
 use Rattle.stream_host.proofs.Links.{behind_taken}
 use Rattle.stream_host.proofs.Pauses.{words_pause}
 use Rattle.stream_host.proofs.Pieces.{all_are_sent, lines_back}
-use Rattle.stream_host.specs.Jobs.{sent_text}
+use Rattle.host_journal.specs.Jobs.{sent_text}
 use Rattle.stream_host.proofs.laws.links_carry_lines.Goals as goal
 
 pub returns-clause-all : goal.returns-clause-all

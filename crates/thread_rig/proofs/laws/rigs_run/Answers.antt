@@ -2,7 +2,7 @@ use Rattle.std.proofs.Common.{◌++◌, ◌-◌, sym, ap, ◌∙◌, subst}
 use Rattle.realtime_flags.specs.Bits.{IsBalanced}
 use Rattle.realtime_flags.specs.Ends.{raises_by}
 use Rattle.stream_host.specs.Ran.{end_of}
-use Rattle.stream_host.specs.Steps.{port_log, is_attended}
+use Rattle.host_journal.specs.Steps.{port_log, is_attended}
 use Rattle.board_rules.specs.Takes.{takes_in}
 use Rattle.board_epochs.specs.Epochs.{log_of}
 use Rattle.run_law.specs.Devices.{sinks}

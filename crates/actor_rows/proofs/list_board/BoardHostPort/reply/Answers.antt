@@ -1,5 +1,5 @@
 use Rattle.std.proofs.Common.{◌∷◌, arith}
-use Rattle.stream_host.specs.Steps.PortStep.{got}
+use Rattle.host_journal.specs.Steps.PortStep.{got}
 use Rattle.status_report.specs.declared.Reply.TheVariants.{Banner}
 use Rattle.actor_rows.proofs.Telling.{greets, begins_anew, answers_lines}
 use Rattle.actor_rows.proofs.list_board.BoardHostPort.reply.Goals as goal

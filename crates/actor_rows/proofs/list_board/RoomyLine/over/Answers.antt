@@ -1,5 +1,5 @@
 use Rattle.std.proofs.Common.{sym, subst}
-use Rattle.stream_host.specs.Steps.{beginning}
+use Rattle.host_journal.specs.Steps.{beginning}
 use Rattle.stream_host.proofs.Running.{logs_nothing, between_nothing}
 use Rattle.actor_rows.specs.Boards.{HasTold}
 use Rattle.actor_rows.proofs.Telling.{told_none}

@@ -1,5 +1,5 @@
 use Rattle.std.proofs.Common.{sym}
-use Rattle.stream_host.specs.Steps.{reading_of}
+use Rattle.host_journal.specs.Steps.{reading_of}
 use Rattle.actor_turns.proofs.Running.{failed_is}
 use Rattle.actor_turns.proofs.world.World.end.Goals as goal
 

@@ -1,5 +1,5 @@
 use Rattle.std.proofs.Common.{None, sym, arith}
-use Rattle.stream_host.specs.Steps.{port_log}
+use Rattle.host_journal.specs.Steps.{port_log}
 use Rattle.actor_turns.specs.Worlds.{devices}
 use Rattle.actor_turns.proofs.Arms.{holds_on, turns_on, board_moves}
 use Rattle.actor_turns.proofs.world.World.turn_board.Goals as goal

@@ -1,5 +1,5 @@
 use Rattle.std.proofs.Common.{None, sym}
-use Rattle.stream_host.specs.Steps.{port_log as host_log}
+use Rattle.host_journal.specs.Steps.{port_log as host_log}
 use Rattle.board_epochs.specs.Epochs.{log_of as board_log}
 use Rattle.actor_turns.specs.Worlds.{devices}
 use Rattle.actor_turns.proofs.Arms.{holds_on, turns_on, pulse_moves}

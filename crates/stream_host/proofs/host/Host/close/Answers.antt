@@ -1,4 +1,4 @@
-use Rattle.stream_host.specs.Steps.{port_log}
+use Rattle.host_journal.specs.Steps.{port_log}
 use Rattle.stream_host.proofs.Hosting.{closed, is_open}
 use Rattle.stream_host.proofs.host.Host.close.Goals as goal
 

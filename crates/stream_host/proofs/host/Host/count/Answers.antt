@@ -1,6 +1,6 @@
 use Rattle.std.proofs.Common.{refl, ap}
 use Rattle.status_report.specs.declared.Reply.TheVariants.{Ok, Error}
-use Rattle.stream_host.specs.Steps.{live_of, got_of}
+use Rattle.host_journal.specs.Steps.{live_of, got_of}
 use Rattle.stream_host.proofs.Replying.{counted_answer, counted_other, few_counted, is_no_answer}
 use Rattle.stream_host.proofs.host.Host.count.Goals as goal
 

@@ -1,6 +1,6 @@
 use Rattle.std.proofs.Common.{◌≡◌, ◌∷◌, inl, inr, refl, sym, ◌∙◌, arith}
-use Rattle.stream_host.specs.Steps.{port_log, empty_polls}
-use Rattle.stream_host.specs.Steps.PortStep.{no_reply}
+use Rattle.host_journal.specs.Steps.{port_log, empty_polls}
+use Rattle.host_journal.specs.Steps.PortStep.{no_reply}
 use Rattle.stream_host.proofs.Hosting.{takes_resume, few_live, resumed, polled}
 use Rattle.stream_host.proofs.host.Host.count_poll.Goals as goal
 

@@ -1,4 +1,4 @@
-use Rattle.stream_host.specs.Steps.{port_log}
+use Rattle.host_journal.specs.Steps.{port_log}
 use Rattle.stream_host.proofs.Hosting.{takes_mark, may_mark, marked_next}
 use Rattle.stream_host.proofs.host.Host.mark.Goals as goal
 

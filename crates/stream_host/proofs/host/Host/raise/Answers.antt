@@ -1,4 +1,4 @@
-use Rattle.stream_host.specs.Steps.{port_log}
+use Rattle.host_journal.specs.Steps.{port_log}
 use Rattle.stream_host.proofs.Hosting.{takes_raise, few_raised, few_live, raised_byte}
 use Rattle.stream_host.proofs.host.Host.raise.Goals as goal
 

@@ -1,8 +1,8 @@
 use Rattle.std.proofs.Common.{◌≡◌, true, false, ◌∷◌, refl, ap, Some, ◌∙◌}
 use Rattle.stream_host.specs.Conduct.{AreAnswered, waits_for_lines}
-use Rattle.stream_host.specs.Steps.{is_attended}
-use Rattle.stream_host.specs.Steps.PortStep.{marked, raised}
-use Rattle.stream_host.specs.Steps.Step.{at_port}
+use Rattle.host_journal.specs.Steps.{is_attended}
+use Rattle.host_journal.specs.Steps.PortStep.{marked, raised}
+use Rattle.host_journal.specs.Steps.Step.{at_port}
 use Rattle.stream_host.proofs.Turns.{did_at_port, few_marked_now, few_raised_now, tells_marked, tells_raised, tells_same, waits_early, wants, wants_none, did_goes_on, waits_on, not_both}
 use Rattle.stream_host.proofs.host.Host.raise_due.Goals as goal
 

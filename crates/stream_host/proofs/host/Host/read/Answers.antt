@@ -1,5 +1,5 @@
 use Rattle.std.proofs.Common.{arith}
-use Rattle.stream_host.specs.Steps.{raw_of, live_of, got_of}
+use Rattle.host_journal.specs.Steps.{raw_of, live_of, got_of}
 use Rattle.stream_host.proofs.Keeping.{few_scanned}
 use Rattle.stream_host.proofs.Hosting.{has_room, few_answers}
 use Rattle.stream_host.proofs.JobSteps.{did_read, did_fail, did_end, did_end_line}

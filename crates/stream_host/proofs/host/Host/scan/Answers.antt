@@ -1,6 +1,6 @@
 use Rattle.std.proofs.Common.{◌∷◌, [], ◌++◌, ◌∙◌, ap, map, arith}
 use Rattle.stream_host.specs.Hosts.{awaits_by}
-use Rattle.stream_host.specs.Steps.Step.{scanned}
+use Rattle.host_journal.specs.Steps.Step.{scanned}
 use Rattle.stream_host.proofs.JobSteps.{did_scan}
 use Rattle.stream_host.proofs.host.Host.scan.Goals as goal
 

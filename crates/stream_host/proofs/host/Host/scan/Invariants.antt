@@ -1,6 +1,6 @@
 use Rattle.std.proofs.Common.{◌≡◌, ℕ, ◌<◌, ◌++◌, false, List, length, map}
-use Rattle.stream_host.specs.Steps.{Journal}
-use Rattle.stream_host.specs.Steps.Step.{scanned}
+use Rattle.host_journal.specs.Steps.{Journal}
+use Rattle.host_journal.specs.Steps.Step.{scanned}
 use Rattle.stream_host.specs.Hosts.{HostFits, awaits_by, unread}
 use Rattle.stream_host.proofs.host.Host.scan.Given as goal
 

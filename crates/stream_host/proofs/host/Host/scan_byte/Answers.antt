@@ -1,6 +1,6 @@
 use Rattle.std.proofs.Common.{arith}
 use Rattle.std.proofs.lemmas.Bool.Decides.{nat_tests}
-use Rattle.stream_host.specs.Steps.{raw_of, live_of, got_of}
+use Rattle.host_journal.specs.Steps.{raw_of, live_of, got_of}
 use Rattle.stream_host.proofs.Hosting.{has_room, scanned_byte, scanned_lf, few_answers}
 use Rattle.stream_host.proofs.host.Host.scan_byte.Goals as goal
 

@@ -1,7 +1,7 @@
 use Rattle.std.proofs.Common.{◌∷◌, refl, arith}
 use Rattle.stream_host.specs.Conduct.{IsSettled}
-use Rattle.stream_host.specs.Steps.PortStep.{stored, shut}
-use Rattle.stream_host.specs.Steps.Step.{at_port}
+use Rattle.host_journal.specs.Steps.PortStep.{stored, shut}
+use Rattle.host_journal.specs.Steps.Step.{at_port}
 use Rattle.stream_host.proofs.Turns.{did_alone, did_at_port, few_stored_now, few_shut_now, tells_stored, tells_shut, tells_same, waits_held_back, waits_shut, did_goes_on, waits_on, not_both}
 use Rattle.stream_host.proofs.Settling.{waits_unsettled}
 use Rattle.stream_host.proofs.Hosting.{may_shut}

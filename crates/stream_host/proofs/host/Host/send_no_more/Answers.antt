@@ -1,6 +1,6 @@
 use Rattle.std.proofs.Common.{◌∷◌, refl, sym, ◌∙◌}
-use Rattle.stream_host.specs.Steps.PortStep.{shut}
-use Rattle.stream_host.specs.Steps.Step.{at_port}
+use Rattle.host_journal.specs.Steps.PortStep.{shut}
+use Rattle.host_journal.specs.Steps.Step.{at_port}
 use Rattle.stream_host.proofs.Hosting.{may_shut_at_alarm}
 use Rattle.stream_host.proofs.Turns.{did_at_port, few_shut_now, tells_shut, tells_same, waits_at_alarm, shut_already, shut_later, did_goes_on, waits_on}
 use Rattle.stream_host.proofs.host.Host.send_no_more.Goals as goal

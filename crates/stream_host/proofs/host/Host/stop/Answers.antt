@@ -1,5 +1,5 @@
 use Rattle.std.proofs.Common.{ap, sym, ◌∙◌}
-use Rattle.stream_host.specs.Steps.{has_limit, over_of, or_alarm}
+use Rattle.host_journal.specs.Steps.{has_limit, over_of, or_alarm}
 use Rattle.stream_host.proofs.Alarming.{cause_of_job}
 use Rattle.stream_host.proofs.host.Host.stop.Goals as goal
 

@@ -1,6 +1,6 @@
 use Rattle.std.proofs.Common.{ap, sym, ◌∙◌, arith}
-use Rattle.stream_host.specs.Steps.{over_of, or_alarm}
-use Rattle.stream_host.specs.declared.Stop.TheVariants.{End, Alarm}
+use Rattle.host_journal.specs.Steps.{over_of, or_alarm}
+use Rattle.host_journal.specs.declared.Stop.TheVariants.{End, Alarm}
 use Rattle.stream_host.proofs.Hosting.{alarm_now, calm_now, over_is}
 use Rattle.stream_host.proofs.host.Host.stop_at_alarm.Goals as goal
 

@@ -1,6 +1,6 @@
 use Rattle.std.proofs.Common.{◌∙◌, sym, ap, cond, ◌+◌, length, arith}
-use Rattle.stream_host.specs.Steps.{cut_of}
-use Rattle.stream_host.specs.declared.Stop.TheVariants.{End, LongLine}
+use Rattle.host_journal.specs.Steps.{cut_of}
+use Rattle.host_journal.specs.declared.Stop.TheVariants.{End, LongLine}
 use Rattle.stream_host.proofs.Hosting.{is_long_now, few_lines}
 use Rattle.stream_host.proofs.host.Host.stop_in_line.Goals as goal
 

@@ -1,4 +1,4 @@
-use Rattle.stream_host.specs.Steps.{port_log}
+use Rattle.host_journal.specs.Steps.{port_log}
 use Rattle.stream_host.proofs.Storing.{may_store, takes_byte, not_dropped, stored_byte}
 use Rattle.stream_host.proofs.host.Host.store.Goals as goal
 

@@ -2,7 +2,7 @@ use Rattle.std.proofs.Common.{ap, ◌∙◌, cond, ◌||◌, arith}
 use Rattle.stream_host.specs.Hosts.{shown}
 use Rattle.status_report.specs.Answering.{is_bye, is_report}
 use Rattle.run_rules.specs.Work.{is_limit}
-use Rattle.stream_host.specs.Steps.{got_one}
+use Rattle.host_journal.specs.Steps.{got_one}
 use Rattle.stream_host.proofs.Hosting.{few_banners}
 use Rattle.stream_host.proofs.Replying.{turned_epoch, got_reply, tells_reply}
 use Rattle.stream_host.proofs.host.Host.take_reply.Goals as goal

@@ -1,5 +1,5 @@
 use Rattle.std.proofs.Common.{◌∷◌, refl}
-use Rattle.stream_host.specs.Steps.Step.{turned}
+use Rattle.host_journal.specs.Steps.Step.{turned}
 use Rattle.stream_host.proofs.Turns.{ends, tells_turned}
 use Rattle.stream_host.proofs.host.Host.turn.Goals as goal
 

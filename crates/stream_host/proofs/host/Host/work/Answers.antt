@@ -1,8 +1,8 @@
 use Rattle.std.proofs.Common.{◌∷◌, ◌∙◌, sym, refl}
-use Rattle.stream_host.specs.Steps.{port_log}
-use Rattle.stream_host.specs.Steps.PortStep.{raised, got, no_reply}
-use Rattle.stream_host.specs.Steps.Step.{at_port}
-use Rattle.stream_host.specs.Jobs.{resume}
+use Rattle.host_journal.specs.Steps.{port_log}
+use Rattle.host_journal.specs.Steps.PortStep.{raised, got, no_reply}
+use Rattle.host_journal.specs.Steps.Step.{at_port}
+use Rattle.host_journal.specs.Jobs.{resume}
 use Rattle.stream_host.proofs.Turns.{did_alone, did_at_port, few_got_now, quiet_between, polls_between, has_polled, worked_on, few_raised_now, tells_polled, tells_resumed, tells_same, is_done, did_goes_on, not_both}
 use Rattle.stream_host.proofs.host.Host.work.Goals as goal
 

@@ -2,7 +2,7 @@ use Rattle.std.proofs.Common.{refl, sym, None, ◌≡◌, ◌++◌, ◌∷◌, [
 use Rattle.std.specs.List.{list_any}
 use Rattle.gcode_words.specs.Stripping.{kept_by, taken_by}
 use Rattle.gcode_words.proofs.Fed.{not_kept}
-use Rattle.stream_host.specs.Jobs.{is_reset, is_long, sent_text}
+use Rattle.host_journal.specs.Jobs.{is_reset, is_long, sent_text}
 use Rattle.stream_host.proofs.Kept.{begun_more}
 use Rattle.stream_host.proofs.Texts.{sent_by, long_push, long_same}
 use Rattle.stream_host.proofs.Raising.{due_more}

@@ -12,7 +12,7 @@ use Rattle.motion_ports.specs.MotionSides.{PulseIsNew, RecorderIsNew}
 use Rattle.step_record.specs.Recording.{Recording, RecorderFits}
 use Rattle.motion_ports.proofs.Fresh.{nothing_got}
 use Rattle.motion_pulse.specs.Pulses.{stepping_of}
-use Rattle.stream_host.specs.Ports.{AreGreeted}
+use Rattle.host_journal.specs.Ports.{AreGreeted}
 use Rattle.stream_host.proofs.Running.{fits_own}
 use Rattle.thread_rig.specs.BoardSides.{BoardIsNew}
 use Rattle.thread_rig.proofs.rig.Rig.stepping.Goals as goal

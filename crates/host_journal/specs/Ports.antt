@@ -7,9 +7,9 @@ use Rattle.serial_ring.specs.declared.view.LinkStep.{LinkStep}
 use Rattle.serial_ring.specs.Logs.{AnswersWell, taken_in, marked_in, answered_in, greeted_in, taken_at_banners}
 use Rattle.serial_ring.specs.Marks.{Mark, AreMarks}
 use Rattle.serial_ring.specs.Lists.{AreAtMost, answers_behind_mark}
-use Rattle.stream_host.specs.Links.{behind_lf, behind_mark, banners_in, AreGreetings}
-use Rattle.stream_host.specs.Steps.{HostLog, stored_in, stored_at_banners, latest_got, marks_in, marks_at_banners, is_shut_in}
-use Rattle.stream_host.specs.Steps.PortStep.{raised}
+use Rattle.host_journal.specs.Links.{behind_lf, behind_mark, banners_in, AreGreetings}
+use Rattle.host_journal.specs.Steps.{HostLog, stored_in, stored_at_banners, latest_got, marks_in, marks_at_banners, is_shut_in}
+use Rattle.host_journal.specs.Steps.PortStep.{raised}
 
 -- how often a report was asked for
 abbrev pub queries_in : HostLog → ℕ

@@ -3,9 +3,9 @@
 ghost use Rattle.std.specs.Prelude.{◌≡◌, ◌∷◌, ℕ, Bool, IfSome, IfNone};
 ghost use Rattle.status_report.specs.Replies.{IsReply};
 ghost use Rattle.realtime_flags.specs.Bytes.{raised_by};
-ghost use Rattle.stream_host.specs.Ports.{IsOpen, TakesByte, TakesMark, TakesRaise, SeemsFull, AnswersLines};
-ghost use Rattle.stream_host.specs.Steps.{HostLog};
-ghost use Rattle.stream_host.specs.Steps.PortStep.{stored, dropped, marked, raised, got, no_reply, shut};
+ghost use Rattle.host_journal.specs.Ports.{IsOpen, TakesByte, TakesMark, TakesRaise, SeemsFull, AnswersLines};
+ghost use Rattle.host_journal.specs.Steps.{HostLog};
+ghost use Rattle.host_journal.specs.Steps.PortStep.{stored, dropped, marked, raised, got, no_reply, shut};
 
 use realtime_flags::Raised;
 use serial_ring::Stored;

@@ -7,17 +7,17 @@ use Rattle.run_rules.specs.Work.{is_limit}
 use Rattle.serial_ring.specs.Lists.{has_banner}
 use Rattle.status_report.specs.declared.Reply.{Reply}
 use Rattle.outside.specs.declared.Turn.{Turn}
-use Rattle.stream_host.specs.declared.Reading.{Reading}
-use Rattle.stream_host.specs.declared.Reading.TheVariants.{Ended, Failed, Large, Stopped}
-use Rattle.stream_host.specs.declared.Stop.{Stop}
-use Rattle.stream_host.specs.declared.line.Asking.{Asking}
-use Rattle.stream_host.specs.declared.line.Asking.TheVariants.{Nothing, Awaits, HasOne, AsksAgain}
-use Rattle.stream_host.specs.declared.Stop.TheVariants.{End, LongLine, TooLarge, Alarm}
+use Rattle.host_journal.specs.declared.Reading.{Reading}
+use Rattle.host_journal.specs.declared.Reading.TheVariants.{Ended, Failed, Large, Stopped}
+use Rattle.host_journal.specs.declared.Stop.{Stop}
+use Rattle.host_journal.specs.declared.asking.Asking.{Asking}
+use Rattle.host_journal.specs.declared.asking.Asking.TheVariants.{Nothing, Awaits, HasOne, AsksAgain}
+use Rattle.host_journal.specs.declared.Stop.TheVariants.{End, LongLine, TooLarge, Alarm}
 use Rattle.code_table.specs.Tables.{query}
 use Rattle.status_report.specs.Answering.{answers_in, is_banner, is_bye, is_report}
-use Rattle.stream_host.specs.Jobs.{resume, is_reset, lacks_banner, is_long, sent_text, served}
-use Rattle.stream_host.specs.Links.{banners_in}
-use Rattle.stream_host.specs.Holding.{held_after, pauses, resumed_after}
+use Rattle.host_journal.specs.Jobs.{resume, is_reset, lacks_banner, is_long, sent_text, served}
+use Rattle.host_journal.specs.Links.{banners_in}
+use Rattle.host_journal.specs.Holding.{held_after, pauses, resumed_after}
 
 -- what a host does at its port
 pub data PortStep : Type 0 where

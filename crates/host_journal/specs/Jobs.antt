@@ -6,10 +6,10 @@ use Rattle.gcode_words.specs.Stripping.{is_plain, capital, realtime}
 use Rattle.run_rules.specs.Lines.{HasNoLf, lines_of}
 use Rattle.run_rules.specs.Readings.{largest_job, largest_piece, job_of}
 use Rattle.run_rules.specs.Lines.{whole_lines}
-use Rattle.stream_host.specs.declared.Reading.{Reading}
-use Rattle.stream_host.specs.declared.Reading.TheVariants.{Ended, Failed, Large, Stopped}
-use Rattle.stream_host.specs.declared.Stop.{Stop}
-use Rattle.stream_host.specs.declared.Stop.TheVariants.{End, LongLine, TooLarge}
+use Rattle.host_journal.specs.declared.Reading.{Reading}
+use Rattle.host_journal.specs.declared.Reading.TheVariants.{Ended, Failed, Large, Stopped}
+use Rattle.host_journal.specs.declared.Stop.{Stop}
+use Rattle.host_journal.specs.declared.Stop.TheVariants.{End, LongLine, TooLarge}
 
 -- `~` resumes the machine
 abbrev pub resume : ℕ

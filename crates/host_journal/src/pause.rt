@@ -1,7 +1,7 @@
 //! Which lines ask for a pause.
 
 ghost use Rattle.std.specs.Prelude.{◌≡◌};
-ghost use Rattle.stream_host.specs.Holding.{begins_zero, has_pause};
+ghost use Rattle.host_journal.specs.Holding.{begins_zero, has_pause};
 
 use units::read_decimal;
 
@@ -17,7 +17,7 @@ fn begins_zero(text: &[u8]) -> bool
 
 /// Whether an `M` stands in a text with the number 0 behind it: `M0`, `M00`, `M0.`, `M.0` and `M-0` ask for a pause, `M03`, `M30`
 /// and `M0.5` do not.
-pub(crate) fn has_pause(text: &[u8]) -> bool
+pub fn has_pause(text: &[u8]) -> bool
     ensures { result ≡ has_pause text.now }
 {
     for place in 0..text.len() {

@@ -5,7 +5,7 @@ use Rattle.units.specs.Reading.{decimal_from}
 use Rattle.units.specs.declared.Decimal.{Decimal}
 use Rattle.units.specs.declared.NumFault.{NumFault}
 use Rattle.gcode_words.specs.declared.Word.{Word}
-use Rattle.stream_host.specs.Jobs.{resume, sent_text}
+use Rattle.host_journal.specs.Jobs.{resume, sent_text}
 
 -- `!` holds the machine
 abbrev pub hold : ℕ

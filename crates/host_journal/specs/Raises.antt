@@ -4,8 +4,8 @@ use Rattle.std.specs.declared.option.Option.{Option}
 use Rattle.realtime_flags.specs.declared.words.Flag.{Flag}
 use Rattle.realtime_flags.specs.declared.words.Raise.{Raise}
 use Rattle.realtime_flags.specs.Bytes.{flag_of_byte}
-use Rattle.stream_host.specs.Steps.{HostLog}
-use Rattle.stream_host.specs.Steps.PortStep.{raised}
+use Rattle.host_journal.specs.Steps.{HostLog}
+use Rattle.host_journal.specs.Steps.PortStep.{raised}
 
 -- the flag that a byte raises goes to those that were raised before, the latest first
 abbrev pub raised_to : Option Flag → Bool → List Raise → List Raise
