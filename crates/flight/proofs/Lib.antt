@@ -3,4 +3,3 @@ pub mod Places
 pub mod Flying
 pub mod Slots
 pub mod Halts
-pub mod Windows

@@ -9,7 +9,7 @@ use Rattle.step_line.specs.Finishing.{tick_count}
 use Rattle.flight.specs.Flights.{MayBeKept, IsFlight, flight_room, slots_in_all, window, EndsWithin}
 use Rattle.flight.proofs.Counts.{segment_ticks}
 use Rattle.flight.proofs.Flying.{within_on}
-use Rattle.flight.proofs.Windows.{wraps, length-window, window_push, window_drop, window_first}
+use Rattle.units.proofs.Windows.{wraps, length-window, window_push, window_drop, window_first}
 
 -- no piece has 2 ^ 32 ticks
 pub few_ticks : (p : Piece) → MayBeKept p → tick_count p < 2 ^ 32

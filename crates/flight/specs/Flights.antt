@@ -1,9 +1,10 @@
 -- Pieces that were published, and how many of their ticks are known to be done.
-use Rattle.std.specs.Prelude.{◌≡◌, ℕ, ◌+◌, ◌-◌, ◌≤◌, ◌<◌, Bool, nat_lt, List, [], ◌∷◌, ◌++◌, length, take, drop}
+use Rattle.std.specs.Prelude.{◌≡◌, ℕ, ◌+◌, ◌-◌, ◌≤◌, ◌<◌, Bool, nat_lt, List, [], ◌∷◌, ◌++◌, length}
 use Rattle.std.specs.List.{All, filter}
 use Rattle.units.specs.declared.Steps3.{Steps3}
 use Rattle.units.specs.declared.Move.{Move}
 use Rattle.units.specs.Lengths.{IsMove}
+pub use Rattle.units.specs.Windows.{window}
 use Rattle.step_line.specs.declared.Piece.{Piece}
 use Rattle.step_line.specs.declared.Piece.TheVariants as pieces
 use Rattle.step_line.specs.Counting.{events_of}
@@ -66,10 +67,6 @@ EndsWithin (p ∷ ps) done = done < tick_count p
 -- how many slots there are
 abbrev pub slots_in_all : ℕ
 slots_in_all = 8
-
--- so many slots from a place on, round the end
-abbrev pub window : {X : Type 0} → ℕ → ℕ → List X → List X
-window place count slots = take count (drop place slots ++ take place slots)
 
 -- The fields of a flight: so many slots from the head on are in use, each by a piece that may be kept, and before them the
 -- machine is after so many events of a move.

@@ -1,20 +1,13 @@
 -- The slots between two places, as blocks come and go.
-use Rattle.std.proofs.Common.{◌≡◌, ◌≢◌, ℕ, zero, suc, ◌+◌, ◌-◌, ◌%◌, ◌<◌, ◌≤◌, ◌⊎◌, true, false, cond, nat_le, List, [], ◌∷◌, ◌++◌, length, get_or, take, drop, set, ap, sym, ◌∙◌, inl, inr, mod-eq_of_lt, arith, length-append, length-drop, length-set, length-take-le, get_or-drop, get_or-take, get_or-set_same, get_or-set_other}
-use native.Mathlib.Nat.{mod-eq-sub-mod, mod-add-mod}
+use Rattle.std.proofs.Common.{◌≡◌, ◌≢◌, ℕ, zero, suc, ◌+◌, ◌-◌, ◌%◌, ◌<◌, ◌≤◌, ◌⊎◌, true, false, cond, nat_le, List, [], ◌∷◌, ◌++◌, length, get_or, take, drop, set, ap, sym, ◌∙◌, inl, inr, mod-eq_of_lt, arith, length-drop, length-set, get_or-drop, get_or-set_same, get_or-set_other}
 use Rattle.std.specs.List.{refill}
 use Rattle.std.proofs.Math.Seq.{take-append_seam}
-use Rattle.std.proofs.lemmas.List.{same_lists, get_or_append_left, get_or-append_right, set-get_or}
+use Rattle.std.proofs.lemmas.List.{same_lists, set-get_or}
 use Rattle.std.proofs.lemmas.Bool.{cases_lt}
 use Rattle.std.proofs.lemmas.Bool.Decides.{nat_tests}
-use Rattle.std.proofs.lemmas.Grind.{common_steps}
-use Rattle.planner_ring.specs.Windows.{window, stretch, between, IsRing}
-
--- a place below 2 N wraps once at most
-pub wraps : (N j : ℕ) → j < N + N → ((j < N) × (j % N ≡ j)) ⊎ ((N ≤ j) × (j % N ≡ j - N))
-wraps N j below = elim (cases_lt j N) [
-  | inl low ↦ inl (low, mod-eq_of_lt low)
-  | inr high ↦ inr (high, mod-eq-sub-mod high ∙ mod-eq_of_lt (omega arith))
-]
+use Rattle.units.specs.Windows.{window}
+use Rattle.units.proofs.Windows.{wraps, length-window, get_or-window, window_push, window_drop}
+use Rattle.planner_ring.specs.Windows.{stretch, between, IsRing}
 
 -- the stretch ends at its end
 pub stretch_is : (N k f : ℕ) → k < N → f < N → ((k ≤ f) × (stretch N k f ≡ f - k)) ⊎ ((f < k) × (stretch N k f ≡ f + N - k))
@@ -24,47 +17,6 @@ stretch_is N k f kn fn = elim (cases_lt f k) [
 ]
 
 module _ {X : Type 0} (N k n : ℕ) (xs : List X) (start : k < N) (fits : n ≤ N) (long : length xs ≡ N) where
-  pub length-window : length (window k n xs) ≡ n
-  length-window = length-take-le n _ (simp (length-append, length-drop) (omega (arith, length-take-le k xs (omega arith))))
-
-  -- item i of the window is slot (k + i) % N
-  pub get_or-window : (i : ℕ) (d : X) → i < n → get_or (window k n xs) i d ≡ get_or xs ((k + i) % N) d
-  get_or-window i d within =
-      let length_tail = length-drop k xs in
-      get_or-take n _ i d within ∙ elim (wraps N (k + i) (omega arith)) [
-        | inl low ↦ get_or_append_left _ _ d i (omega arith) ∙ get_or-drop k xs i d ∙ ap (λ j. get_or xs j d) (omega arith)
-        | inr high ↦ get_or-append_right _ _ (N - k) i d (omega arith) (omega arith) ∙ get_or-take k xs _ d (omega arith) ∙ ap (λ j. get_or xs j d) (omega arith)
-      ]
-
-module _ {X : Type 0} (N k n : ℕ) (xs : List X) (start : k < N) (fits : n ≤ N) (long : length xs ≡ N) where
-  -- a write behind the last item adds it
-  pub window_push : (x : X) → n < N → window k (n + 1) (set xs ((k + n) % N) x) ≡ window k n xs ++ x ∷ []
-  window_push x room =
-      let ys = set xs ((k + n) % N) x in
-      let length_ys : length ys ≡ N = length-set xs ((k + n) % N) x ∙ long in
-      let length_old = length-window N k n xs start fits long in
-      let length_new = length-window N k (n + 1) ys start (omega arith) length_ys in
-      let slot = wraps N (k + n) (omega arith) in
-      same_lists _ _ (grind (arith, common_steps)) (λ i d within. grind (
-        arith,
-        common_steps,
-        wraps N (k + i) (omega arith),
-        get_or-window N k n xs start fits long i d,
-        get_or-window N k (n + 1) ys start (omega arith) length_ys i d,
-      ))
-
-  -- without its first item the window begins one place on
-  pub window_drop : 0 < n → drop 1 (window k n xs) ≡ window ((k + 1) % N) (n - 1) xs
-  window_drop some =
-      let next : (k + 1) % N < N = grind (arith, wraps N (k + 1) (omega arith)) in
-      let length_old = length-window N k n xs start fits long in
-      let length_new = length-window N ((k + 1) % N) (n - 1) xs next (omega arith) long in
-      same_lists _ _ (simp length-drop (omega arith)) (λ i d within.
-      let rest = length-drop 1 (window k n xs) in
-      let on : (k + (1 + i)) % N ≡ ((k + 1) % N + i) % N = ap (λ j. j % N) (omega arith) ∙ sym (mod-add-mod (k + 1) N i) in
-      get_or-drop 1 (window k n xs) i d ∙ get_or-window N k n xs start fits long (1 + i) d (omega arith)
-      ∙ ap (λ j. get_or xs j d) on ∙ sym (get_or-window N ((k + 1) % N) (n - 1) xs next (omega arith) long i d (omega arith)))
-
   -- a write at its first place changes its first item
   pub window_set : (x : X) → 0 < n → window k n (set xs k x) ≡ x ∷ drop 1 (window k n xs)
   window_set x some = same_lists _ _ (omega (arith, length_old, length_new, length-drop 1 (window k n xs))) items where

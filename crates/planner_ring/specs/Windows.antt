@@ -1,13 +1,6 @@
 -- The slots of a ring that are in use, from one place up to another, round the end.
-use Rattle.std.specs.Prelude.{◌≡◌, ℕ, ◌+◌, ◌-◌, ◌<◌, ◌≤◌, cond, nat_le, List, ◌++◌, length, take, drop}
-
--- a list turned k places to the left
-abbrev pub turned : {X : Type 0} → ℕ → List X → List X
-turned k xs = drop k xs ++ take k xs
-
--- the n slots from the place k on
-abbrev pub window : {X : Type 0} → ℕ → ℕ → List X → List X
-window k n xs = take n (turned k xs)
+use Rattle.std.specs.Prelude.{◌≡◌, ℕ, ◌+◌, ◌-◌, ◌<◌, ◌≤◌, cond, nat_le, List, length, take}
+pub use Rattle.units.specs.Windows.{window}
 
 -- how many slots lie from the place k up to the place f, of N
 abbrev pub stretch : ℕ → ℕ → ℕ → ℕ

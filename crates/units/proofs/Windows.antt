@@ -4,7 +4,7 @@ use native.Mathlib.Nat.{mod-eq-sub-mod, mod-add-mod}
 use Rattle.std.proofs.lemmas.List.{same_lists, get_or_append_left, get_or-append_right}
 use Rattle.std.proofs.lemmas.Bool.{cases_lt}
 use Rattle.std.proofs.lemmas.Grind.{common_steps}
-use Rattle.flight.specs.Flights.{window}
+use Rattle.units.specs.Windows.{window}
 
 -- a place below 2 N wraps once at most
 pub wraps : (N j : ℕ) → j < N + N → ((j < N) × (j % N ≡ j)) ⊎ ((N ≤ j) × (j % N ≡ j - N))
