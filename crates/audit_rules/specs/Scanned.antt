@@ -6,14 +6,11 @@ use Rattle.std.specs.Option.{is_some, unwrap_or}
 use Rattle.gcode_words.specs.Stripping.{realtime}
 use Rattle.run_rules.specs.Lines.{lines_of, whole_lines, ended}
 use Rattle.run_rules.specs.Readings.{largest_job, job_of}
+pub use Rattle.run_rules.specs.Readings.{most_sent}
 use Rattle.run_texts.specs.Points.{Point}
 use Rattle.run_texts.specs.Sent.{Sent, kept_of, sent_of}
 
 -- ---- a line that is too long
-
--- so many bytes of a line may be kept behind its last reset
-abbrev pub most_sent : ℕ
-most_sent = 127
 
 -- the front of a line, behind some bytes of it, up to the byte with which too many are kept
 abbrev pub long_front : List ℕ → List ℕ → Option (List ℕ)

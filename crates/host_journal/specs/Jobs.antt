@@ -4,7 +4,7 @@ use Rattle.std.specs.List.{count_by, flat_map, list_any, filter, take_while}
 use Rattle.gcode_words.specs.Comments.{cut}
 use Rattle.gcode_words.specs.Stripping.{is_plain, capital, realtime}
 use Rattle.run_rules.specs.Lines.{HasNoLf, lines_of}
-use Rattle.run_rules.specs.Readings.{largest_job, largest_piece, job_of}
+use Rattle.run_rules.specs.Readings.{largest_job, largest_piece, most_sent, job_of}
 use Rattle.run_rules.specs.Lines.{whole_lines}
 use Rattle.host_journal.specs.declared.Reading.{Reading}
 use Rattle.host_journal.specs.declared.Reading.TheVariants.{Ended, Failed, Large, Stopped}
@@ -57,10 +57,6 @@ marks_at bytes line = map (λ b. bytes) (filter is_reset (served line))
 abbrev pub marks_behind : ℕ → List (List ℕ) → List ℕ
 marks_behind bytes [] = []
 marks_behind bytes (line ∷ lines) = marks_at bytes line ++ marks_behind (bytes + (length (sent_text line) + 1)) lines
-
--- so much of a line is sent at most
-abbrev pub most_sent : ℕ
-most_sent = 127
 
 -- the fronts of a line: none of its bytes, the first, the first two, and so on to all of them
 abbrev pub fronts : List ℕ → List (List ℕ)
