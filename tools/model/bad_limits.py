@@ -3,7 +3,7 @@ must allow."""
 from typing import NamedTuple
 
 from model.bad_reports import told
-from model.bad_resets import instead, less, more, segment_of
+from model.bad_resets import instead, less, more, segment_of, wrong_of
 from model.epochs import run_of
 from model.machine import ALARM, Run
 from model.motion import END, Stretch, event_lines
@@ -203,13 +203,4 @@ CASES = (
 
 def wrong_limits():
     """What is allowed or refused in error of a run that a soft limit has ended, or None."""
-    for case in CASES:
-        for left in case.right:
-            wrong = left.wrong(case.job)
-            if wrong:
-                return f"of the job {case.job!r} {left} is refused: {wrong}"
-        for words, left in case.refused:
-            wrong = left.wrong(case.job)
-            if words not in (wrong or ""):
-                return f"of the job {case.job!r} {left} is not refused by {words!r}: {wrong}"
-    return None
+    return wrong_of(CASES)

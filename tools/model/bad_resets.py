@@ -183,9 +183,9 @@ CASES = (
 )
 
 
-def wrong_judgement():
-    """What is allowed or refused in error of a run with a reset, or None."""
-    for case in CASES:
+def wrong_of(cases):
+    """What is allowed or refused in error of these cases, or None."""
+    for case in cases:
         for left in case.right:
             wrong = left.wrong(case.job)
             if wrong:
@@ -195,3 +195,8 @@ def wrong_judgement():
             if words not in (wrong or ""):
                 return f"of the job {case.job!r} {left} is not refused by {words!r}: {wrong}"
     return None
+
+
+def wrong_judgement():
+    """What is allowed or refused in error of a run with a reset, or None."""
+    return wrong_of(CASES)
