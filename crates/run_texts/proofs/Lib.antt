@@ -19,3 +19,4 @@ pub mod Asking
 pub mod Kept
 pub mod Slow
 pub mod SoFar
+pub mod Tasks
