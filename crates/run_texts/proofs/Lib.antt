@@ -20,3 +20,5 @@ pub mod Kept
 pub mod Slow
 pub mod SoFar
 pub mod Tasks
+pub mod Reach
+pub mod Bounds
