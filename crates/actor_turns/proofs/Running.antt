@@ -34,7 +34,7 @@ use Rattle.epoch_law.specs.Joined.{AreConnected, ArePassedSome, ArePiecesPassed,
 use Rattle.epoch_law.specs.Journals.{host_did, board_did, pulse_did}
 use Rattle.epoch_law.proofs.Connecting.{connected as ends_connected, words_raised}
 use Rattle.epoch_law.specs.Ran.{BoardRan}
-use Rattle.pulse_engine.specs.Logs.{pieces_of, got_since, counted, halts_of, records_put}
+use Rattle.pulse_engine.specs.Logs.{pieces_of, got_since, halts_of, records_put}
 use Rattle.step_record.specs.Taking.{records}
 use Rattle.list_ports.specs.Passing.{record_room}
 use Rattle.list_ports.specs.Joining.{IsGoing, HasHalted, numbers_of}

@@ -4,7 +4,7 @@ use Rattle.run_rules.specs.declared.State.{State}
 use Rattle.run_rules.specs.Work.{Task, tells}
 use Rattle.run_rules.specs.Work.Task.{tell}
 use Rattle.serial_ring.specs.Logs as link
-use Rattle.serial_ring.specs.Logs.{greeted_in, has_greeted, next_mark, answers_since, lfs_since, IsNewMark}
+use Rattle.serial_ring.specs.Logs.{has_greeted, next_mark, answers_since, lfs_since, IsNewMark}
 use Rattle.serial_ring.specs.Marks.{Mark as LinkMark, last_of, start}
 use Rattle.serial_ring.specs.declared.view.LinkStep.{LinkStep}
 use Rattle.serial_ring.specs.declared.view.LinkStep.TheVariants.{Took, Marked as LoadedMark, Answered}

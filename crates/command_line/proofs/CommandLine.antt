@@ -1,8 +1,7 @@
 -- What the words ask for.
 use Rattle.std.proofs.Common.{◌≡◌, ◌≢◌, ◌∙◌, ◌||◌, ◌==◌, ◌≤◌, ℕ, Bool, true, false, cond, List, [], ◌∷◌, length, Option, Some, None, refl, sym, ap, subst, inl, inr, map, codes, get_or, Bor, arith}
-use Rattle.std.specs.Prelude.{Box, slice_get, find, option_map, IsSomeAnd}
+use Rattle.std.specs.Prelude.{slice_get, find, option_map}
 use Rattle.std.specs.Str.{bytes_eq, chars}
-use Rattle.std.specs.Box.{box_value}
 use Rattle.std.specs.Option.{option_map_or}
 use Rattle.std.specs.Cmp.Lexicographic.{same_text}
 use Rattle.clap.specs.Lexer.{long_of, short_of}

@@ -1,13 +1,11 @@
 -- The moves of the generated job, and their events.
-use Rattle.std.proofs.Common.{◌≡◌, ◌∙◌, ℕ, ◌+◌, ◌*◌, ◌%◌, ◌-◌, ◌<◌, ◌≤◌, ◌^◌, max, refl, arith, pos, nat_abs, length, decimal, List}
+use Rattle.std.proofs.Common.{◌≡◌, ◌∙◌, ℕ, ◌+◌, ◌*◌, ◌%◌, ◌-◌, ◌<◌, ◌≤◌, ◌^◌, refl, arith, length, decimal}
 use Rattle.std.proofs.lemmas.Int.{ints}
 use Rattle.std.proofs.lemmas.Fmt.{length-decimal-le}
-use Rattle.units.specs.declared.Steps3.{Steps3}
-use Rattle.units.specs.declared.Move.{Move}
 use Rattle.units.specs.Lengths.{IsMove, IsPlace}
 use Rattle.step_line.specs.Counting.{events_of}
 use Rattle.std.proofs.lemmas.List.FromFn.{sum_by-map-range_with_len_more}
-use Rattle.demo_job.specs.Jobs.{job_events, job_move, stop, x_tenths, y_tenths}
+use Rattle.demo_job.specs.Jobs.{job_events, job_move, stop}
 
 pub is_place : (i : ℕ) → IsPlace (stop i)
 is_place i = record { x = omega arith; y = omega arith; z = omega arith }

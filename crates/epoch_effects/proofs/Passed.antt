@@ -13,7 +13,6 @@ use Rattle.board_rules.specs.Steps.{Journal, given_of, has_limited}
 use Rattle.board_rules.specs.Steps.Step.{began, cut}
 use Rattle.epoch_courses.specs.Course.{is_made, passed_by}
 use Rattle.epoch_effects.specs.Effects.{onto_epoch, epochs_in, is_alarmed}
-use Rattle.epoch_courses.proofs.Cuts.{passed_cuts}
 
 -- ---- resets part epochs
 

@@ -8,7 +8,6 @@ use Rattle.run_rules.specs.Lines.{lines_of}
 use Rattle.status_report.specs.Answering.{is_banner, without_reports}
 use Rattle.status_report.specs.declared.Reply.{Reply}
 use Rattle.status_report.specs.declared.Reply.TheVariants.{Banner, Bye}
-use Rattle.status_report.specs.declared.Reply.TheVariants as replies
 use Rattle.host_journal.specs.Jobs.{is_reset, served, marks_at, marks_behind, sent_text, resets_scanned}
 use Rattle.host_journal.specs.Links.{banners_in}
 use Rattle.stream_host.specs.Ran.{HostEnd, HostRan, is_sent_out}

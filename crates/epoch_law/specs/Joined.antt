@@ -6,7 +6,7 @@ use Rattle.epoch_links.specs.Drops.{lines_among}
 use Rattle.epoch_links.specs.Links.{AreLinked}
 use Rattle.epoch_links.specs.Pieces.{joined}
 use Rattle.epoch_records.specs.Epochs.{Epoch}
-use Rattle.epoch_records.specs.Publishing.{AreSameHalts, but_none, halts_in}
+use Rattle.epoch_records.specs.Publishing.{AreSameHalts, halts_in}
 use Rattle.epoch_records.specs.SoFar.{HaltsUnseen}
 use Rattle.epoch_runs.specs.Epochs.{halts_seen}
 use Rattle.motion_ring.specs.Sides.{published_in, ticks_published}

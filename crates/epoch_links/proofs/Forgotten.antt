@@ -1,5 +1,5 @@
 -- The lines that a host has forgotten are those that the resets of a board have left without an answer.
-use Rattle.std.proofs.Common.{◌≡◌, ℕ, ◌+◌, List, [], ◌∷◌, ◌++◌, length, map, take, drop, length-append, refl, sym, ap, ◌∙◌, arith}
+use Rattle.std.proofs.Common.{◌≡◌, ℕ, ◌+◌, List, [], ◌∷◌, ◌++◌, length, map, drop, length-append, refl, ap, ◌∙◌, arith}
 use Rattle.std.proofs.lemmas.List.{drop-map, length-map, take-append-drop}
 use Rattle.run_rules.specs.Lines.{whole_lines}
 use Rattle.run_rules.specs.declared.State.{State}
@@ -10,7 +10,7 @@ use Rattle.stream_host.specs.Conduct.{Conducted}
 use Rattle.stream_host.specs.Epochs.{Epoch, dropped_lines, ended_of, lines_in, lines_now, replies_in, told_in, told_lines}
 use Rattle.host_journal.specs.Jobs.{sent_text}
 use Rattle.host_journal.specs.Links.{on_link}
-use Rattle.host_journal.specs.Steps.{Journal, cut_of, forgotten_of, live_of}
+use Rattle.host_journal.specs.Steps.{Journal, forgotten_of}
 use Rattle.stream_host.proofs.Cutting.{epochs_are}
 use Rattle.stream_host.proofs.Epochs.{all_lines}
 use Rattle.stream_host.proofs.Pieces.{lines_back}

@@ -4,7 +4,7 @@ use Rattle.std.specs.List.{flat_map}
 use Rattle.flight.specs.Halts.{Stretch, count_made}
 use Rattle.planner_runs.specs.Runs.{all_records}
 use Rattle.pulse_engine.specs.Logs.{PieceLog, got_since}
-use Rattle.pulse_engine.specs.Logs.PieceEvent.{got, ticked, halted}
+use Rattle.pulse_engine.specs.Logs.PieceEvent.{ticked, halted}
 use Rattle.run_texts.specs.Fronts.{BeginsWith}
 use Rattle.step_line.specs.Asking.{ticks_among}
 use Rattle.step_line.specs.Finishing.{ticks_together}

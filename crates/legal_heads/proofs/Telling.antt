@@ -1,7 +1,7 @@
 -- Legal heads tell the events of their moves, in order and none left out.
-use Rattle.std.proofs.Common.{◌≡◌, ◌≤◌, ◌+◌, ◌-◌, ℕ, zero, suc, true, false, nat_eq, inl, inr, List, [], ◌∷◌, ◌++◌, map, refl, sym, ap, ◌∙◌, subst, arith, append_assoc, append-nil, Some, None}
+use Rattle.std.proofs.Common.{◌≡◌, ◌≤◌, ◌+◌, ◌-◌, ℕ, zero, suc, true, false, nat_eq, inl, inr, List, [], ◌∷◌, ◌++◌, map, refl, sym, ap, ◌∙◌, subst, arith, append_assoc, Some, None}
 use Rattle.std.specs.declared.option.Option.{Option}
-use Rattle.std.specs.List.{flat_map, filter, AllByRecursion}
+use Rattle.std.specs.List.{flat_map, AllByRecursion}
 use Rattle.std.proofs.lemmas.Bool.Decides.{nat_tests}
 use Rattle.std.proofs.lemmas.List.{map-append}
 use Rattle.std.proofs.lemmas.List.Elements.{filter-append}
@@ -18,7 +18,7 @@ use Rattle.step_line.proofs.Order.{in_parts}
 use Rattle.legal_heads.specs.declared.ToldHead.{ToldHead}
 use Rattle.legal_heads.specs.declared.Told.{Told}
 use Rattle.legal_heads.specs.declared.Told.TheVariants.{Head, Mark, End}
-use Rattle.legal_heads.specs.Speeds.{EndsMove, IsDone, MayMark, ComesNext, AreLegalBehind, IsOfItsMove, IsToldRight, told_records, begun_by, HasLegalHeads}
+use Rattle.legal_heads.specs.Speeds.{IsDone, MayMark, AreLegalBehind, IsOfItsMove, IsToldRight, told_records, begun_by, HasLegalHeads}
 use Rattle.legal_heads.specs.Whole.{is_event, events_among, IsNoCut, HasNoCut, move_events}
 
 -- some events of a move, as they are recorded

@@ -1,8 +1,5 @@
 -- Moves as they are planned, and how fast one may follow another.
 use Rattle.std.specs.Prelude.{ℕ, ◌*◌, ◌^◌, ◌<◌, ◌≤◌, min}
-use Rattle.units.specs.Lengths.{IsMove}
-use Rattle.units.specs.Limits.{IsRate, IsLimits}
-use Rattle.step_line.specs.Counting.{events_of}
 use Rattle.line_geom.specs.declared.Geom.{Geom}
 use Rattle.line_geom.specs.Geometry.{geometry}
 use Rattle.line_geom.specs.Junctions.{junction_of}

@@ -3,7 +3,7 @@ use Rattle.std.specs.Prelude.{◌≡◌, ℕ, ◌+◌, Bool, List, [], ◌∷◌
 use Rattle.status_report.specs.declared.Reply.{Reply}
 use Rattle.realtime_flags.specs.declared.words.Raise.{Raise}
 use Rattle.serial_ring.specs.declared.ends.HostEnd.{HostEnd}
-use Rattle.serial_ring.specs.Ends.{stored_by, tail_shown, tail_loads_of, got_by, replies_shown, reply_loads_of}
+use Rattle.serial_ring.specs.Ends.{tail_shown, tail_loads_of, got_by, replies_shown, reply_loads_of}
 use Rattle.link_ports.specs.Loads.{StoredByte, FoundNoRoom}
 use Rattle.host_journal.specs.Steps.{HostLog, stored_in, stored_at_banners, got_in, latest_got, marks_in, is_shut_in}
 use Rattle.host_journal.specs.Ports.{AreGreeted}

@@ -9,7 +9,6 @@ use Rattle.step_line.specs.Finishing.{tick_count, unfinished, most_unfinished}
 use Rattle.board_rules.specs.Ports.{taken_in, link_steps, has_closed_in, answered_in, known_in, sent_in, asks_report, said, IsMarkedPast, MayAnswer, MayPublish, MayStop, MayBeDone, HasFewReports, LacksPieceRoom}
 use Rattle.board_rules.specs.Ports.{BoardLog}
 use Rattle.board_rules.specs.Ports.PortStep.{took_exec, published, no_piece_room, loaded, stored_stop}
-use Rattle.board_rules.proofs.Unstopped.{NeverStops}
 use Rattle.realtime_flags.specs.declared.words.Flag.{Flag}
 use Rattle.realtime_flags.specs.declared.words.Flag.TheVariants as flags
 use Rattle.realtime_flags.specs.Bits.{is_flag, is_up, report_flag, raises_of, IsNamed}

@@ -12,7 +12,6 @@ use Rattle.shared_rings.proofs.Placed.{placed_here, by_bool, same_number}
 use Rattle.shared_rings.proofs.Shelf as shelves
 use Rattle.step_line.specs.declared.Piece.{Piece}
 use Rattle.step_line.specs.declared.Piece.TheVariants as pieces
-use Rattle.step_line.specs.Pieces.{ComesBehind}
 use Rattle.step_line.specs.Ordering.{ComesNext, InTurn, has_ended}
 use Rattle.step_line.specs.Finishing.{tick_count, ticks_together}
 use Rattle.step_line.proofs.Finished.{together}

@@ -1,11 +1,11 @@
 -- The steps of the seat that gets keep the rule.
-use Rattle.std.proofs.Common.{◌≡◌, ℕ, zero, suc, ◌+◌, ◌-◌, ◌%◌, ◌^◌, ◌<◌, ◌≤◌, ◌⊎◌, Bool, true, false, List, [], ◌∷◌, ◌++◌, length, get_or, set, Some, None, sym, refl, ap, ◌∙◌, subst, inl, inr, ⊎_elim, arith, length-append, lt_of_not-le}
+use Rattle.std.proofs.Common.{◌≡◌, ℕ, zero, suc, ◌+◌, ◌-◌, ◌%◌, ◌^◌, ◌<◌, ◌≤◌, ◌⊎◌, Bool, true, false, List, [], ◌∷◌, ◌++◌, length, get_or, set, Some, None, sym, refl, ap, ◌∙◌, subst, inl, inr, ⊎_elim, arith, lt_of_not-le}
 use Rattle.std.specs.declared.option.Option.{Option}
 use Rattle.units.specs.Truths.{one_if}
 use mathlib.Core.Option.{none, some}
 use native.Mathlib.Decide.{dec_le}
 use lib.ListN.{get_elem?}
-use Rattle.atomic_table.specs.Table.{State, Me, step, Act, Allows, Valid, carried_after, homes_after}
+use Rattle.atomic_table.specs.Table.{State, step, Act, Allows, Valid, carried_after, homes_after}
 use Rattle.atomic_table.specs.Table.Act.{keeps, takes, gives, chain}
 use Rattle.shared_rings.proofs.Shelf as shelves
 use Rattle.step_line.specs.declared.Piece.{Piece}
@@ -14,9 +14,9 @@ use Rattle.motion_ring.specs.Ticks.{head_word, done_word, stop_word, halted_word
 use Rattle.motion_ring.specs.Sides.{published_in, passed_in, last_stop, with_got, with_tick, halted_with}
 use Rattle.motion_ring.specs.Rule.{Kept, Flows, IsStopping, saw_head, got_piece, counted_tick, counted_last, saw_stop, skipped_piece, gave_halt, empty_slots, grasped, ticked, finished, asked, recalled, skipped, halted}
 use Rattle.motion_ring.proofs.Words.{done_stored, halt_stored}
-use Rattle.motion_ring.proofs.Flows.{Homes, long, passed_long, next, there, comes, none_ended, next_idle, next_short, grasped_flows, ticked_flows, finished_flows, given, skipped_there, skipped_flows, past_is, halted_flows}
+use Rattle.motion_ring.proofs.Flows.{Homes, long, next, there, comes, none_ended, next_idle, next_short, grasped_flows, ticked_flows, finished_flows, given, skipped_there, skipped_flows, past_is, halted_flows}
 use Rattle.motion_ring.proofs.Flows as flowing
-use Rattle.motion_ring.proofs.Frame.{Hand, Way, after, loads, own_getting, taken_flows, taken_words, taken_asked, gotten_by}
+use Rattle.motion_ring.proofs.Frame.{Hand, Way, loads, own_getting, taken_flows, taken_words, taken_asked, gotten_by}
 
 module _ (s : State (Option Piece) MotionSight) (k : Kept s) (id : ℕ) (v : MotionSight) (at : get_elem? s.views id ≡ some v) (mine : v.may_get ≡ true) where
   abbrev flows : Flows s.homes k.sent v.taken v.dropping k.finished_of k.filling v.busy

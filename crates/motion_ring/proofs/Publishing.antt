@@ -1,5 +1,5 @@
 -- The steps of the seat that publishes keep the rule.
-use Rattle.std.proofs.Common.{◌≡◌, ℕ, ◌+◌, ◌%◌, ◌<◌, ◌≤◌, ◌⊎◌, Bool, true, false, List, [], ◌∷◌, ◌++◌, length, get_or, set, Some, None, sym, refl, ap, ◌∙◌, subst, inl, inr, ⊎_elim, arith, lt_of_not-le}
+use Rattle.std.proofs.Common.{◌≡◌, ℕ, ◌+◌, ◌%◌, ◌<◌, ◌≤◌, ◌⊎◌, true, false, [], ◌∷◌, ◌++◌, length, get_or, set, Some, None, sym, refl, ap, ◌∙◌, subst, inl, ⊎_elim, arith}
 use Rattle.std.specs.declared.option.Option.{Option}
 use mathlib.Core.Option.{none, some}
 use native.Mathlib.Decide.{dec_le}
@@ -16,7 +16,7 @@ use Rattle.motion_ring.specs.Ticks.{head_word, done_word, stop_word, halted_word
 use Rattle.motion_ring.specs.Sides.{published_in, passed_in, last_stop, room_from, MayPublish, MayStop}
 use Rattle.motion_ring.specs.Rule.{Kept, Flows, IsKnown, IsRunning, IsHalted, saw_slot, saw_done, gave_piece, gave_stop, saw_no_halt, saw_halt, reached, seen, published, stopped, heeded}
 use Rattle.motion_ring.proofs.Words.{head_stored, stop_stored}
-use Rattle.motion_ring.proofs.Flows.{Homes, done_within, done_late, has_room, reached_flows, published_flows, stopped_flows, heeded_flows}
+use Rattle.motion_ring.proofs.Flows.{done_within, done_late, has_room, reached_flows, published_flows, stopped_flows, heeded_flows}
 use Rattle.motion_ring.proofs.Frame.{Hand, Way, after, loads, own_publishing, sent_flows, sent_words, published_by}
 
 module _ (s : State (Option Piece) MotionSight) (k : Kept s) (id : ℕ) (v : MotionSight) (at : get_elem? s.views id ≡ some v) (mine : v.may_publish ≡ true) where

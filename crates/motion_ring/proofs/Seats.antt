@@ -1,9 +1,9 @@
 -- The making and the ending of the seats keep the rule.
-use Rattle.std.proofs.Common.{◌≡◌, ℕ, zero, suc, ◌+◌, ◌-◌, ◌<◌, ◌≤◌, ◌⊎◌, Bool, true, false, List, [], ◌∷◌, ◌++◌, length, map, drop, replicate, get_or, set, Some, None, sym, refl, ap, ◌∙◌, subst, inl, inr, ⊎_elim, arith}
+use Rattle.std.proofs.Common.{◌≡◌, ℕ, zero, suc, ◌+◌, ◌-◌, ◌<◌, ◌≤◌, ◌⊎◌, Bool, true, false, List, [], ◌∷◌, ◌++◌, length, map, drop, replicate, set, None, sym, refl, ap, ◌∙◌, subst, inl, ⊎_elim, arith}
 use Rattle.std.specs.declared.option.Option.{Option}
 use mathlib.Core.Option.{none, some}
 use lib.ListN.{get_elem?}
-use Rattle.atomic_table.specs.Table.{State, step, Allows, Splits, Joins, opening}
+use Rattle.atomic_table.specs.Table.{step, Allows, Splits, Joins, opening}
 use Rattle.atomic_table.specs.Table.Act.{keeps}
 use Rattle.atomic_table.proofs.Lists.{at_set}
 use Rattle.shared_rings.proofs.Rights as rights
@@ -15,12 +15,12 @@ use Rattle.motion_ring.specs.declared.lists.Halt.{Halt}
 use Rattle.motion_ring.specs.declared.lists.Sent.{Sent}
 use Rattle.motion_ring.specs.declared.lists.Taken.{Taken}
 use Rattle.motion_ring.specs.Ticks.{done_word, unfinished_of}
-use Rattle.motion_ring.specs.Sides.{published_in, passed_in, ticks_at, last_stop, all_passed, unless_none, some_halts, some_stops, pieces_at, halt_of}
+use Rattle.motion_ring.specs.Sides.{published_in, last_stop, all_passed, unless_none, some_halts, some_stops, pieces_at, halt_of}
 use Rattle.motion_ring.specs.Rule.{Kept, Flows, IsGoing, PiecesAreTied, beginning, none_sent, none_taken, without_publishing, without_getting, both_of, spent, tied}
 use Rattle.motion_ring.proofs.Ticks.{at_most_five}
 use Rattle.motion_ring.proofs.Sides.{none_of}
 use Rattle.motion_ring.proofs.Flows.{Homes, long, passed_long, going_late, empty_flows}
-use Rattle.motion_ring.proofs.Frame.{Hand, may_publish, may_get, loads, own_publishing, own_getting, sent_words, taken_asked, taken_words, taken_flows, gotten_by}
+use Rattle.motion_ring.proofs.Frame.{Hand, may_publish, may_get, loads, own_publishing, own_getting, taken_asked, taken_words, taken_flows, gotten_by}
 
 -- with one item more, or none, in front
 front_of : {A : Type 0} (n : ℕ) (a : A) (l : List A) → (front : List A) × (unless_none n a l ≡ front ++ l)

@@ -1,15 +1,14 @@
 -- What the two sides have done: the pieces of what was passed, and its ticks.
-use Rattle.std.proofs.Common.{◌≡◌, ℕ, zero, suc, ◌+◌, ◌-◌, ◌<◌, ◌≤◌, true, false, List, [], ◌∷◌, ◌++◌, length, map, refl, sym, ap, ◌∙◌, arith, append_assoc, length-append}
+use Rattle.std.proofs.Common.{◌≡◌, ℕ, zero, suc, ◌+◌, ◌-◌, ◌<◌, ◌≤◌, false, List, [], ◌∷◌, ◌++◌, length, map, refl, ap, ◌∙◌, arith, append_assoc, length-append}
 use Rattle.std.proofs.lemmas.List.{length-map, map-append}
 use Rattle.step_line.specs.declared.Piece.{Piece}
 use Rattle.step_line.specs.declared.Piece.TheVariants as pieces
 use Rattle.step_line.specs.Ordering.{has_ended}
 use Rattle.step_line.specs.Finishing.{tick_count, ticks_together}
 use Rattle.step_line.proofs.Finished.{together}
-use Rattle.motion_ring.specs.declared.lists.Taken.{Taken}
 use Rattle.motion_ring.specs.declared.lists.Passed.{Passed}
-use Rattle.motion_ring.specs.declared.lists.Passed.TheVariants.{Whole, Cut, Dropped}
-use Rattle.motion_ring.specs.Sides.{piece_of, ticks_passed, all_passed, AreFates, passed_in, fate, fates, halted_with, unless_none, some_stops, some_halts}
+use Rattle.motion_ring.specs.declared.lists.Passed.TheVariants.{Whole, Dropped}
+use Rattle.motion_ring.specs.Sides.{piece_of, ticks_passed, all_passed, AreFates, fate, fates, unless_none}
 
 pub some_kept : {A : Type 0} (n : ℕ) (a : A) (l : List A) → 0 < n → unless_none n a l ≡ a ∷ l
 some_kept zero a l lt = absurd (omega arith)

@@ -1,5 +1,5 @@
 -- The slots and the words of the ring, and how many of some pieces are unfinished.
-use Rattle.std.specs.Prelude.{ℕ, List, [], ◌∷◌, reverse}
+use Rattle.std.specs.Prelude.{ℕ, [], ◌∷◌, reverse}
 use Rattle.step_line.specs.declared.Piece.{Piece}
 use Rattle.step_line.specs.Logs.{NewestFirst}
 use Rattle.step_line.specs.Finishing.{unfinished}

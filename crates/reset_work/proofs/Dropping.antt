@@ -8,7 +8,6 @@ use Rattle.step_line.specs.Logs.{NewestFirst}
 use Rattle.board_rules.specs.Ports.{PortStep, BoardLog, HasFewReports, asks_report, reports_in}
 use Rattle.board_rules.specs.Ports.PortStep.{took_exec, took_ovr}
 use Rattle.board_rules.specs.Steps.{Journal}
-use Rattle.board_rules.specs.Steps.Step.{at_port}
 use Rattle.board_epochs.specs.Epochs.{Closed, closed_log, last_line, log_behind, log_of, opening_behind}
 use Rattle.board_epochs.specs.Epochs.Epochs.{resets}
 use Rattle.board_epochs.specs.Work.{Work, MayWorkAt, stage_at}

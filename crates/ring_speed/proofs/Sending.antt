@@ -5,9 +5,9 @@ use Rattle.step_line.specs.declared.Piece.TheVariants as pieces
 use Rattle.step_line.specs.Counting.{events_of}
 use Rattle.step_line.specs.Pieces.{IsTraceable, JoinsOn}
 use Rattle.step_line.specs.Ordering.{has_ended}
-use Rattle.step_line.specs.Finishing.{tick_count, ticks_together}
+use Rattle.step_line.specs.Finishing.{tick_count}
 use Rattle.motion_ring.specs.declared.lists.Sent.{Sent}
-use Rattle.motion_ring.specs.Sides.{MayPublish, published_in, ticks_at, ticks_published}
+use Rattle.motion_ring.specs.Sides.{MayPublish, published_in, ticks_published}
 use Rattle.motion_ring.proofs.Ticks.{segment_ticks}
 use Rattle.ring_speed.specs.Moves.{twenty_events}
 

@@ -2,7 +2,6 @@
 use Rattle.std.proofs.Common.{◌≡◌, ℕ, ◌≤◌, Bool, true, false, not, ◌&&◌, ◌||◌, List, [], ◌∷◌, ◌++◌, length, nat_eq, nat_lt, refl, sym, ap, ◌∙◌, subst, arith}
 use Rattle.std.specs.List.{list_any}
 use Rattle.std.proofs.lemmas.Bool.Decides.{nat_tests}
-use Rattle.code_table.specs.declared.Code.{Code}
 use Rattle.status_report.specs.declared.Message.TheVariants.{Unlocked}
 use Rattle.status_report.specs.declared.Reply.{Reply}
 use Rattle.status_report.specs.declared.Reply.TheVariants as replies
@@ -13,10 +12,10 @@ use Rattle.units.specs.declared.Steps3.{Steps3}
 use Rattle.run_rules.specs.declared.State.{State}
 use Rattle.run_rules.specs.Work.{Outcome, is_limit, telling, asks}
 use Rattle.run_rules.specs.Work.Kind.{of_none}
-use Rattle.run_rules.specs.Outcomes.{Before, IsBegun, IsCut, Passed, Follows, ByCommand, refused, told, after, at_place, either, most_kept, begins_with_dollar}
+use Rattle.run_rules.specs.Outcomes.{Before, IsCut, Passed, Follows, ByCommand, refused, told, after, at_place, most_kept, begins_with_dollar}
 use Rattle.run_rules.specs.Outcomes.Passed.{a_line, a_cut}
-use Rattle.run_rules.specs.Locking.{unlocked, unlocks, ByLockedDollar, ByLockedKept, BecomesLocked, BecomesIn, IsBegunIn, FollowsFrom, locked_behind}
-use Rattle.run_rules.proofs.Each.{by_either, holds_of_commands, IsListing}
+use Rattle.run_rules.specs.Locking.{unlocks, ByLockedDollar, ByLockedKept, BecomesLocked, BecomesIn, IsBegunIn, FollowsFrom, locked_behind}
+use Rattle.run_rules.proofs.Each.{by_either, holds_of_commands}
 
 telling_asks : (rs : List Reply) → asks (telling rs) ≡ []
 telling_asks [] = refl

@@ -1,5 +1,5 @@
 -- Texts with no cut, no reset and no alarm have all ticks of their lines.
-use Rattle.std.proofs.Common.{◌≡◌, ℕ, ◌+◌, ◌≤◌, ◌⊎◌, inl, inr, List, [], ◌∷◌, ◌++◌, append-nil, length, map, true, false, Bool, ◌||◌, sym, refl, ap, ◌∙◌, subst, arith}
+use Rattle.std.proofs.Common.{◌≡◌, ℕ, ◌+◌, ◌≤◌, ◌⊎◌, inl, inr, List, [], ◌∷◌, ◌++◌, append-nil, true, false, Bool, ◌||◌, sym, refl, ap, ◌∙◌, subst, arith}
 use Rattle.std.specs.List.{list_any, filter}
 use Rattle.units.specs.declared.Steps3.{Steps3}
 use Rattle.flight.specs.Places.{origin}
@@ -9,7 +9,7 @@ use Rattle.step_line.specs.Asking.{ticks_among}
 use Rattle.step_line.specs.declared.Record.{Record}
 use Rattle.step_line.specs.declared.Record.TheVariants as kinds
 use Rattle.run_rules.specs.declared.State.{State}
-use Rattle.run_rules.specs.Outcomes.{Before, limited}
+use Rattle.run_rules.specs.Outcomes.{Before}
 use Rattle.run_rules.specs.Reports.{raises_alarm}
 use Rattle.run_rules.specs.Work.{Outcome, tells, is_limit}
 use Rattle.run_rules.proofs.Answering.{AnswersOrHalts, no_alarm}
@@ -26,7 +26,7 @@ use Rattle.run_texts.specs.Sent.Sent.{a_text, a_stop}
 use Rattle.run_texts.specs.Told.{told_at_reset, told_in, has_alarm}
 use Rattle.run_texts.proofs.Determined.{line_answers, agree, same_told}
 use Rattle.run_texts.proofs.Events.{whole_ticks}
-use Rattle.run_texts.proofs.Stops.{Stop, stops_of}
+use Rattle.run_texts.proofs.Stops.{stops_of}
 
 -- ---- alarms
 

@@ -1,6 +1,5 @@
 -- A job, a console and steps have one course at most.
-use Rattle.std.proofs.Common.{◌≡◌, ℕ, ◌+◌, ◌≤◌, ◌⊎◌, inl, inr, List, [], ◌∷◌, ◌++◌, length, true, false, Bool, cond, ◌||◌, sym, refl, ap, ◌∙◌, subst, arith, Some, None}
-use Rattle.std.specs.List.{AllByRecursion}
+use Rattle.std.proofs.Common.{◌≡◌, ℕ, ◌+◌, ◌≤◌, ◌⊎◌, inl, inr, List, [], ◌∷◌, ◌++◌, true, false, Bool, cond, ◌||◌, sym, refl, ap, ◌∙◌, subst, arith}
 use Rattle.std.proofs.lemmas.List.{append_cancel_left}
 use Rattle.units.specs.declared.Steps3.{Steps3}
 use Rattle.system_lines.specs.Commands.{kind_of, command_of}
@@ -13,18 +12,17 @@ use Rattle.status_report.specs.declared.Reply.TheVariants as replies
 use Rattle.flight.specs.Places.{origin}
 use Rattle.step_line.specs.declared.Record.{Record}
 use Rattle.run_rules.specs.declared.State.{State}
-use Rattle.run_rules.specs.Outcomes.{Before, Becomes, limited, refused, either, most_kept}
+use Rattle.run_rules.specs.Outcomes.{Before, either}
 use Rattle.run_rules.specs.Work.{Outcome, tells}
 use Rattle.run_rules.proofs.Answering.{AnswersOnce, AnswersOrHalts, answers_or_halts, refused_once, told_once, by_command}
 use Rattle.run_rules.proofs.Determined.{one_opening}
 use Rattle.run_texts.specs.Courses.{Passed, Reset, Follows, IsReset, IsLeft, behind_cut, behind_the_reset}
 use Rattle.run_texts.specs.Courses.Passed.{a_line, a_broken, a_cut, a_reset}
 use Rattle.run_texts.specs.Fits.{FitsTexts}
-use Rattle.run_texts.specs.Parts.{parts_of}
 use Rattle.run_texts.specs.Points.{Point, BecomesLocked, ByLockedKept, ByLockedDollar, BecomesAt, behind_line, behind_broken, opening}
 use Rattle.run_texts.specs.Sent.{Sent, behind_reset}
 use Rattle.run_texts.specs.Sent.Sent.{a_text, a_stop}
-use Rattle.run_texts.specs.Told.{told_at_reset, told_of, told_in, IsTold}
+use Rattle.run_texts.specs.Told.{told_at_reset, told_in, IsTold}
 use Rattle.run_texts.proofs.Errors.{told_one, begun_one}
 use Rattle.run_texts.proofs.Quiet.{opens, Quiet, TellsQuietly, line_quiet}
 use Rattle.run_texts.proofs.Stops.{Stop, stops_of, stops_agree}

@@ -1,15 +1,14 @@
 -- A course goes on at its end: by a line, by a cut, or by a reset.
-use Rattle.std.proofs.Common.{◌≡◌, ℕ, ◌+◌, ◌≤◌, ◌<◌, inl, inr, List, [], ◌∷◌, ◌++◌, map, length, true, false, Bool, ◌||◌, ◌&&◌, append-nil, sym, refl, ap, ◌∙◌, subst, arith}
+use Rattle.std.proofs.Common.{◌≡◌, ℕ, ◌+◌, ◌≤◌, ◌<◌, List, [], ◌∷◌, ◌++◌, map, length, true, false, Bool, ◌||◌, ◌&&◌, append-nil, sym, refl, ap, ◌∙◌, subst}
 use Rattle.units.specs.declared.Steps3.{Steps3}
-use Rattle.run_rules.specs.declared.State.{State}
-use Rattle.run_rules.specs.Outcomes.{Before, either, start, after, at_place}
+use Rattle.run_rules.specs.Outcomes.{Before, either}
 use Rattle.run_rules.specs.Outcomes.{Becomes, IsBegun, Passed as RulesPassed, Follows as RulesFollow}
 use Rattle.run_rules.specs.Outcomes.Passed.{a_line as line_passed, a_cut as cut_passed}
 use Rattle.run_rules.specs.Work.{Outcome}
 use Rattle.run_texts.specs.Courses.{Passed, Reset, Follows, IsCut, IsReset, IsLeft, behind_cut, behind_the_reset}
 use Rattle.run_texts.specs.Courses.Passed.{a_line, a_broken, a_cut, a_reset}
-use Rattle.run_texts.specs.Epochs.{lifted, CutsHaveLines, TakesCourse}
-use Rattle.run_texts.specs.Points.{Point, IsPassed, IsBroken, BecomesLocked, behind_line, behind_broken, opening}
+use Rattle.run_texts.specs.Epochs.{CutsHaveLines, TakesCourse}
+use Rattle.run_texts.specs.Points.{Point, IsPassed, IsBroken, BecomesLocked, behind_line, behind_broken}
 use Rattle.run_texts.specs.Sent.{Sent, waiting_in, has_reset, behind_reset}
 use Rattle.run_texts.specs.Sent.Sent.{a_text, a_stop}
 

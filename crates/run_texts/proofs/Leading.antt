@@ -1,6 +1,6 @@
 -- The events of a run lead the machine to where its parser stands.
 use Rattle.std.proofs.Common.{◌≡◌, ℕ, ◌+◌, ◌⊎◌, inl, inr, List, [], ◌∷◌, ◌++◌, map, true, false, Bool, ◌||◌, sym, refl, ap, ◌∙◌, subst, append-nil, append_assoc, arith}
-use Rattle.std.specs.List.{flat_map, list_any}
+use Rattle.std.specs.List.{list_any}
 use Rattle.std.proofs.lemmas.Grind.{flat_map-append}
 use Rattle.units.specs.declared.Steps3.{Steps3}
 use Rattle.flight.specs.Places.{moved_by, origin}
@@ -23,7 +23,7 @@ use Rattle.run_texts.specs.Courses.{Passed, Follows, behind_cut, behind_the_rese
 use Rattle.run_texts.specs.Courses.Passed.{a_line, a_broken, a_cut, a_reset}
 use Rattle.run_texts.specs.Fits.{FitsTexts}
 use Rattle.run_texts.specs.Left.{behind_lines}
-use Rattle.run_texts.specs.Parts.{Ending, Part, parts_of, onto_first, begun_first, ends_here, ending_record}
+use Rattle.run_texts.specs.Parts.{Part, parts_of, onto_first, begun_first, ending_record}
 use Rattle.run_texts.specs.Parts.Ending.{by_cut, by_reset, by_end}
 use Rattle.run_texts.specs.Places.{MovesJoin, PartsJoin, moves_for, position}
 use Rattle.run_texts.specs.Points.{Point, BecomesAt, behind_line, behind_broken, opening}

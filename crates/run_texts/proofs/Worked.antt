@@ -1,9 +1,8 @@
 -- Worked texts that fit.
-use Rattle.std.proofs.Common.{◌≡◌, ℕ, zero, suc, ◌+◌, inl, inr, List, [], ◌∷◌, ◌++◌, length, map, replicate, drop, true, false, Bool, refl, sym, ap, codes, pos, negsuc, arith, Ok, Err, Some, None}
+use Rattle.std.proofs.Common.{◌≡◌, ℕ, zero, suc, ◌+◌, inl, inr, List, [], ◌∷◌, ◌++◌, map, replicate, drop, true, false, refl, sym, ap, codes, pos, arith, Ok, Err}
 use Rattle.std.specs.declared.result.Result.{Result}
 use Rattle.units.specs.declared.Per3.{Per3}
 use Rattle.units.specs.declared.Steps3.{Steps3}
-use Rattle.units.specs.declared.Move.{Move}
 use Rattle.units.specs.declared.Rate.{Rate}
 use Rattle.units.specs.declared.Rate.TheVariants.{Rapid, Feed, Jog}
 use Rattle.units.specs.Counting.{count, events_of}
@@ -27,37 +26,32 @@ use Rattle.modal_state.specs.Modes.{opening_parser}
 use Rattle.settings.specs.declared.Settings.{Settings}
 use Rattle.status_report.specs.declared.Message.TheVariants as messages
 use Rattle.system_lines.specs.Commands.{kind_of, command_of, jog_words}
-use Rattle.status_report.specs.declared.Reply.{Reply}
 use Rattle.status_report.specs.declared.Reply.TheVariants as replies
-use Rattle.step_line.specs.declared.SpindleCode.TheVariants.{M3}
 use Rattle.flight.specs.Places.{origin}
 use Rattle.step_line.specs.Asking.{moves_of}
 use Rattle.step_line.specs.declared.Bits.{Bits}
 use Rattle.step_line.specs.declared.Mark.TheVariants as marks
 use Rattle.step_line.specs.declared.Head.{Head}
-use Rattle.step_line.specs.declared.Record.{Record}
 use Rattle.step_line.specs.declared.Record.TheVariants as kinds
 use Rattle.step_line.specs.declared.planned_move.PlannedMove.{PlannedMove}
 use Rattle.step_line.specs.Events.{event_of, steps_at}
-use Rattle.legal_heads.specs.declared.ToldHead.{ToldHead}
 use Rattle.legal_heads.specs.declared.Told.{Told}
 use Rattle.legal_heads.specs.declared.Told.TheVariants as told_as
 use Rattle.run_rules.specs.declared.State.{State}
 use Rattle.run_rules.specs.States.{IsOpening}
-use Rattle.run_rules.specs.Outcomes.{Before, start, after, executed, jogging, limited, told, refused}
+use Rattle.run_rules.specs.Outcomes.{Before, start, executed, jogging, limited, told}
 use Rattle.run_rules.specs.Told.{asked_in}
 use Rattle.run_rules.specs.Work.{Outcome}
 use Rattle.run_texts.specs.Courses.{Reset, IsReset, behind_cut, behind_the_reset}
-use Rattle.run_texts.specs.Courses.Passed.{a_line, a_broken, a_cut, a_reset}
-use Rattle.run_texts.specs.Fits.{FitsTexts}
-use Rattle.run_texts.specs.Points.{Point, opening, behind_line, behind_broken, unlocked}
+use Rattle.run_texts.specs.Courses.Passed.{a_line, a_cut, a_reset}
+use Rattle.run_texts.specs.Points.{Point, opening, behind_line}
 use Rattle.run_texts.specs.Heads.{MayEnd}
 use Rattle.run_texts.specs.Parts.{Ending, Part, lines_counted}
-use Rattle.run_texts.specs.Parts.Ending.{by_cut, by_reset, by_end}
+use Rattle.run_texts.specs.Parts.Ending.{by_cut, by_reset}
 use Rattle.run_texts.specs.Recorded.{HasTicks, IsWhere, IsRecorded, ticks_for_all}
-use Rattle.run_texts.specs.Rows.{right, left, head_of, steps_of, one_step, one_mm, held, two_resets, limits_on, jog_right, cancelled, far, stopped, resumed, first_two, OneStepFits, HoldFits, TwoResetsFit, SoftLimitFits, CutFits, DroppedFits, BrokenFits, UnlockedFits, WaitingFits, over, locked_job, long_job, LongFits, LockedFits, LimitWaitsFits, LongBehindFits}
-use Rattle.run_texts.specs.Sent.{Sent, sent_of, kept_of}
-use Rattle.run_texts.specs.Sent.Sent.{a_text, a_stop}
+use Rattle.run_texts.specs.Rows.{right, left, head_of, steps_of, one_step, one_mm, limits_on, jog_right, OneStepFits, HoldFits, TwoResetsFit, SoftLimitFits, CutFits}
+use Rattle.run_texts.specs.Sent.{Sent, kept_of}
+use Rattle.run_texts.specs.Sent.Sent.{a_stop}
 use Rattle.run_texts.proofs.Stops.{Inside}
 
 -- ---- the opening state

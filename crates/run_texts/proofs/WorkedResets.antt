@@ -1,19 +1,13 @@
 -- Worked texts with resets that fit.
-use Rattle.std.proofs.Common.{◌≡◌, ℕ, zero, suc, ◌+◌, inl, inr, List, [], ◌∷◌, ◌++◌, length, map, replicate, drop, true, false, Bool, refl, sym, ap, codes, pos, negsuc, arith, Ok, Err, Some, None}
-use Rattle.std.specs.declared.result.Result.{Result}
-use Rattle.units.specs.declared.Per3.{Per3}
+use Rattle.std.proofs.Common.{◌≡◌, ℕ, ◌+◌, inl, inr, List, [], ◌∷◌, ◌++◌, drop, true, false, refl, codes, arith, Ok}
 use Rattle.units.specs.declared.Steps3.{Steps3}
-use Rattle.units.specs.declared.Move.{Move}
-use Rattle.units.specs.declared.Rate.{Rate}
-use Rattle.units.specs.declared.Rate.TheVariants.{Rapid, Feed, Jog}
+use Rattle.units.specs.declared.Rate.TheVariants.{Rapid}
 use Rattle.units.specs.Counting.{count, events_of}
 use Rattle.units.specs.Reading.{decimal_from}
 use Rattle.units.specs.Decimals.{front_number, digits_say}
 use Rattle.units.specs.Rounding.{rounded_quotient}
 use Rattle.gcode_words.specs.Comments.{cut_within}
-use Rattle.gcode_words.specs.Words.{words_of, first_word, words_within}
-use Rattle.gcode_words.specs.declared.Word.{Word}
-use Rattle.gcode_words.specs.declared.WordFault.{WordFault}
+use Rattle.gcode_words.specs.Words.{first_word, words_within}
 use Rattle.line_words.specs.Codes.{group_of, code_in}
 use Rattle.line_words.specs.Targets.{target, targets}
 use Rattle.line_words.specs.WordRefusals.{word_refusal, refusal_at, words_refusal}
@@ -21,45 +15,28 @@ use Rattle.gcode_check.specs.Conditions.{line_refusal}
 use Rattle.gcode_check.specs.NewOffsets.{new_system_offset, new_g92}
 use Rattle.gcode_check.specs.Effects.{offsets_after, parser_moved, parser_after}
 use Rattle.gcode_check.specs.Items.{items_of}
-use Rattle.gcode_check.specs.Verdicts.{verdict, accepted}
-use Rattle.jog.specs.Jogs.{jog_of, jog_error, jog_move}
-use Rattle.modal_state.specs.Modes.{opening_parser}
-use Rattle.settings.specs.declared.Settings.{Settings}
+use Rattle.gcode_check.specs.Verdicts.{verdict}
+use Rattle.jog.specs.Jogs.{jog_of, jog_error}
 use Rattle.status_report.specs.declared.Message.TheVariants as messages
-use Rattle.system_lines.specs.Commands.{kind_of, command_of, jog_words}
-use Rattle.status_report.specs.declared.Reply.{Reply}
+use Rattle.system_lines.specs.Commands.{kind_of, command_of}
 use Rattle.status_report.specs.declared.Reply.TheVariants as replies
 use Rattle.step_line.specs.declared.SpindleCode.TheVariants.{M3}
 use Rattle.flight.specs.Places.{origin}
-use Rattle.step_line.specs.Asking.{moves_of}
-use Rattle.step_line.specs.declared.Bits.{Bits}
 use Rattle.step_line.specs.declared.Mark.TheVariants as marks
-use Rattle.step_line.specs.declared.Head.{Head}
-use Rattle.step_line.specs.declared.Record.{Record}
 use Rattle.step_line.specs.declared.Record.TheVariants as kinds
-use Rattle.step_line.specs.declared.planned_move.PlannedMove.{PlannedMove}
 use Rattle.step_line.specs.Events.{event_of, steps_at}
-use Rattle.legal_heads.specs.declared.ToldHead.{ToldHead}
-use Rattle.legal_heads.specs.declared.Told.{Told}
 use Rattle.legal_heads.specs.declared.Told.TheVariants as told_as
-use Rattle.run_rules.specs.declared.State.{State}
-use Rattle.run_rules.specs.States.{IsOpening}
-use Rattle.run_rules.specs.Outcomes.{Before, start, after, executed, jogging, limited, told, refused}
-use Rattle.run_rules.specs.Told.{asked_in}
+use Rattle.run_rules.specs.Outcomes.{start, limited, told, refused}
 use Rattle.run_rules.specs.Work.{Outcome}
-use Rattle.run_texts.specs.Courses.{Reset, IsReset, behind_cut, behind_the_reset}
+use Rattle.run_texts.specs.Courses.{Reset, behind_cut, behind_the_reset}
 use Rattle.run_texts.specs.Courses.Passed.{a_line, a_broken, a_cut, a_reset}
-use Rattle.run_texts.specs.Fits.{FitsTexts}
 use Rattle.run_texts.specs.Points.{Point, opening, behind_line, behind_broken, unlocked}
-use Rattle.run_texts.specs.Heads.{MayEnd}
-use Rattle.run_texts.specs.Parts.{Ending, Part, lines_counted}
+use Rattle.run_texts.specs.Parts.{Part, lines_counted}
 use Rattle.run_texts.specs.Parts.Ending.{by_cut, by_reset, by_end}
-use Rattle.run_texts.specs.Recorded.{HasTicks, IsWhere, IsRecorded, ticks_for_all}
-use Rattle.run_texts.specs.Rows.{right, left, head_of, steps_of, one_step, one_mm, held, two_resets, limits_on, jog_right, cancelled, far, stopped, resumed, first_two, OneStepFits, HoldFits, TwoResetsFit, SoftLimitFits, CutFits, DroppedFits, BrokenFits, UnlockedFits, WaitingFits, over, locked_job, long_job, LongFits, LockedFits, LimitWaitsFits, LongBehindFits}
-use Rattle.run_texts.specs.Sent.{Sent, sent_of, kept_of}
-use Rattle.run_texts.specs.Sent.Sent.{a_text, a_stop}
-use Rattle.run_texts.proofs.Stops.{Inside}
-use Rattle.run_texts.proofs.Worked.{each, first, opens, coded, at_x, along, told_head, inside_events, empty_at, behind_empty, nothing_made, limiting, behind_limits, jogging_at, coded_at, jog_1, behind_jog_1, jog_2, back, jog_along}
+use Rattle.run_texts.specs.Recorded.{IsRecorded, ticks_for_all}
+use Rattle.run_texts.specs.Rows.{right, left, steps_of, jog_right, far, first_two, DroppedFits, BrokenFits, UnlockedFits, WaitingFits, over, LongFits, LockedFits, LimitWaitsFits, LongBehindFits}
+use Rattle.run_texts.specs.Sent.{kept_of}
+use Rattle.run_texts.proofs.Worked.{each, first, opens, coded, at_x, along, told_head, inside_events, empty_at, behind_empty, nothing_made, limiting, behind_limits, jogging_at, coded_at, jog_1, behind_jog_1, jog_2, jog_along}
 
 -- ---- a reset in a move
 

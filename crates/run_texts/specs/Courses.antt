@@ -2,7 +2,7 @@
 use Rattle.std.specs.Prelude.{◌≡◌, ℕ, ◌+◌, Bool, true, false, ◌||◌, List, [], ◌∷◌, length}
 use Rattle.units.specs.declared.Steps3.{Steps3}
 use Rattle.run_rules.specs.Work.{Outcome}
-use Rattle.run_rules.specs.Outcomes.{Before, start, at_place, either}
+use Rattle.run_rules.specs.Outcomes.{start, at_place, either}
 pub use Rattle.run_rules.specs.Resets.{reset_state}
 use Rattle.run_texts.specs.Sent.{Sent, waiting_in, has_reset, behind_reset}
 use Rattle.run_texts.specs.Sent.Sent.{a_text, a_stop}

@@ -1,5 +1,5 @@
 -- Bytes and replies of a link, as plain lists, the latest first.
-use Rattle.std.specs.Prelude.{ℕ, ◌+◌, ◌≤◌, Bool, true, false, ◌||◌, ◌&&◌, cond, nat_le, List, [], ◌∷◌, length}
+use Rattle.std.specs.Prelude.{ℕ, ◌+◌, ◌≤◌, Bool, false, ◌||◌, ◌&&◌, cond, nat_le, List, [], ◌∷◌, length}
 use Rattle.std.specs.List.{AllZip}
 use Rattle.status_report.specs.declared.Reply.{Reply}
 use Rattle.status_report.specs.Answering.{lfs_in, is_answer, is_banner}

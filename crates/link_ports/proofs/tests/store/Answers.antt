@@ -1,6 +1,6 @@
-use Rattle.std.proofs.Common.{◌≡◌, ◌+◌, [], ◌∷◌, length, refl, rules, arith, length-append}
+use Rattle.std.proofs.Common.{◌≡◌, ◌+◌, [], ◌∷◌, refl, rules, arith, length-append}
 use Rattle.host_journal.specs.Steps.{stored_in}
-use Rattle.host_journal.specs.Steps.PortStep.{stored, dropped, marked}
+use Rattle.host_journal.specs.Steps.PortStep.{stored, dropped}
 use Rattle.link_ports.proofs.tests.store.Goals as goal
 
 pub store-requires : goal.store-requires

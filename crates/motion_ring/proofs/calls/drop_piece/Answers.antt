@@ -1,6 +1,5 @@
-use Rattle.std.proofs.Common.{◌≡◌, ◌∷◌, ◌++◌, length, ◌%◌, Some, None, [], sym, ap, ◌∙◌, rules, arith}
-use Rattle.atomic_table.specs.Table.{rest, turned}
-use Rattle.motion_ring.specs.Sides.{passed_in}
+use Rattle.std.proofs.Common.{◌≡◌, ◌∷◌, ◌++◌, ◌%◌, Some, [], sym, ap, ◌∙◌, rules, arith}
+use Rattle.atomic_table.specs.Table.{rest}
 use Rattle.motion_ring.proofs.Getting.{skips}
 use Rattle.motion_ring.proofs.calls.drop_piece.Goals as goal
 

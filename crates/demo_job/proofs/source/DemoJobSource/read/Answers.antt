@@ -2,7 +2,6 @@ use Rattle.std.proofs.Common.{◌≡◌, ◌∙◌, ◌+◌, ◌-◌, ◌≤◌,
 use Rattle.std.proofs.lemmas.List.{take_all}
 use Rattle.std.specs.Prelude.{slice_get}
 use Rattle.demo_job.specs.Jobs.{job_lines, ended}
-use Rattle.demo_job.specs.Giving.{line_length}
 use Rattle.demo_job.proofs.Giving.{gives_some, its_length, line_given, read_part}
 use Rattle.demo_job.proofs.source.DemoJobSource.read.Goals as goal
 

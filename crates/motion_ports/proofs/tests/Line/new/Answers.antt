@@ -1,4 +1,4 @@
-use Rattle.std.proofs.Common.{[], refl, rules}
+use Rattle.std.proofs.Common.{[], rules}
 use Rattle.motion_ring.specs.Ends.{ring_of_in}
 use Rattle.motion_ports.proofs.Fresh.{nothing_got}
 use Rattle.motion_ports.proofs.tests.Line.new.Goals as goal

@@ -1,4 +1,4 @@
-use Rattle.std.proofs.Common.{◌≡◌, ◌+◌, ◌-◌, ◌%◌, ◌++◌, ◌<◌, ℕ, None, [], ◌∷◌, length, refl, sym, ap, ◌∙◌, subst, rules, arith, length-append}
+use Rattle.std.proofs.Common.{◌≡◌, ◌+◌, ◌-◌, ◌%◌, ◌++◌, ◌<◌, ℕ, [], ◌∷◌, length, refl, sym, ap, ◌∙◌, subst, rules, arith, length-append}
 use Rattle.std.specs.declared.option.Option.{Option}
 use Rattle.units.specs.Truths.{one_if}
 use Rattle.atomic_table.specs.Table.{Me, step, Allows}

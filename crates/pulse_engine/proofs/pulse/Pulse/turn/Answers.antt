@@ -1,4 +1,4 @@
-use Rattle.std.proofs.Common.{◌≡◌, true, false, ◌∷◌, ◌∙◌, inl, inr, refl, sym, ap, subst}
+use Rattle.std.proofs.Common.{◌≡◌, true, false, ◌∷◌, ◌∙◌, inl, inr, refl, sym, subst}
 use Rattle.outside.specs.declared.Turn.TheVariants.{Did, Done}
 use Rattle.pulse_engine.specs.Logs.PieceEvent.{asked, ticked, halted}
 use Rattle.pulse_engine.specs.Turns.{PulseTurned}

@@ -1,4 +1,4 @@
-use Rattle.std.proofs.Common.{◌∷◌, ◌++◌, ◌∙◌, inl, inr, refl, sym, ap}
+use Rattle.std.proofs.Common.{◌∷◌, ◌++◌, ◌∙◌, inr, refl, sym, ap}
 use Rattle.std.specs.Option.{option_to_list}
 use Rattle.step_line.specs.declared.Record.TheVariants.{Event}
 use Rattle.pulse_engine.specs.Logs.RecordEvent.{put}
