@@ -77,7 +77,8 @@ impl PartJudge {
 
     /// Whether nothing is owed of what was asked for.
     pub fn is_idle(&self) -> bool
-        ensures { IsTrue result ↔ (owed_of self.now ≡ []) }
+        ensures owes { IsTrue result ↔ (owed_of self.now ≡ []) }
+        ensures none { IsTrue result → self.now.next ≡ None }
     {
         if self.has_rest() {
             return false;
@@ -194,12 +195,12 @@ impl PartJudge {
 
     /// The next record comes, where something is owed: whether it is the one that does. If so it is taken; else no
     /// record is judged any more.
-    pub fn take(&mut self, record: &Record) -> bool
+    pub fn take(&mut self, given: &Record) -> bool
         requires owes { owed_of self.old ≢ [] }
-        ensures yes { IsTrue result → Goes self.old record.now self.new }
-        ensures no { result ≡ false → Refuses self.old record.now }
+        ensures yes { IsTrue result → Goes self.old given.now self.new }
+        ensures no { result ≡ false → Refuses self.old given.now }
     {
-        match record {
+        match given {
             Record::Head(head) => self.take_head(head),
             Record::Event(bits) => self.take_event(bits),
             Record::Mark(mark) => self.take_mark(mark),

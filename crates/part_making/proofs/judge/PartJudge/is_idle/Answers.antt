@@ -4,11 +4,14 @@ use Rattle.part_making.specs.Judging.{rest_of, all_ticks, Known, MayBeNext}
 use Rattle.part_making.proofs.Going.{none_owed, next_tells, no_rest, not_true, none_waits, is_none}
 use Rattle.part_making.proofs.judge.PartJudge.is_idle.Goals as goal
 
-pub returns-then-has_rest : goal.returns-then-has_rest
-returns-then-has_rest c = (λ e. absurd cc, λ none. absurd (c.has_rest.ensures.0 c.if-has_rest.true (none_owed (rest_of c.args.self.now.latest) (all_ticks c.args.self.now.next) none).0))
+pub returns-then-has_rest-clause-owes : goal.returns-then-has_rest-clause-owes
+returns-then-has_rest-clause-owes c = (λ e. absurd cc, λ none. absurd (c.has_rest.ensures.0 c.if-has_rest.true (none_owed (rest_of c.args.self.now.latest) (all_ticks c.args.self.now.next) none).0))
 
-pub returns : goal.returns
-returns c =
+pub returns-clause-none : goal.returns-clause-none
+returns-clause-none c = λ e. sym (ap (λ (k : Known). k.next) c.self.view_is) ∙ none_waits c.self.inside.next c.is_none.result c.is_none.ensures e
+
+pub returns-clause-owes : goal.returns-clause-owes
+returns-clause-owes c =
     let next : c.self.inside.next ≡ c.args.self.now.next = ap (λ (k : Known). k.next) c.self.view_is in
     let rest = no_rest (rest_of c.args.self.now.latest) (λ some. not_true c.has_rest.result c.if-has_rest.false (c.has_rest.ensures.1 some)) in (
       λ e.
