@@ -1,6 +1,6 @@
 -- A line is begun.
 use Rattle.std.proofs.Common.{◌≡◌, ℕ, ◌+◌, Bool, true, false, cond, not, ◌&&◌, ◌||◌, List, [], ◌∷◌, ◌++◌, append-nil, append_assoc, refl, sym, ap, ◌∙◌, subst, arith}
-use Rattle.std.specs.List.{list_any}
+use Rattle.std.specs.List.{AllByRecursion, list_any}
 use Rattle.flight.specs.Places.{origin}
 use Rattle.status_report.specs.declared.Reply.{Reply}
 use Rattle.step_line.specs.Asking.{ticks_of_all, moves_of}
@@ -31,14 +31,15 @@ use Rattle.run_texts.specs.Sent.Sent.{a_text}
 use Rattle.run_texts.proofs.Making.{line_made}
 use Rattle.audit_course.specs.declared.Progress.{Progress}
 use Rattle.audit_course.specs.declared.judge.CourseJudge.{CourseJudge}
-use Rattle.audit_course.specs.Progressing.{has_ticks, has_halt, IsNew}
-use Rattle.audit_course.specs.SoFar.{GoesTo, HasJudged, OfLine, IsBare, EndsLate, MayBegin, Knows, FindsRight, FindsStill, TellsFound, left_to_tell}
+use Rattle.audit_course.specs.Progressing.{has_ticks, has_halt, ends_none, IsNew}
+use Rattle.audit_course.specs.SoFar.{GoesTo, HasJudged, OfLine, IsBare, EndsLate, MayBegin, Knows, FindsRight, FindsStill, TellsFound, left_to_tell, texts_among}
+use Rattle.audit_course.proofs.Counting.{texts_on}
 use Rattle.audit_course.proofs.Going.{by_line, by_broken}
 use Rattle.audit_course.proofs.Parting.{none_of}
 use Rattle.audit_course.proofs.Passing.{same_moved}
 use Rattle.audit_course.proofs.Ending.{moved_closed}
 use Rattle.audit_course.proofs.Forced.{comes_before, behind_made, forced_line, forced_broken}
-use Rattle.audit_course.proofs.Finding.{still_may, stands_becomes, busy_becomes, locked_becomes}
+use Rattle.audit_course.proofs.Finding.{still_may}
 use Rattle.audit_course.proofs.Outcomes.{SaysOf, becomes_says, locked_says}
 
 -- what a line is judged to become, from a point
@@ -96,6 +97,7 @@ line_of j k p hand kept o w was b judged work kind settles moved jog_moved answe
   moves = ap (λ (t : Bool). t || has_moves k.work.left) judged.is_new.moves ∙ ap has_moves left;
   ticks = ap (λ (t : Bool). t || has_ticks k.work.left) judged.is_new.asks ∙ ap has_ticks left;
   halts = ap (λ (t : Bool). t || has_halt k.work.left) judged.is_new.halts ∙ ap has_halt left ∙ judged.says.halts;
+  marks = subst (AllByRecursion (λ (x : Task). ends_none x ≡ true)) (sym left) judged.says.marks;
   moved = moved_line o.settles (accepted_code o.kind) (has_moves o.work) p.before.moved k.line.settles (accepted_code (kind_told k.line.accepted)) k.moved j.moved (sym settles) (ap accepted_code (sym kind)) was_moved.0 moved;
   jog_moved = moved_line o.settles (accepted_jog o.kind) (has_moves o.work) p.before.jog_moved k.line.settles (accepted_jog (kind_told k.line.accepted)) k.jog_moved j.jog_moved (sym settles) (ap accepted_jog (sym kind)) was_moved.1 jog_moved;
   jogged = ap (jogged_behind o.kind) was.jogged ∙ sym jogged;
@@ -163,7 +165,14 @@ line_begun j k kept o w first sent replies records s b judged kind settles jogge
   };
   alarm = λ e. any_last s.since o e;
   calm = λ e. none_last s.since o (s.calm (no_alarm j s.point s.hand s.line b)) e;
+  at_hand = λ e. absurd (let f : true ≡ false = sym (ap (λ (x : CourseJudge). x.in_hand) is) ∙ e in cc);
   events = ap (λ (x : CourseJudge). x.events) is ∙ s.events;
+  counted = ap (λ (x : CourseJudge). x.cuts) is ∙ s.counted;
+  numbered = (let one : texts_among (sent ++ a_text kept ∷ []) ≡ texts_among sent + 1 = texts_on sent (a_text kept ∷ []) in
+      let here : k.work.number ≡ j.work.number + 1 = ap (λ (i : Interpreting). i.number) work in
+      let before = s.numbered in
+      omega (arith, one, here, before));
+  whole = ap (λ (x : CourseJudge). x.place) is ∙ s.whole;
   back = λ n more told rest last g.
       let cuts : k.cuts ≡ j.cuts = ap (λ (x : CourseJudge). x.cuts) is in
       let tell : left_to_tell k ≡ tells o.work = ap (λ (u : Bool). cond u [] (tells k.work.left)) answered ∙ ap tells left in
@@ -218,6 +227,7 @@ broken_of j k p hand kept o w was b judged work kind settles moved jog_moved bro
   moves = ap (λ (t : Bool). t || has_moves k.work.left) judged.is_new.moves ∙ ap has_moves left;
   ticks = ap (λ (t : Bool). t || has_ticks k.work.left) judged.is_new.asks ∙ ap has_ticks left;
   halts = ap (λ (t : Bool). t || has_halt k.work.left) judged.is_new.halts ∙ ap has_halt left;
+  marks = subst (AllByRecursion (λ (x : Task). ends_none x ≡ true)) (sym left) judged.says.marks;
   moved = moved_line false true (has_moves o.work) p.before.moved k.line.settles (accepted_code (kind_told k.line.accepted)) k.moved j.moved (sym settles) (ap accepted_code (sym kind)) was_moved.0 moved;
   jog_moved = moved_line false false (has_moves o.work) p.before.jog_moved k.line.settles (accepted_jog (kind_told k.line.accepted)) k.jog_moved j.jog_moved (sym settles) (ap accepted_jog (sym kind)) was_moved.1 jog_moved;
   jogged = was.jogged ∙ sym jogged;
@@ -272,7 +282,14 @@ line_broken j k kept o w first sent replies records s b judged kind settles is =
   };
   alarm = s.alarm;
   calm = s.calm;
+  at_hand = λ e. absurd (let f : true ≡ false = sym (ap (λ (x : CourseJudge). x.in_hand) is) ∙ e in cc);
   events = ap (λ (x : CourseJudge). x.events) is ∙ s.events;
+  counted = ap (λ (x : CourseJudge). x.cuts) is ∙ s.counted;
+  numbered = (let one : texts_among (sent ++ a_text kept ∷ []) ≡ texts_among sent + 1 = texts_on sent (a_text kept ∷ []) in
+      let here : k.work.number ≡ j.work.number + 1 = ap (λ (i : Interpreting). i.number) work in
+      let before = s.numbered in
+      omega (arith, one, here, before));
+  whole = ap (λ (x : CourseJudge). x.place) is ∙ s.whole;
   back = λ n more told rest last g.
       let cuts : k.cuts ≡ j.cuts = ap (λ (x : CourseJudge). x.cuts) is in
       let tell : left_to_tell k ≡ [] = ap (λ (u : Bool). cond u [] (tells k.work.left)) broken in
@@ -378,21 +395,6 @@ line_tells j k machine w accepted settles kept b judged work unanswered first se
     )
 
 -- ---- how the machine is found
-
-pub locked_found : (j : CourseJudge) (kept : List ℕ) → j.locked ≡ true → FindsRight j Locked kept
-locked_found j kept e p knows o found = taken_true p.locked _ _ (knows.locked ∙ e) (becomes_locked p.before kept o found)
-
-free_found : (j : CourseJudge) (machine : Machine) (kept : List ℕ) → j.locked ≡ false → ((p : Point) → Knows j p → (o : Outcome) → Found machine p.before kept o → Becomes true p.before kept o) → FindsRight j machine kept
-free_found j machine kept e becomes p knows o found = taken_false p.locked _ _ (knows.locked ∙ e) (becomes p knows o found)
-
-pub stands_found : (j : CourseJudge) (kept : List ℕ) → j.locked ≡ false → FindsRight j Stands kept
-stands_found j kept e = free_found j Stands kept e (λ p knows o. stands_becomes p.before kept o)
-
-pub busy_found : (j : CourseJudge) (kept : List ℕ) → j.locked ≡ false → begins_with_dollar kept ≡ true → refused_in_run (kind_of kept) ≡ true → ((p : Point) → Knows j p → has_cause p.before (kind_of kept) ≡ true) → FindsRight j Runs kept
-busy_found j kept e dollar here cause = free_found j Runs kept e (λ p knows o. busy_becomes p.before kept o dollar here (cause p knows))
-
-pub jog_found : (j : CourseJudge) (kept : List ℕ) → j.locked ≡ false → begins_with_dollar kept ≡ false → j.jogged ≡ true → FindsRight j Jogs kept
-jog_found j kept e code jogged = free_found j Jogs kept e (λ p knows o. locked_becomes p.before kept o code (knows.jogged ∙ jogged))
 
 pub locked_still : (j : CourseJudge) (kept : List ℕ) → j.locked ≡ true → FindsStill j Locked kept
 locked_still j kept e p knows o found = taken_true p.locked _ _ (knows.locked ∙ e) (becomes_locked p.before kept o found)

@@ -37,11 +37,12 @@ use Rattle.run_texts.proofs.Events.{ticks_on}
 use Rattle.run_texts.proofs.Making.{begins, finishes}
 use Rattle.audit_course.specs.declared.Progress.{Progress}
 use Rattle.audit_course.specs.declared.judge.CourseJudge.{CourseJudge}
-use Rattle.audit_course.specs.Progressing.{has_ticks, has_halt, fresh}
+use Rattle.audit_course.specs.Progressing.{has_ticks, has_halt, ends_none, fresh}
 use Rattle.audit_course.specs.SoFar.{GoesTo, HasJudged, IsBare, IsOver, AddsReset, OfLine, MayLose, MayCut, MayReset, MayEnd, left_to_tell}
 use Rattle.audit_course.proofs.Going.{by_a_cut, by_a_reset, at_end}
 use Rattle.audit_course.proofs.Forced.{forced_cut, forced_reset, reset_begins}
-use Rattle.audit_course.proofs.Outcomes.{telling_halts}
+use Rattle.audit_course.proofs.Counting.{cuts_at_cut, cuts_at_reset, lines_sent, moved_on, texts_on}
+use Rattle.audit_course.proofs.Outcomes.{telling_halts, telling_marks}
 use Rattle.audit_course.proofs.Parting.{idle_owes}
 use Rattle.audit_course.proofs.Saying.{none_asked}
 
@@ -187,8 +188,12 @@ part_cut j k w state first sent replies records s may state_is same_left number_
   untouched = λ u e. record { making = nothing_yet; is = begins; out = refl; head = refl };
   loses = record { closed = []; others = []; split = refl; over = omega arith; jogs = λ e. tt; unsettled = λ e. tt };
   calm = λ e. refl;
+  at_hand = λ e. ap has_halt left;
   alarm = λ e. absurd (let f : true ≡ false = sym e ∙ calm_point j s.point s.hand s.line may.ends.done may.calm in cc);
   events = s.events ∙ sym (mark_events records (ending_record (by_cut k j.place)) refl);
+  counted = ap (λ (c : ℕ). c + 1) s.counted ∙ sym (cuts_at_cut records k);
+  numbered = number_is ∙ s.numbered;
+  whole = s.whole ∙ sym (moved_on origin records (ending_record (by_cut k j.place) ∷ []));
   back = λ n more told rest last g.
       let before = s.back (n + 1) more told (ending_record (by_cut k j.place) ∷ rest) last
       (by_a_cut s.point last s.since s.begun s.from n k j.place more told s.made rest is_cut recorded g) in
@@ -240,6 +245,7 @@ part_cut j k w state first sent replies records s may state_is same_left number_
     moves = ap (λ (ts : List Task). j.line.moves || has_moves ts) same_left ∙ s.line.moves;
     ticks = ap (λ (ts : List Task). j.line.asks || has_ticks ts) same_left ∙ s.line.ticks;
     halts = ap (λ (ts : List Task). j.line.halts || has_halt ts) same_left ∙ s.line.halts;
+    marks = subst (AllByRecursion (λ (t : Task). ends_none t ≡ true)) (sym same_left) s.line.marks;
     moved = s.line.moved;
     jog_moved = s.line.jog_moved;
     jogged = s.line.jogged;
@@ -262,14 +268,6 @@ resets_so (l ∷ ls) more = resets_so ls more
 behind_so : (lines : List (List ℕ)) (more : List Sent) → behind_reset (map a_text lines ++ a_stop ∷ more) ≡ more
 behind_so [] more = refl
 behind_so (l ∷ ls) more = behind_so ls more
-
-telling_moves : (rs : List Reply) → has_moves (telling rs) ≡ false
-telling_moves [] = refl
-telling_moves (r ∷ rs) = telling_moves rs
-
-telling_ticks : (rs : List Reply) → has_ticks (telling rs) ≡ false
-telling_ticks [] = refl
-telling_ticks (r ∷ rs) = telling_ticks rs
 
 telling_asks : (rs : List Reply) → asks (telling rs) ≡ []
 telling_asks [] = refl
@@ -309,6 +307,7 @@ part_reset j k dropped alarm locked lines w state first sent replies records s m
     moves = ap has_moves left;
     ticks = ap has_ticks left;
     halts = ap has_halt left ∙ telling_halts (greeting alarm locked);
+    marks = subst (AllByRecursion (λ (t : Task). ends_none t ≡ true)) (sym left) (telling_marks (greeting alarm locked));
     moved = refl;
     jog_moved = refl;
     jogged = refl;
@@ -335,7 +334,16 @@ part_reset j k dropped alarm locked lines w state first sent replies records s m
   loses = record { closed = []; others = []; split = refl; over = omega arith; jogs = λ e. tt; unsettled = λ e. tt };
   alarm = λ e. absurd cc;
   calm = λ e. refl;
+  at_hand = λ e. ap has_halt left ∙ telling_halts (greeting alarm locked);
   events = s.events ∙ sym (mark_events records (kinds.Mark (ResetMark k)) refl);
+  counted = s.counted ∙ sym (cuts_at_reset records k);
+  numbered = (let here : w.number ≡ k + dropped + 1 = ap (λ (i : Interpreting). i.number) is in
+      let both = texts_on sent (map a_text lines ++ a_stop ∷ []) in
+      let some = lines_sent lines in
+      let last = may.number in
+      let before = s.numbered in
+      omega (arith, here, both, some, last, before, count));
+  whole = s.whole ∙ sym (moved_on origin records (kinds.Mark (ResetMark k) ∷ []));
   back = λ n more told rest last g.
       let on : GoesTo (behind_the_reset (reset_here j k dropped alarm locked) s.point) [] [] j.place n (behind_reset (map a_text lines ++ a_stop ∷ more)) told rest last =
       subst (λ (ss : List Sent). GoesTo (behind_the_reset (reset_here j k dropped alarm locked) s.point) [] [] j.place n ss told rest last) (sym (behind_so lines more)) g in

@@ -3,6 +3,7 @@ pub mod Saying
 pub mod Outcomes
 pub mod Forced
 pub mod Finding
+pub mod Counting
 pub mod Passing
 pub mod Beginning
 pub mod Parting

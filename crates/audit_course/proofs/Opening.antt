@@ -1,5 +1,6 @@
 -- Before the first line.
 use Rattle.std.proofs.Common.{◌≡◌, ℕ, ◌+◌, pos, Bool, true, false, not, ◌&&◌, ◌||◌, List, [], ◌++◌, refl, sym, ap, ◌∙◌, subst, arith}
+use Rattle.std.specs.List.{AllByRecursion}
 use Rattle.flight.specs.Places.{origin}
 use Rattle.status_report.specs.declared.Reply.{Reply}
 use Rattle.step_line.specs.Asking.{ticks_of_all, moves_of}
@@ -16,7 +17,7 @@ use Rattle.run_texts.specs.Points.{opening}
 use Rattle.run_texts.proofs.Making.{begins}
 use Rattle.audit_course.specs.declared.Progress.{Progress}
 use Rattle.audit_course.specs.declared.judge.CourseJudge.{CourseJudge}
-use Rattle.audit_course.specs.Progressing.{has_ticks, has_halt, IsNew}
+use Rattle.audit_course.specs.Progressing.{has_ticks, has_halt, ends_none, IsNew}
 use Rattle.audit_course.specs.SoFar.{GoesTo, HasJudged}
 use Rattle.audit_course.proofs.Ending.{moved_before}
 
@@ -60,6 +61,7 @@ opens_so_far first w state part line state_is work number left part_is new settl
     moves = ap (λ (b : Bool). b || has_moves w.left) new.moves ∙ ap has_moves left;
     ticks = ap (λ (b : Bool). b || has_ticks w.left) new.asks ∙ ap has_ticks left;
     halts = ap (λ (b : Bool). b || has_halt w.left) new.halts ∙ ap has_halt left;
+    marks = subst (AllByRecursion (λ (t : Task). ends_none t ≡ true)) (sym left) tt;
     moved = sym (moved_before line.settles (accepted_code (kind_told line.accepted)) (has_moves []) false settles code);
     jog_moved = sym (moved_before line.settles (accepted_jog (kind_told line.accepted)) (has_moves []) false settles jog);
     jogged = refl;
@@ -83,7 +85,11 @@ opens_so_far first w state part line state_is work number left part_is new settl
   loses = record { closed = []; others = []; split = refl; over = omega arith; jogs = λ e. tt; unsettled = λ e. tt };
   alarm = λ e. absurd cc;
   calm = λ e. refl;
+  at_hand = λ e. ap has_halt left;
   events = refl;
+  counted = refl;
+  numbered = number;
+  whole = refl;
   back = λ n more told rest last g.
       subst (λ (rs : List Reply). GoesTo (opening first) [] [] origin (n + 0) more (rs ++ told) rest last) (sym (ap tells left))
       (subst (λ (c : ℕ). GoesTo (opening first) [] [] origin c more told rest last) (plus_none n) g);

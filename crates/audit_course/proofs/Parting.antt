@@ -7,7 +7,6 @@ use Rattle.flight.specs.Places.{moved_by, origin}
 use Rattle.legal_heads.specs.Whole.{events_among}
 use Rattle.status_report.specs.declared.Reply.{Reply}
 use Rattle.step_line.specs.Asking.{ticks_of_all, ticks_among}
-use Rattle.step_line.specs.Places.{stepped}
 use Rattle.step_line.specs.Records.{is_tick}
 use Rattle.legal_heads.specs.Whole.{is_event}
 use Rattle.step_line.specs.declared.Record.{Record}
@@ -23,20 +22,14 @@ use Rattle.run_texts.specs.Points.{Point, opening}
 use Rattle.run_texts.specs.Sent.{Sent}
 use Rattle.part_making.proofs.Ending.{entered}
 use Rattle.part_making.proofs.Refused.{made_on}
+use Rattle.audit_course.proofs.Counting.{cuts_behind, moved_on}
 use Rattle.audit_course.proofs.Forced.{behind_made}
 use Rattle.audit_course.specs.declared.Progress.{Progress}
 use Rattle.audit_course.specs.declared.judge.CourseJudge.{CourseJudge}
-use Rattle.audit_course.specs.Progressing.{has_ticks, has_halt, moved_now, fresh}
+use Rattle.audit_course.specs.Progressing.{has_ticks, has_halt, ends_none, moved_now, fresh}
 use Rattle.audit_course.specs.SoFar.{GoesTo, HasJudged, OfLine, IsNoLine, MayLose, IsIdle, left_to_tell}
 
 -- ---- a record
-
-moved_on : (place : Steps3) (rs qs : List Record) → moved_by place (rs ++ qs) ≡ moved_by (moved_by place rs) qs
-moved_on place [] qs = refl
-moved_on place (kinds.Event b ∷ rs) qs = moved_on (stepped place b) rs qs
-moved_on place (kinds.Mark m ∷ rs) qs = moved_on place rs qs
-moved_on place (kinds.Head h ∷ rs) qs = moved_on place rs qs
-moved_on place (kinds.End ∷ rs) qs = moved_on place rs qs
 
 more_ticks : (made : List Record) (r : Record) → length (ticks_among made) ≤ length (ticks_among (made ++ r ∷ []))
 more_ticks made r =
@@ -52,6 +45,7 @@ same_line j k p hand o work line moved jog_moved jogged unanswered in_hand = rec
   moves = ap (λ (l : Progress). l.moves || has_moves k.work.left) line ∙ ap (λ (i : Interpreting). j.line.moves || has_moves i.left) work ∙ o.moves;
   ticks = ap (λ (l : Progress). l.asks || has_ticks k.work.left) line ∙ ap (λ (i : Interpreting). j.line.asks || has_ticks i.left) work ∙ o.ticks;
   halts = ap (λ (l : Progress). l.halts || has_halt k.work.left) line ∙ ap (λ (i : Interpreting). j.line.halts || has_halt i.left) work ∙ o.halts;
+  marks = subst (λ (i : Interpreting). AllByRecursion (λ (t : Task). ends_none t ≡ true) i.left) (sym work) o.marks;
   moved = o.moved ∙ sym (ap (λ (l : Progress). not l.settles && (accepted_code (kind_told l.accepted) && has_moves o.work || k.moved)) line
       ∙ ap (λ (b : Bool). not j.line.settles && (accepted_code (kind_told j.line.accepted) && has_moves o.work || b)) moved);
   jog_moved = o.jog_moved ∙ sym (ap (λ (l : Progress). not l.settles && (accepted_jog (kind_told l.accepted) && has_moves o.work || k.jog_moved)) line
@@ -104,9 +98,13 @@ record_taken j r part place events first sent replies records s goes here count 
   };
   alarm = s.alarm;
   calm = s.calm;
+  at_hand = s.at_hand;
   events = (let before = s.events in
       let both : length (events_among (records ++ r ∷ [])) ≡ length (events_among records) + length (events_among (r ∷ [])) = ap length (filter-append is_event records (r ∷ [])) ∙ length-append (events_among records) (events_among (r ∷ [])) in
       omega (arith, before, both, count));
+  counted = s.counted ∙ sym (cuts_behind records r (goes_inside j.part part r goes));
+  numbered = s.numbered;
+  whole = here ∙ ap (λ (x : Steps3). moved_by x (r ∷ [])) s.whole ∙ sym (moved_on origin records (r ∷ []));
   back = λ n more told rest last g.
       subst (λ (rs : List Record). GoesTo (opening first) [] [] origin (n + j.cuts) (sent ++ more) (replies ++ (left_to_tell j ++ told)) rs last) (sym (append_assoc records (r ∷ []) rest))
       (s.back n more told (r ∷ rest) last (subst (λ (rs : List Record). GoesTo s.point s.since s.begun s.from n more told rs last) (append_assoc s.made (r ∷ []) rest) g));
@@ -159,6 +157,7 @@ line_closed j l moved jog_moved jogs unsettled first sent replies records s done
     moves = ap (λ (p : Progress). p.moves || has_moves j.work.left) new ∙ ap has_moves done;
     ticks = ap (λ (p : Progress). p.asks || has_ticks j.work.left) new ∙ ap has_ticks done;
     halts = ap (λ (p : Progress). p.halts || has_halt j.work.left) new ∙ s.line.halts;
+    marks = s.line.marks;
     moved = s.line.moved ∙ ap (λ (b : Bool). not j.line.settles && (accepted_code (kind_told j.line.accepted) && b || j.moved)) moves_done ∙ sym is_moved
         ∙ sym (ap (λ (p : Progress). not p.settles && (accepted_code (kind_told p.accepted) && has_moves [] || moved)) new);
     jog_moved = s.line.jog_moved ∙ ap (λ (b : Bool). not j.line.settles && (accepted_jog (kind_told j.line.accepted) && b || j.jog_moved)) moves_done ∙ sym is_jog
@@ -184,7 +183,11 @@ line_closed j l moved jog_moved jogs unsettled first sent replies records s done
   loses = record { closed = loses.closed; others = loses.others; split = loses.split; over = loses.over; jogs = loses.jogs; unsettled = loses.unsettled };
   alarm = s.alarm;
   calm = s.calm;
+  at_hand = λ e. ap has_halt done;
   events = s.events;
+  counted = s.counted;
+  numbered = s.numbered;
+  whole = s.whole;
   back = s.back;
   forth = λ n more told rest last may. s.forth n more told rest last (record { late = may.late; resets = may.resets });
 } where

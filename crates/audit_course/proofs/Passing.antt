@@ -26,11 +26,12 @@ use Rattle.part_making.specs.Judging.{Known, Traced, making, item_ticks, item_mo
 use Rattle.part_making.specs.declared.Item.{Item}
 use Rattle.part_making.proofs.Refused.{asked as asked_next}
 use Rattle.run_texts.specs.Making.{Making, IsMade}
+use Rattle.run_texts.specs.Parts.{is_ending}
 use Rattle.run_texts.specs.Points.{Point, opening}
 use Rattle.run_texts.specs.Sent.{Sent}
 use Rattle.audit_course.specs.declared.Progress.{Progress}
 use Rattle.audit_course.specs.declared.judge.CourseJudge.{CourseJudge}
-use Rattle.audit_course.specs.Progressing.{asks_ticks, has_ticks, is_halt, has_halt, Counts, IsUnseen, IsItemOf}
+use Rattle.audit_course.specs.Progressing.{asks_ticks, has_ticks, is_halt, has_halt, ends_none, Counts, IsUnseen, IsItemOf}
 use Rattle.audit_course.specs.SoFar.{GoesTo, HasJudged, OfLine, IsNoLine, IsBare, EndsLate, left_to_tell}
 use Rattle.audit_course.proofs.Saying.{or_on}
 
@@ -51,6 +52,7 @@ counted j k p hand t o next left counts moved jog_moved jogged unanswered in_han
   ticks = flag has_ticks (asks_ticks t) (λ ts. refl) k.line.asks j.line.asks counts.asks o.work o.ticks;
   halts = ap (λ (b : Bool). b || has_halt k.work.left) counts.halts ∙ ap (λ (ts : List Task). (j.line.halts || is_halt t) || has_halt ts) left
       ∙ or_on j.line.halts (is_halt t) (has_halt (drop 1 j.work.left)) ∙ ap (λ (ts : List Task). j.line.halts || has_halt ts) (sym next) ∙ o.halts;
+  marks = subst (AllByRecursion (λ (x : Task). ends_none x ≡ true)) (sym left) (subst (AllByRecursion (λ (x : Task). ends_none x ≡ true)) next o.marks).1;
   moved = o.moved ∙ sym (same_moved k.line.settles j.line.settles (accepted_code (kind_told k.line.accepted)) (accepted_code (kind_told j.line.accepted)) (has_moves o.work) k.moved j.moved counts.settles kind moved);
   jog_moved = o.jog_moved ∙ sym (same_moved k.line.settles j.line.settles (accepted_jog (kind_told k.line.accepted)) (accepted_jog (kind_told j.line.accepted)) (has_moves o.work) k.jog_moved j.jog_moved counts.settles jog jog_moved);
   jogged = o.jogged ∙ sym jogged;
@@ -112,7 +114,11 @@ task_done j t w l part lost first sent replies now records ticks moves s next is
   loses = record { closed = s.loses.closed; others = s.loses.others; split = s.loses.split; over = s.loses.over; jogs = s.loses.jogs; unsettled = s.loses.unsettled };
   alarm = s.alarm;
   calm = s.calm;
+  at_hand = λ e. ap has_halt left ∙ later (is_halt t) (has_halt (drop 1 j.work.left)) (sym (ap has_halt next) ∙ s.at_hand e);
   events = s.events;
+  counted = s.counted;
+  numbered = ap (λ (i : Interpreting). i.number) is ∙ s.numbered;
+  whole = s.whole;
   back = λ n more told rest last g.
       subst (λ (rs : List Reply). GoesTo (opening first) [] [] origin (n + j.cuts) (sent ++ more) rs (records ++ rest) last) (same told) (s.back n more told rest last g);
   forth = λ n more told rest last may g.
@@ -121,6 +127,10 @@ task_done j t w l part lost first sent replies now records ticks moves s next is
 } where
   left : w.left ≡ drop 1 j.work.left
   left = ap (λ (i : Interpreting). i.left) is
+
+  later : (a b : Bool) → (a || b) ≡ false → b ≡ false
+  later true b e = absurd cc
+  later false b e = e
 
   same : (told : List Reply) → replies ++ (left_to_tell j ++ told) ≡ (replies ++ now) ++ (cond j.unanswered [] (tells w.left) ++ told)
   same told =
@@ -154,9 +164,6 @@ none_cond false = refl
 quiet_told : (u : Bool) (t : Task) (ts : List Task) → cond u [] (told_by t) ≡ [] → cond u [] (tells (t ∷ ts)) ≡ cond u [] (tells ts)
 quiet_told true t ts e = refl
 quiet_told false t ts e = ap (λ (rs : List Reply). rs ++ tells ts) e
-
-asks_on : (t : Task) (ts : List Task) → asks (t ∷ ts) ≡ asked_by_task t ++ asks ts
-asks_on t ts = refl
 
 quiet_ticks : (t : Task) (ts : List Task) → ticks_of_all (asked_by_task t) ≡ [] → ticks_of_all (asks (t ∷ ts)) ≡ ticks_of_all (asks ts)
 quiet_ticks t ts e = flat_map-append ticks_of_one (asked_by_task t) (asks ts) ∙ ap (λ (rs : List Record). rs ++ ticks_of_all (asks ts)) e
@@ -200,6 +207,15 @@ item_asked j t item w l part first sent replies records s next of kept none part
     (λ e. (refl, refl))
     (subst (λ (m : Making). IsMade (s.since ++ s.begun) s.made m) same s.is_made) (ap (λ (k : Known). k.latest) part_is) (λ e. absurd (let f : false ≡ true = sym kept ∙ e in cc)))
 
+-- an item has ticks
+some_events : (m : PlannedMove) (n : ℕ) → n ≡ events_of m.mv → 0 < n → map kinds.Event (events_after m.mv 0 n) ≡ [] → ⊥
+some_events m zero is few e = absurd (omega (arith, few))
+some_events m (suc n) is few e = absurd cc
+
+pub item_asks : (t : Task) (item : Item) → IsItem item → IsItemOf t item → ticks_of_all (asked_by_task t) ≡ [] → ⊥
+item_asks t (items.Move m) is of e = some_events m (events_of m.mv) refl is.moves (sym of.ticks ∙ e)
+item_asks t (items.Mark m) is of e = absurd (let f = sym of.ticks ∙ e in cc)
+
 none_first : (xs ys : List Record) → xs ++ ys ≡ [] → xs ≡ []
 none_first [] ys e = refl
 none_first (x ∷ xs) ys e = absurd cc
@@ -214,15 +230,15 @@ lost_some j t first sent replies records s next some false lost none =
     some (none_first (ticks_of_all (asked_by_task t)) (ticks_of_all (asks (drop 1 j.work.left))) (sym ticks ∙ none))
 
 -- what a task asks for is not recorded before the part ends
-pub task_lost : (j : CourseJudge) (t : Task) (w : Interpreting) (l : Progress) (first : State) (sent : List Sent) (replies : List Reply) (records : List Record) → HasJudged j first sent replies records
-    → IsNextOf t j.work.left → told_by t ≡ [] → (ticks_of_all (asked_by_task t) ≡ [] → ⊥) → w ≡ record j.work { left = drop 1 j.work.left } → Counts j.line l t
+pub task_lost : (j : CourseJudge) (t : Task) (item : Item) (w : Interpreting) (l : Progress) (first : State) (sent : List Sent) (replies : List Reply) (records : List Record) → HasJudged j first sent replies records
+    → IsNextOf t j.work.left → IsItem item → IsItemOf t item → w ≡ record j.work { left = drop 1 j.work.left } → Counts j.line l t
     → HasJudged (record j { work = w; line = l; lost = true }) first sent replies records
-task_lost j t w l first sent replies records s next told some is counts =
+task_lost j t item w l first sent replies records s next valid of is counts =
     subst (λ (rs : List Reply). HasJudged (record j { work = w; line = l; lost = true }) first sent rs records) (append-nil replies)
     (task_done j t w l j.part true first sent replies [] records s.ticks s.moves s next is counts
-    (ap (λ (ts : List Task). cond j.unanswered [] (tells ts)) next ∙ ask_told j.unanswered t (drop 1 j.work.left) told)
+    (ap (λ (ts : List Task). cond j.unanswered [] (tells ts)) next ∙ ask_told j.unanswered t (drop 1 j.work.left) of.told)
     (λ e. absurd cc)
-    s.is_made refl (λ e. lost_some j t first sent replies records s next some j.lost refl))
+    s.is_made refl (λ e. lost_some j t first sent replies records s next (item_asks t item valid of) j.lost refl))
 
 -- ---- which tasks are so
 
@@ -246,25 +262,20 @@ move_item m t left is next = subst (λ (x : Task). IsItemOf x (items.Move m)) (s
 pub mark_item : (m : Mark) (t : Task) (left : List Task) → IsNextOf (ask (a_mark m)) left → IsNextOf t left → IsItemOf t (items.Mark m)
 mark_item m t left is next = subst (λ (x : Task). IsItemOf x (items.Mark m)) (same_task (ask (a_mark m)) t left is next) (record { ticks = refl; moves = refl; told = refl })
 
-pub mark_untold : (m : Mark) (left : List Task) → IsNextOf (ask (a_mark m)) left → (t : Task) → IsNextOf t left → told_by t ≡ []
-mark_untold m left is t next = subst (λ (x : Task). told_by x ≡ []) (same_task (ask (a_mark m)) t left is next) refl
-
-pub mark_asks : (m : Mark) (left : List Task) → IsNextOf (ask (a_mark m)) left → (t : Task) → IsNextOf t left → ticks_of_all (asked_by_task t) ≡ [] → ⊥
-mark_asks m left is t next = subst (λ (x : Task). ticks_of_all (asked_by_task x) ≡ [] → ⊥) (same_task (ask (a_mark m)) t left is next) (λ e. absurd cc)
-
--- an item has ticks
-some_events : (m : PlannedMove) (n : ℕ) → n ≡ events_of m.mv → 0 < n → map kinds.Event (events_after m.mv 0 n) ≡ [] → ⊥
-some_events m zero is few e = absurd (omega (arith, few))
-some_events m (suc n) is few e = absurd cc
-
-pub item_asks : (t : Task) (item : Item) → IsItem item → IsItemOf t item → ticks_of_all (asked_by_task t) ≡ [] → ⊥
-item_asks t (items.Move m) is of e = some_events m (events_of m.mv) refl is.moves (sym of.ticks ∙ e)
-item_asks t (items.Mark m) is of e = absurd (let f = sym of.ticks ∙ e in cc)
+-- a line asks for no mark that ends a part
+pub ends_no_part : {A : Type 0} (m : Mark) (left : List Task) → AllByRecursion (λ t. ends_none t ≡ true) left → IsNextOf (ask (a_mark m)) left → is_ending (kinds.Mark m) ≡ true → A
+ends_no_part m left none next ending =
+    let here : not (is_ending (kinds.Mark m)) ≡ true = (subst (AllByRecursion (λ (t : Task). ends_none t ≡ true)) next none).0 in
+    absurd (let f : false ≡ true = sym (ap not ending) ∙ here in cc)
 
 pub some_next : (left : List Task) → (left ≡ [] → ⊥) → (t : Task) × IsNextOf t left
 some_next [] some = absurd (some refl)
 some_next (t ∷ ts) some = (t, refl)
 
-pub not_waiting : (next : Option Item) (waits : Bool) → (IsTrue waits ↔ (next ≡ None → ⊥)) → waits ≡ false → next ≡ None
-not_waiting None waits tells e = refl
-not_waiting (Some item) waits tells e = absurd (let f : false ≡ true = subst IsTrue e (tells.1 (λ x. cc)) in cc)
+-- no task halts the machine where none is left that does
+pub halts_same : (before now : Progress) (t : Task) (left : List Task) → IsNextOf t left → Counts before now t → has_halt left ≡ false → now.halts ≡ before.halts
+halts_same before now t left next counts none = counts.halts ∙ by before.halts (is_halt t) (has_halt (drop 1 left)) (sym (ap has_halt next) ∙ none) where
+  by : (a b c : Bool) → (b || c) ≡ false → (a || b) ≡ a
+  by true b c e = refl
+  by false true c e = absurd cc
+  by false false c e = refl

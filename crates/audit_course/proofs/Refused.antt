@@ -30,7 +30,7 @@ use Rattle.audit_course.specs.declared.judge.CourseJudge.{CourseJudge}
 use Rattle.audit_course.specs.SoFar.{GoesTo, HasJudged, IsIdle, MayFollow, RefusesLine, left_to_tell}
 use Rattle.audit_course.proofs.Ending.{calm_point, point_halts, to_tell}
 use Rattle.audit_course.proofs.Parting.{none_of}
-use Rattle.audit_course.proofs.Forced.{behind_made, broken_too_late, cut_is, first_ending, line_too_late}
+use Rattle.audit_course.proofs.Forced.{broken_too_late, cut_is, first_ending, line_too_late}
 use Rattle.audit_course.proofs.FirstPart.{IsMadeOf, ending_ends, first_part, front_made, holds_front, made_behind}
 
 -- from where it stands
@@ -48,11 +48,11 @@ never_goes j r first sent replies records s refuses inside n more told rest last
     never_made (s.since ++ s.begun) b.more s.made j.part s.ticks s.moves r b.is.0 s.is_made refuses b.is.1
 
 pub never_follows : (j : CourseJudge) (r : Record) (first : State) (sent : List Sent) (replies : List Reply) (records : List Record) → HasJudged j first sent replies records
-    → Refuses j.part r → is_ending r ≡ false → (n : ℕ) (more : List Sent) (told : List Reply) (rest : List Record) (last : Point) → MayFollow j told rest
+    → Refuses j.part r → is_ending r ≡ false → (n : ℕ) (more : List Sent) (told : List Reply) (rest : List Record) (last : Point) → MayFollow j told (r ∷ rest)
     → GoesTo (opening first) [] [] origin (n + j.cuts) (sent ++ more) (replies ++ (left_to_tell j ++ told)) (records ++ r ∷ rest) last → ⊥
 never_follows j r first sent replies records s refuses inside n more told rest last may g =
     never_goes j r first sent replies records s refuses inside n more told rest last
-    (s.forth n more told (r ∷ rest) last (record { late = behind_made j.work.number (r ∷ []) rest (inside, tt) may.late; resets = may.resets }) g)
+    (s.forth n more told (r ∷ rest) last may g)
 
 -- ---- the end
 
@@ -153,9 +153,8 @@ never_cut_by j k first sent replies records s more rest last (a_cut i at ∷ ps)
 
 pub never_cut : (j : CourseJudge) (k : ℕ) (first : State) (sent : List Sent) (replies : List Reply) (records : List Record) → HasJudged j first sent replies records
     → j.work.left ≡ [] → j.unanswered ≡ false → j.work.number ≡ k + 1 → (j.line.halts ≡ false → j.has_line ≡ true → coming_of j.part.latest ≡ [] → MayStop (head_of j.part.latest) → ⊥)
-    → (n : ℕ) (more : List Sent) (told : List Reply) (rest : List Record) (last : Point) → MayFollow j told rest
+    → (n : ℕ) (more : List Sent) (told : List Reply) (rest : List Record) (last : Point) → MayFollow j told (kinds.Mark (marks.Cut k) ∷ rest)
     → GoesTo (opening first) [] [] origin (n + j.cuts) (sent ++ more) (replies ++ (left_to_tell j ++ told)) (records ++ kinds.Mark (marks.Cut k) ∷ rest) last → ⊥
 never_cut j k first sent replies records s done answered number not_so n more told rest last may g =
-    let few : j.work.number ≤ k + 1 = omega (arith, number) in
-    let here = s.forth n more told (kinds.Mark (marks.Cut k) ∷ rest) last (record { late = few; resets = may.resets }) g in
+    let here = s.forth n more told (kinds.Mark (marks.Cut k) ∷ rest) last may g in
     never_cut_by j k first sent replies records s more rest last here.course done answered number not_so here.follows here.recorded

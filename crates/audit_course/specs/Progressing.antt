@@ -2,10 +2,12 @@
 use Rattle.std.specs.Prelude.{◌≡◌, Bool, true, false, cond, not, ◌&&◌, ◌||◌, List, [], ◌∷◌}
 use Rattle.step_line.specs.Asking.{ticks_of_all, moves_of}
 use Rattle.step_line.specs.Asking.Asked.{a_move, a_mark}
+use Rattle.step_line.specs.declared.Record.TheVariants as kinds
 use Rattle.run_rules.specs.Work.{Task, asks_move, told_by, asked_by_task}
 use Rattle.run_rules.specs.Work.Task.{ask, halt}
 use Rattle.line_interpreter.specs.declared.desk.Accepted.TheVariants.{Neither}
 use Rattle.part_making.specs.Judging.{item_ticks, item_moves}
+use Rattle.run_texts.specs.Parts.{is_ending}
 use Rattle.part_making.specs.declared.Item.{Item}
 use Rattle.audit_course.specs.declared.Progress.{Progress}
 
@@ -26,6 +28,11 @@ is_halt _ = false
 abbrev pub has_halt : List Task → Bool
 has_halt [] = false
 has_halt (t ∷ ts) = is_halt t || has_halt ts
+
+-- a task asks for no mark that ends a part
+abbrev pub ends_none : Task → Bool
+ends_none (ask (a_mark m)) = not (is_ending (kinds.Mark m))
+ends_none _ = true
 
 -- a task more of the line at hand is done
 pub record Counts (before now : Progress) (t : Task) : Type 0 where

@@ -1,6 +1,6 @@
 -- A course so far, as its judge knows it.
 use Rattle.std.specs.Prelude.{◌≡◌, ◌≤◌, ℕ, ◌+◌, Bool, true, false, cond, not, nat_eq, ◌&&◌, ◌||◌, List, [], ◌∷◌, ◌++◌, length, map}
-use Rattle.std.specs.List.{AllByRecursion, list_any}
+use Rattle.std.specs.List.{AllByRecursion, list_any, count_by}
 use Rattle.std.specs.declared.option.Option.{Option}
 use Rattle.units.specs.declared.Steps3.{Steps3}
 use Rattle.flight.specs.Places.{moved_by, origin}
@@ -33,7 +33,7 @@ use Rattle.audit_course.specs.declared.MotionError.{MotionError}
 use Rattle.audit_course.specs.declared.MotionError.TheVariants as errors
 use Rattle.audit_course.specs.declared.Progress.{Progress}
 use Rattle.audit_course.specs.declared.judge.CourseJudge.{CourseJudge}
-use Rattle.audit_course.specs.Progressing.{has_ticks, has_halt}
+use Rattle.audit_course.specs.Progressing.{has_ticks, has_halt, ends_none}
 
 -- What is left of texts that fit goes on to this point, from another one on: `GoesOn` of `run_texts`, with the point told.
 pub record GoesTo (p : Point) (since begun : List Outcome) (place : Steps3) (cuts : ℕ) (sent : List Sent) (replies : List Reply) (records : List Record) (last : Point) : Type 0 where
@@ -42,6 +42,20 @@ pub record GoesTo (p : Point) (since begun : List Outcome) (place : Steps3) (cut
   pub told : replies ≡ told_in course
   pub recorded : AreRecorded place (behind_lines since begun (parts_of course)) records
   pub few : cuts_in course ≤ cuts
+
+-- how many cuts are among records
+abbrev pub is_cut_mark : Record → Bool
+is_cut_mark (kinds.Mark (CutMark k)) = true
+is_cut_mark _ = false
+
+abbrev pub cuts_among : List Record → ℕ
+cuts_among records = count_by is_cut_mark records
+
+-- how many lines are among what is sent
+abbrev pub texts_among : List Sent → ℕ
+texts_among [] = 0
+texts_among (a_text line ∷ more) = texts_among more + 1
+texts_among (a_stop ∷ more) = texts_among more
 
 -- what is still told of the line at hand; of one that is not answered nothing
 abbrev pub left_to_tell : CourseJudge → List Reply
@@ -64,6 +78,7 @@ pub record OfLine (j : CourseJudge) (p : Point) (hand : List Outcome) : Type 0 w
   pub moves : (j.line.moves || has_moves j.work.left) ≡ has_moves work
   pub ticks : (j.line.asks || has_ticks j.work.left) ≡ has_ticks work
   pub halts : (j.line.halts || has_halt j.work.left) ≡ limit
+  pub marks : AllByRecursion (λ t. ends_none t ≡ true) j.work.left
   pub moved : p.before.moved ≡ (not j.line.settles && (accepted_code (kind_told j.line.accepted) && has_moves work || j.moved))
   pub jog_moved : p.before.jog_moved ≡ (not j.line.settles && (accepted_jog (kind_told j.line.accepted) && has_moves work || j.jog_moved))
   pub jogged : p.before.jogged ≡ j.jogged
@@ -146,7 +161,11 @@ pub record HasJudged (j : CourseJudge) (first : State) (sent : List Sent) (repli
   pub loses : MayLose j since hand made
   pub alarm : point.before.alarmed ≡ true → list_any raises_alarm since ≡ true
   pub calm : point.before.alarmed ≡ false → list_any raises_alarm since ≡ false
+  pub at_hand : j.in_hand ≡ false → has_halt j.work.left ≡ false
   pub events : j.events ≡ length (events_among records)
+  pub counted : j.cuts ≡ cuts_among records
+  pub numbered : j.work.number ≡ texts_among sent + 1
+  pub whole : j.place ≡ moved_by origin records
   pub back : (n : ℕ) (more : List Sent) (told : List Reply) (rest : List Record) (last : Point) → GoesTo point since begun from n more told (made ++ rest) last →
       GoesTo (opening first) [] [] origin (n + j.cuts) (sent ++ more) (replies ++ (left_to_tell j ++ told)) (records ++ rest) last
   pub forth : (n : ℕ) (more : List Sent) (told : List Reply) (rest : List Record) (last : Point) → MayFollow j told rest →
@@ -187,7 +206,7 @@ AddsReset j k number dropped =
 abbrev pub RefusesRecord : CourseJudge → Record → Type 0
 RefusesRecord j r =
     (first : State) (sent : List Sent) (replies : List Reply) (records : List Record) → HasJudged j first sent replies records → (n : ℕ) (more : List Sent) (told : List Reply) (rest : List Record) (last : Point)
-    → MayFollow j told rest → GoesTo (opening first) [] [] origin (n + j.cuts) (sent ++ more) (replies ++ (left_to_tell j ++ told)) (records ++ r ∷ rest) last → ⊥
+    → MayFollow j told (r ∷ rest) → GoesTo (opening first) [] [] origin (n + j.cuts) (sent ++ more) (replies ++ (left_to_tell j ++ told)) (records ++ r ∷ rest) last → ⊥
 
 -- Nor do texts with this reset next behind lines that are not begun, and its mark, told with or without its alarm.
 abbrev pub RefusesReset : CourseJudge → ℕ → ℕ → Bool → Type 0
@@ -256,6 +275,19 @@ pub record MayBegin (j : CourseJudge) : Type 0 where
   pub answered : j.unanswered ≡ false
   pub closed : j.in_hand ≡ false
   pub calm : j.line.halts ≡ false
+
+-- It has a line at hand, or none, as before: none was begun or ended, none has lost anything or raised an alarm more.
+pub record SameLine (j k : CourseJudge) : Type 0 where
+  pub unanswered : k.unanswered ≡ j.unanswered
+  pub in_hand : k.in_hand ≡ j.in_hand
+  pub lost : k.lost ≡ j.lost
+  pub halts : k.line.halts ≡ j.line.halts
+
+-- a part begins, and no line is at hand that has raised an alarm
+pub record BeginsPart (j : CourseJudge) : Type 0 where
+  pub closed : j.in_hand ≡ false
+  pub kept : j.lost ≡ false
+  pub calm : (not j.unanswered && j.line.halts) ≡ false
 
 -- nothing is owed of the part
 pub record IsIdle (j : CourseJudge) : Type 0 where

@@ -1,12 +1,13 @@
 //! Cuts, resets and the end.
 
-ghost use Rattle.std.specs.Prelude.{◌≡◌, ◌<◌, ◌+◌, ◌^◌, ◌↔◌, ◌&&◌, ◌||◌, [], not, true, false, IsTrue};
+ghost use Rattle.std.specs.Prelude.{◌≡◌, ◌<◌, ◌≤◌, ◌+◌, ◌^◌, ◌↔◌, ◌&&◌, ◌||◌, [], length, not, true, false, IsTrue};
 ghost use Rattle.step_line.specs.declared.Mark.TheVariants.{Cut as CutMark};
 ghost use Rattle.step_line.specs.declared.Record.TheVariants as kinds;
 ghost use Rattle.units.specs.Lengths.{IsPlace, IsCoordinate};
 ghost use Rattle.legal_heads.specs.Speeds.{MayStop};
 ghost use Rattle.part_making.specs.Judging.{coming_of, head_of};
-ghost use Rattle.audit_course.specs.SoFar.{AddsRecord, AddsReset, EndsSoFar, RefusesEnd, RefusesRecord, RefusesReset, IsClosed, IsIdle, MayCut, MayReset, MayEnd};
+ghost use Rattle.line_interpreter.specs.Lefts.{greeting};
+ghost use Rattle.audit_course.specs.SoFar.{left_to_tell, BeginsPart, AddsRecord, AddsReset, EndsSoFar, RefusesEnd, RefusesRecord, RefusesReset, IsClosed, IsIdle, MayCut, MayReset, MayEnd};
 
 use crate::{CourseJudge, Progress};
 use part_making::PartJudge;
@@ -89,7 +90,10 @@ impl CourseJudge {
         requires may { MayCut self.old k }
         requires place { IsPlace self.old.place }
         requires few { self.old.cuts + 1 < 2 ^ 32 }
-        ensures { AddsRecord self.old self.new (kinds.Mark (CutMark k)) }
+        ensures adds { AddsRecord self.old self.new (kinds.Mark (CutMark k)) }
+        ensures work { self.new.work.left ≡ self.old.work.left }
+        ensures unanswered { self.new.unanswered ≡ self.old.unanswered }
+        ensures begins { BeginsPart self.new }
     {
         self.work.rebase(self.place);
         self.state = self.state.rebased(self.place);
@@ -107,6 +111,10 @@ impl CourseJudge {
     pub fn cut(&mut self, k: u32) -> bool
         ensures no { result ≡ false → self.old.work.left ≡ [] → self.old.unanswered ≡ false → self.old.work.number ≡ k + 1 → IsPlace self.old.place → self.old.cuts + 1 < 2 ^ 32 → self.new.jogs ≡ true → RefusesRecord self.old (kinds.Mark (CutMark k)) }
         ensures yes { IsTrue result → AddsRecord self.old self.new (kinds.Mark (CutMark k)) }
+        ensures work { self.new.work.left ≡ self.old.work.left }
+        ensures done { IsTrue result → self.new.work.left ≡ [] }
+        ensures unanswered { IsTrue result → self.new.unanswered ≡ self.old.unanswered }
+        ensures begins { IsTrue result → BeginsPart self.new }
     {
         if !self.work.is_done() {
             return false;
@@ -157,7 +165,12 @@ impl CourseJudge {
         requires may { MayReset self.old k alarm }
         requires place { IsPlace self.old.place }
         requires few { self.old.work.number + dropped < 2 ^ 32 }
-        ensures { AddsReset self.old self.new k dropped }
+        ensures adds { AddsReset self.old self.new k dropped }
+        ensures greets { left_to_tell self.new ≡ greeting alarm (alarm || self.old.locked) }
+        ensures short { length self.new.work.left ≤ 3 }
+        ensures answered { self.new.unanswered ≡ false }
+        ensures calm { self.new.line.halts ≡ false }
+        ensures begins { BeginsPart self.new }
     {
         let locked = locks(alarm, self.locked);
         let state = self.state.anew(self.place);
@@ -183,6 +196,11 @@ impl CourseJudge {
     /// its range, and the lines can be counted.
     pub fn reset(&mut self, k: u32, dropped: u32, alarm: bool) -> bool
         ensures yes { IsTrue result → AddsReset self.old self.new k dropped }
+        ensures greets { IsTrue result → left_to_tell self.new ≡ greeting alarm (alarm || self.old.locked) }
+        ensures short { IsTrue result → length self.new.work.left ≤ 3 }
+        ensures answered { IsTrue result → self.new.unanswered ≡ false }
+        ensures calm { IsTrue result → self.new.line.halts ≡ false }
+        ensures begins { IsTrue result → BeginsPart self.new }
         ensures no { result ≡ false → self.old.work.left ≡ [] → self.old.work.number ≡ k + 1 → IsPlace self.old.place → self.old.work.number + dropped < 2 ^ 32 → self.new.unsettled ≡ true → RefusesReset self.old k dropped alarm }
     {
         if !self.work.is_done() {
@@ -240,6 +258,10 @@ impl CourseJudge {
     /// end here.
     pub fn end(&mut self) -> bool
         ensures yes { IsTrue result → EndsSoFar self.old self.new }
+        ensures number { self.new.work.number ≡ self.old.work.number }
+        ensures cuts { self.new.cuts ≡ self.old.cuts }
+        ensures unanswered { self.new.unanswered ≡ self.old.unanswered }
+        ensures halts { self.new.line.halts ≡ self.old.line.halts }
         ensures no { result ≡ false → self.old.work.left ≡ [] → self.old.unanswered ≡ false → self.old.line.halts ≡ false → RefusesEnd self.old }
     {
         if !self.work.is_done() {

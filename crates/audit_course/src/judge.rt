@@ -1,6 +1,6 @@
 //! The judge of a course, and the tasks of the line at hand.
 
-ghost use Rattle.std.specs.Prelude.{◌≡◌, ◌≢◌, [], true, false, not, List};
+ghost use Rattle.std.specs.Prelude.{◌≡◌, ◌≢◌, ◌∷◌, [], true, false, not, List, drop};
 ghost use Rattle.status_report.specs.declared.Reply.{Reply as AnyReply};
 ghost use Rattle.status_report.specs.Answering.{is_report};
 ghost use Rattle.status_report.specs.Replies.{IsReply};
@@ -13,7 +13,7 @@ ghost use Rattle.run_rules.specs.Work.{Task};
 ghost use Rattle.run_rules.specs.Work.Task.{ask, tell, halt};
 ghost use Rattle.line_interpreter.specs.Lefts.{IsNextOf, IsTodo};
 ghost use Rattle.audit_course.specs.Progressing.{Counts, IsNew};
-ghost use Rattle.audit_course.specs.SoFar.{HasJudged, AddsReply};
+ghost use Rattle.audit_course.specs.SoFar.{HasJudged, AddsReply, MayBegin, SameLine, left_to_tell};
 
 use crate::Progress;
 use crate::valid::ValidState;
@@ -129,7 +129,9 @@ pub(crate) fn counted(line: Progress, todo: Todo) -> Progress
 impl CourseJudge {
     /// The banner was told, and nothing else.
     pub fn new() -> CourseJudge
-        ensures { (first : AnyState) × IsOpening first × HasJudged result first [] [] [] }
+        ensures opens { (first : AnyState) × IsOpening first × HasJudged result first [] [] [] }
+        ensures begins { MayBegin result }
+        ensures kept { result.lost ≡ false }
     {
         let mut work = Interpreter::new();
         work.done();
@@ -182,7 +184,10 @@ impl CourseJudge {
     pub fn told(&mut self)
         requires some { (r : AnyReply) × IsNextOf (tell r) self.old.work.left }
         requires answered { self.old.unanswered ≡ false }
-        ensures { (r : AnyReply) → IsNextOf (tell r) self.old.work.left → AddsReply self.old self.new r }
+        ensures adds { (r : AnyReply) → IsNextOf (tell r) self.old.work.left → AddsReply self.old self.new r }
+        ensures left { (r : AnyReply) → IsNextOf (tell r) self.old.work.left → left_to_tell self.old ≡ r ∷ left_to_tell self.new }
+        ensures work { self.new.work.left ≡ drop 1 self.old.work.left }
+        ensures line { SameLine self.old self.new }
     {
         self.work.done();
     }

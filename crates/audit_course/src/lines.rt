@@ -112,6 +112,7 @@ impl CourseJudge {
         ensures place { self.new.place ≡ self.old.place }
         ensures cuts { self.new.cuts ≡ self.old.cuts }
         ensures lost { self.new.lost ≡ self.old.lost }
+        ensures locked { self.new.locked ≡ self.old.locked }
         ensures unsettled { self.new.unsettled ≡ false → IsIdle self.old → ⊥ }
         ensures halts { self.new.line.halts ≡ self.old.line.halts }
     {
@@ -147,6 +148,9 @@ impl CourseJudge {
         requires found { (kept : List ℕ) → IsKept line.now kept → FindsRight self.old machine kept }
         ensures adds { (kept : List ℕ) → IsKept line.now kept → AddsSent self.old self.new (a_text kept ∷ []) }
         ensures tells { (kept : List ℕ) → IsKept line.now kept → TellsFound self.old self.new machine kept }
+        ensures unanswered { self.new.unanswered ≡ self.old.unanswered }
+        ensures in_hand { self.new.in_hand ≡ true }
+        ensures lost { self.new.lost ≡ self.old.lost }
     {
         let unlocked = unlocks(line);
         let judged = self.work.judge_settling(line, machine);
@@ -166,6 +170,9 @@ impl CourseJudge {
         ensures no { result ≡ false → self.old.work.left ≡ [] → self.old.work.number + 1 < 2 ^ 32 → RefusesLine self.old }
         ensures yes { IsTrue result → (kept : List ℕ) → IsKept line.now kept → AddsSent self.old self.new (a_text kept ∷ []) }
         ensures alone { IsTrue result → (kept : List ℕ) → IsKept line.now kept → TellsAlone self.old self.new error kept }
+        ensures unanswered { IsTrue result → self.new.unanswered ≡ false }
+        ensures in_hand { IsTrue result → self.new.in_hand ≡ true }
+        ensures lost { IsTrue result → self.new.lost ≡ self.old.lost }
     {
         if !self.may_begin() {
             return false;
@@ -181,7 +188,9 @@ impl CourseJudge {
         requires may { MayBegin self.old }
         requires few { self.old.work.number + 1 < 2 ^ 32 }
         requires found { (kept : List ℕ) → IsKept line.now kept → FindsStill self.old machine kept }
-        ensures { (kept : List ℕ) → IsKept line.now kept → AddsSent self.old self.new (a_text kept ∷ []) }
+        ensures adds { (kept : List ℕ) → IsKept line.now kept → AddsSent self.old self.new (a_text kept ∷ []) }
+        ensures unanswered { self.new.unanswered ≡ true }
+        ensures lost { self.new.lost ≡ self.old.lost }
     {
         let _ = self.work.judge(line, machine);
         self.has_line = true;
@@ -198,6 +207,8 @@ impl CourseJudge {
     pub fn begin_unanswered(&mut self, line: &KeptLine) -> bool
         ensures no { result ≡ false → self.old.work.left ≡ [] → self.old.work.number + 1 < 2 ^ 32 → RefusesLine self.old }
         ensures yes { IsTrue result → (kept : List ℕ) → IsKept line.now kept → AddsSent self.old self.new (a_text kept ∷ []) }
+        ensures unanswered { IsTrue result → self.new.unanswered ≡ true }
+        ensures lost { IsTrue result → self.new.lost ≡ self.old.lost }
     {
         if !self.may_begin() {
             return false;

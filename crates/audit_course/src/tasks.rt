@@ -1,10 +1,9 @@
 //! The tasks of the line at hand that tell nothing, and the records that come for them.
 
-ghost use Rattle.std.specs.Prelude.{◌≡◌, ◌≢◌, ◌↔◌, ◌+◌, ◌+ℤ◌, ◌≤◌, ◌<◌, ◌^◌, ◌∷◌, [], true, false, None, IsTrue, IfSome, length};
+ghost use Rattle.std.specs.Prelude.{◌≡◌, ◌≢◌, ◌↔◌, ◌+◌, ◌+ℤ◌, ◌≤◌, ◌<◌, ◌^◌, ◌∷◌, [], true, false, None, IsTrue, IfSome, length, drop};
 ghost use Rattle.status_report.specs.declared.Reply.{Reply as AnyReply};
-ghost use Rattle.run_rules.specs.Work.{Task, told_by, asked_by_task};
-ghost use Rattle.step_line.specs.Asking.{ticks_of_all};
-ghost use Rattle.run_rules.specs.Work.Task.{ask, tell};
+ghost use Rattle.run_rules.specs.Work.{Task};
+ghost use Rattle.run_rules.specs.Work.Task.{tell};
 ghost use Rattle.flight.specs.Places.{moved_by};
 ghost use Rattle.legal_heads.specs.Whole.{events_among};
 ghost use Rattle.line_interpreter.specs.Lefts.{IsNextOf, IsTodo};
@@ -13,8 +12,8 @@ ghost use Rattle.units.specs.Lengths.{IsCoordinate, IsPlace};
 ghost use Rattle.step_line.specs.declared.Record.TheVariants as kinds;
 ghost use Rattle.step_line.specs.Places.{stepped};
 ghost use Rattle.run_texts.specs.Parts.{is_ending};
-ghost use Rattle.audit_course.specs.Progressing.{IsUnseen, IsItemOf};
-ghost use Rattle.audit_course.specs.SoFar.{StaysSoFar, AddsRecord, RefusesRecord};
+ghost use Rattle.audit_course.specs.Progressing.{IsUnseen, IsItemOf, has_halt};
+ghost use Rattle.audit_course.specs.SoFar.{StaysSoFar, SameLine, AddsRecord, RefusesRecord, left_to_tell};
 
 use crate::CourseJudge;
 use crate::judge::counted;
@@ -50,22 +49,22 @@ fn stepped(place: &Steps3, bits: &Bits) -> Option<Steps3>
 }
 
 /// Where a record leaves the machine.
-fn place_behind(place: &Steps3, record: &Record) -> Option<Steps3>
-    ensures is { IfSome result (λ p. p ≡ moved_by place.now (record.now ∷ [])) }
+fn place_behind(place: &Steps3, given: &Record) -> Option<Steps3>
+    ensures is { IfSome result (λ p. p ≡ moved_by place.now (given.now ∷ [])) }
     ensures some { IsPlace place.now → result ≢ None }
 {
-    match record {
+    match given {
         Record::Event(bits) => stepped(place, bits),
         _ => Some(*place),
     }
 }
 
 /// How many events a record is.
-fn event_count(record: &Record) -> u64
-    ensures is { result ≡ length (events_among (record.now ∷ [])) }
+fn event_count(given: &Record) -> u64
+    ensures is { result ≡ length (events_among (given.now ∷ [])) }
     ensures few { result ≤ 1 }
 {
-    match record {
+    match given {
         Record::Event(_) => 1,
         _ => 0,
     }
@@ -77,39 +76,37 @@ impl CourseJudge {
         requires todo { IsTodo todo self.old.work.left }
         requires some { self.old.work.left ≢ [] }
         requires quiet { (t : Task) → IsNextOf t self.old.work.left → IsUnseen self.old.unanswered t }
-        ensures { StaysSoFar self.old self.new }
+        ensures stays { StaysSoFar self.old self.new }
+        ensures lost { self.new.lost ≡ self.old.lost }
+        ensures work { self.new.work.left ≡ drop 1 self.old.work.left }
+        ensures unanswered { self.new.unanswered ≡ self.old.unanswered }
+        ensures in_hand { self.new.in_hand ≡ self.old.in_hand }
+        ensures halts { has_halt self.old.work.left ≡ false → self.new.line.halts ≡ self.old.line.halts }
     {
         self.line = counted(self.line, todo);
         self.work.done();
     }
 
-    /// One task less: what it asks for is not recorded before the part ends.
-    fn lose(&mut self, todo: Todo)
-        requires todo { IsTodo todo self.old.work.left }
-        requires some { self.old.work.left ≢ [] }
-        requires untold { (t : Task) → IsNextOf t self.old.work.left → told_by t ≡ [] }
-        requires asks { (t : Task) → IsNextOf t self.old.work.left → ticks_of_all (asked_by_task t) ≢ [] }
-        ensures { StaysSoFar self.old self.new }
-    {
-        self.line = counted(self.line, todo);
-        self.work.done();
-        self.lost = true;
-    }
-
-    /// One task less, which asks for an item. The item that waits goes before it, so if one does, this one is lost.
+    /// One task less, which asks for an item. Where something is owed of what was asked for, this one is lost: it is not recorded
+    /// before the part ends.
     fn ask(&mut self, todo: Todo, item: Item)
         requires todo { IsTodo todo self.old.work.left }
         requires some { self.old.work.left ≢ [] }
         requires item { IsItem item }
         requires of { (t : Task) → IsNextOf t self.old.work.left → IsItemOf t item }
-        ensures { StaysSoFar self.old self.new }
+        ensures stays { StaysSoFar self.old self.new }
+        ensures lost { self.new.lost ≡ true → self.old.lost ≡ false → owed_of self.old.part ≢ [] }
+        ensures work { self.new.work.left ≡ drop 1 self.old.work.left }
+        ensures unanswered { self.new.unanswered ≡ self.old.unanswered }
+        ensures in_hand { self.new.in_hand ≡ self.old.in_hand }
+        ensures halts { has_halt self.old.work.left ≡ false → self.new.line.halts ≡ self.old.line.halts }
     {
-        if self.lost || self.part.is_waiting() {
-            self.lose(todo);
-            return;
-        }
         self.line = counted(self.line, todo);
         self.work.done();
+        if self.lost || self.owes() {
+            self.lost = true;
+            return;
+        }
         self.part.ask(item);
     }
 
@@ -117,31 +114,48 @@ impl CourseJudge {
     #[tactic(auto, using(crate::proofs::Passing::move_item))]
     fn ask_move(&mut self)
         requires { IsTodo Todo.Move self.old.work.left }
-        ensures { StaysSoFar self.old self.new }
+        ensures stays { StaysSoFar self.old self.new }
+        ensures lost { self.new.lost ≡ true → self.old.lost ≡ false → owed_of self.old.part ≢ [] }
+        ensures work { self.new.work.left ≡ drop 1 self.old.work.left }
+        ensures unanswered { self.new.unanswered ≡ self.old.unanswered }
+        ensures in_hand { self.new.in_hand ≡ self.old.in_hand }
+        ensures halts { has_halt self.old.work.left ≡ false → self.new.line.halts ≡ self.old.line.halts }
     {
         let planned = self.work.planned_move();
         self.ask(Todo::Move, Item::Move(planned));
     }
 
-    /// The next mark is asked for.
-    #[tactic(auto, using(crate::proofs::Passing::mark_item, crate::proofs::Passing::mark_untold, crate::proofs::Passing::mark_asks))]
+    /// The next mark is asked for. No line asks for one that ends a part.
+    #[tactic(auto, using(crate::proofs::Passing::mark_item, crate::proofs::Passing::ends_no_part))]
     fn ask_mark(&mut self, mark: Mark)
         requires { IsTodo (Todo.Mark mark) self.old.work.left }
-        ensures { StaysSoFar self.old self.new }
+        ensures stays { StaysSoFar self.old self.new }
+        ensures lost { self.new.lost ≡ true → self.old.lost ≡ false → owed_of self.old.part ≢ [] }
+        ensures work { self.new.work.left ≡ drop 1 self.old.work.left }
+        ensures unanswered { self.new.unanswered ≡ self.old.unanswered }
+        ensures in_hand { self.new.in_hand ≡ self.old.in_hand }
+        ensures halts { has_halt self.old.work.left ≡ false → self.new.line.halts ≡ self.old.line.halts }
     {
         if is_ending(&mark) {
-            self.lose(Todo::Mark(mark));
+            self.work.done();
             return;
         }
         self.ask(Todo::Mark(mark), Item::Mark(mark));
     }
 
-    /// Does what is next of the line at hand, which tells nothing. Call it where `next` says `Work`.
+    /// Does what is next of the line at hand, which tells nothing. Call it where `next` says `Work`. What a line asks for is lost
+    /// only where something is owed.
     #[tactic(auto, using(crate::proofs::Passing::quiet_by))]
     pub fn work_on(&mut self)
         requires some { self.old.work.left ≢ [] }
         requires untold { (r : AnyReply) → IsNextOf (tell r) self.old.work.left → self.old.unanswered ≡ true }
-        ensures { StaysSoFar self.old self.new }
+        ensures stays { StaysSoFar self.old self.new }
+        ensures left { left_to_tell self.new ≡ left_to_tell self.old }
+        ensures lost { self.new.lost ≡ true → self.old.lost ≡ false → owed_of self.old.part ≢ [] }
+        ensures work { self.new.work.left ≡ drop 1 self.old.work.left }
+        ensures unanswered { self.new.unanswered ≡ self.old.unanswered }
+        ensures in_hand { self.new.in_hand ≡ self.old.in_hand }
+        ensures halts { has_halt self.old.work.left ≡ false → self.new.line.halts ≡ self.old.line.halts }
     {
         let todo = self.work.todo();
         match todo {
@@ -153,7 +167,8 @@ impl CourseJudge {
 
     /// Whether something is owed of what the lines ask for.
     pub fn owes(&self) -> bool
-        ensures { IsTrue result ↔ (owed_of self.now.part ≢ []) }
+        ensures owes { IsTrue result ↔ (owed_of self.now.part ≢ []) }
+        ensures none { result ≡ false → self.now.part.next ≡ None }
     {
         !self.part.is_idle()
     }
@@ -161,18 +176,20 @@ impl CourseJudge {
     /// A record comes: whether it is the next one of the part. If not, no record is told any more. Where something is owed, the
     /// machine is in its range and the events can be counted, no texts fit that have a record next that is refused and ends no
     /// part.
-    pub fn take(&mut self, record: &Record) -> bool
-        ensures yes { IsTrue result → AddsRecord self.old self.new record.now }
-        ensures no { result ≡ false → owed_of self.old.part ≢ [] → is_ending record.now ≡ false → IsPlace self.old.place → self.old.events + 1 < 2 ^ 64 → RefusesRecord self.old record.now }
+    pub fn take(&mut self, given: &Record) -> bool
+        ensures yes { IsTrue result → AddsRecord self.old self.new given.now }
+        ensures no { result ≡ false → owed_of self.old.part ≢ [] → is_ending given.now ≡ false → IsPlace self.old.place → self.old.events + 1 < 2 ^ 64 → RefusesRecord self.old given.now }
+        ensures work { self.new.work ≡ self.old.work }
+        ensures line { SameLine self.old self.new }
     {
-        let Some(place) = place_behind(&self.place, record) else {
+        let Some(place) = place_behind(&self.place, given) else {
             return false;
         };
-        let count = event_count(record);
+        let count = event_count(given);
         if self.events > u64::MAX - count || self.part.is_idle() {
             return false;
         }
-        if !self.part.take(record) {
+        if !self.part.take(given) {
             return false;
         }
         self.place = place;

@@ -1,7 +1,7 @@
 use Rattle.audit_course.proofs.Beginning.{line_unanswered}
 use Rattle.audit_course.proofs.judge.CourseJudge.break_line.Goals as goal
 
-pub returns : goal.returns
-returns c = λ kept is first sent replies records s.
+pub returns-clause-adds : goal.returns-clause-adds
+returns-clause-adds c = λ kept is first sent replies records s.
     line_unanswered c.args.self.now c.args.machine c.judge.new.self c.begin-self.result c.judge.result kept first sent replies records s c.requires.may
     (λ since. c.judge.ensures.becomes since kept is) (c.requires.found kept is) c.begin-self.ensures.is_new c.begin-self.ensures.accepted c.begin-self.ensures.settles

@@ -7,7 +7,7 @@ use Rattle.audit_course.proofs.Refused.{never_cut}
 use Rattle.audit_course.proofs.judge.CourseJudge.cut.Goals as goal
 
 pub returns-clause-yes : goal.returns-clause-yes
-returns-clause-yes c = λ yes first sent replies records s. c.make_cut.ensures first sent replies records (c.close.ensures.stays first sent replies records s)
+returns-clause-yes c = λ yes first sent replies records s. c.make_cut.ensures.adds first sent replies records (c.close.ensures.stays first sent replies records s)
 
 pub returns-then-not-may_cut-clause-no : goal.returns-then-not-may_cut-clause-no
 returns-then-not-may_cut-clause-no c = λ no done answered number place few jogs first sent replies records s.

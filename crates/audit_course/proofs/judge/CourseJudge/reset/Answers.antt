@@ -6,7 +6,7 @@ use Rattle.audit_course.proofs.Resetting.{never_reset}
 use Rattle.audit_course.proofs.judge.CourseJudge.reset.Goals as goal
 
 pub returns-clause-yes : goal.returns-clause-yes
-returns-clause-yes c = λ yes lines count first sent replies records s. c.make_reset.ensures lines count first sent replies records (c.close.ensures.stays first sent replies records s)
+returns-clause-yes c = λ yes lines count first sent replies records s. c.make_reset.ensures.adds lines count first sent replies records (c.close.ensures.stays first sent replies records s)
 
 pub returns-then-not-may_reset-clause-no : goal.returns-then-not-may_reset-clause-no
 returns-then-not-may_reset-clause-no c = λ no done number place few unsettled.

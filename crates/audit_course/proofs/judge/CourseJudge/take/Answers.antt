@@ -7,12 +7,12 @@ use Rattle.audit_course.proofs.judge.CourseJudge.take.Goals as goal
 
 pub returns-then-not-take-clause-no : goal.returns-then-not-take-clause-no
 returns-then-not-take-clause-no c = λ no owes inside place few first sent replies records s.
-    let refuses : Refuses c.args.self.now.part c.args.record.now = search rules in
-    never_follows c.args.self.now c.args.record.now first sent replies records s refuses inside
+    let refuses : Refuses c.args.self.now.part c.args.given.now = search rules in
+    never_follows c.args.self.now c.args.given.now first sent replies records s refuses inside
 
 pub returns-clause-yes : goal.returns-clause-yes
 returns-clause-yes c = λ yes first sent replies records s.
-    let goes : Goes c.args.self.now.part c.args.record.now c.take.new.self = search rules in
-    let place : c.in-Some.place ≡ moved_by c.args.self.now.place (c.args.record.now ∷ []) = search rules in
-    record_taken c.args.self.now c.args.record.now c.take.new.self c.in-Some.place (c.args.self.now.events + c.event_count-count.result) first sent replies records s goes place
+    let goes : Goes c.args.self.now.part c.args.given.now c.take.new.self = search rules in
+    let place : c.in-Some.place ≡ moved_by c.args.self.now.place (c.args.given.now ∷ []) = search rules in
+    record_taken c.args.self.now c.args.given.now c.take.new.self c.in-Some.place (c.args.self.now.events + c.event_count-count.result) first sent replies records s goes place
     (ap (λ (n : ℕ). c.args.self.now.events + n) c.event_count-count.ensures.is)
