@@ -1,21 +1,21 @@
 -- A line is begun.
-use Rattle.std.proofs.Common.{◌≡◌, ℕ, ◌+◌, Bool, true, false, cond, not, ◌&&◌, ◌||◌, List, [], ◌∷◌, ◌++◌, append-nil, append_assoc, refl, sym, ap, ◌∙◌, subst, arith}
+use Rattle.std.proofs.Common.{◌≡◌, ℕ, ◌+◌, Bool, true, false, cond, not, ◌&&◌, ◌||◌, List, [], ◌∷◌, ◌++◌, length, append-nil, append_assoc, refl, sym, ap, ◌∙◌, subst, arith}
 use Rattle.std.specs.List.{AllByRecursion, list_any}
 use Rattle.flight.specs.Places.{origin}
 use Rattle.status_report.specs.declared.Reply.{Reply}
 use Rattle.step_line.specs.Asking.{ticks_of_all, moves_of}
 use Rattle.step_line.specs.declared.Record.{Record}
 use Rattle.step_line.specs.declared.planned_move.PlannedMove.{PlannedMove}
-use Rattle.system_lines.specs.Commands.{kind_of, refused_in_run}
+use Rattle.system_lines.specs.Commands.{kind_of}
 use Rattle.run_rules.specs.declared.State.{State}
 use Rattle.run_rules.specs.Cuts.{ticks_for}
 use Rattle.run_rules.specs.Locking.{is_unlock}
 use Rattle.run_rules.specs.declared.machine.Machine.{Machine}
-use Rattle.run_rules.specs.declared.machine.Machine.TheVariants.{Stands, Runs, Jogs, Locked}
+use Rattle.run_rules.specs.declared.machine.Machine.TheVariants.{Stands, Locked}
 use Rattle.run_rules.specs.Finding.{Found}
-use Rattle.run_rules.specs.Outcomes.{Before, Becomes, jogged_behind, either, has_cause, begins_with_dollar}
+use Rattle.run_rules.specs.Outcomes.{Before, jogged_behind, either}
 use Rattle.run_rules.proofs.Finding.{becomes_still, becomes_locked}
-use Rattle.run_rules.specs.Reports.{raises_alarm}
+use Rattle.run_rules.specs.Reports.{raises_alarm, settles}
 use Rattle.run_rules.specs.Work.{Task, Outcome, tells, asks, has_moves, is_limit, accepted_code, accepted_jog}
 use Rattle.line_interpreter.specs.Desks.{kind_told}
 use Rattle.line_interpreter.specs.Interpreting.{Interpreting, stands_before}
@@ -25,14 +25,16 @@ use Rattle.line_interpreter.specs.declared.desk.Accepted.{Accepted}
 use Rattle.line_interpreter.specs.declared.desk.Accepted.TheVariants.{Code}
 use Rattle.part_making.specs.Judging.{Known, making, rest_of, all_ticks, all_moves}
 use Rattle.run_texts.specs.Making.{Making, IsMade, with_line}
+use Rattle.run_texts.specs.Recorded.{ticks_for_all}
 use Rattle.run_texts.specs.Points.{Point, BecomesAt, behind_line, behind_broken, opening}
 use Rattle.run_texts.specs.Sent.{Sent}
 use Rattle.run_texts.specs.Sent.Sent.{a_text}
 use Rattle.run_texts.proofs.Making.{line_made}
 use Rattle.audit_course.specs.declared.Progress.{Progress}
 use Rattle.audit_course.specs.declared.judge.CourseJudge.{CourseJudge}
-use Rattle.audit_course.specs.Progressing.{has_ticks, has_halt, ends_none, IsNew}
-use Rattle.audit_course.specs.SoFar.{GoesTo, HasJudged, OfLine, IsBare, EndsLate, MayBegin, Knows, FindsRight, FindsStill, TellsFound, left_to_tell, texts_among}
+use Rattle.audit_course.specs.declared.ticks.Ticks.{Ticks}
+use Rattle.audit_course.specs.Progressing.{has_ticks, has_halt, ends_none, is_code, ticks_to, IsNew}
+use Rattle.audit_course.specs.SoFar.{GoesTo, HasJudged, KnowsTicks, AreSo, OfLine, IsBare, OwesBehind, EndsLate, MayBegin, Knows, FindsRight, FindsStill, TellsFound, HasWorkOf, left_to_tell, texts_among}
 use Rattle.audit_course.proofs.Counting.{texts_on}
 use Rattle.audit_course.proofs.Going.{by_line, by_broken}
 use Rattle.audit_course.proofs.Parting.{none_of}
@@ -87,6 +89,20 @@ cond_not false a = refl
 moved_line : (settles of_kind moves before s k now was : Bool) → settles ≡ s → of_kind ≡ k → before ≡ was → now ≡ was → cond settles false (of_kind && moves || before) ≡ (not s && (k && moves || now))
 moved_line settles of_kind moves before s k now was es ek eb en = cond_not settles (of_kind && moves || before) ∙ same_moved settles s of_kind k moves before now es ek (eb ∙ sym en)
 
+-- what is known of the ticks of the lines before it stays
+knows_same : (j k : CourseJudge) (before since hand : List Outcome) (made : List Record) → since ≡ before ++ hand → k.part ≡ j.part → k.lost ≡ j.lost → k.answered ≡ j.answered → k.code ≡ j.code → k.settled ≡ j.settled
+    → AreSo j.answered (length (ticks_for_all before)) j.part j.lost made → AreSo j.code (ticks_to is_code before) j.part j.lost made → AreSo j.settled (ticks_to settles before) j.part j.lost made → KnowsTicks k since hand made
+knows_same j k before since hand made split part lost answered_is code_is settled_is answered code settled =
+    let same : (t u : Ticks) (n : ℕ) → u ≡ t → AreSo t n j.part j.lost made → AreSo u n k.part k.lost made = λ t u n e s.
+    subst (λ (x : Ticks). AreSo x n k.part k.lost made) (sym e) (subst (λ (x : Known). AreSo t n x k.lost made) (sym part) (subst (λ (x : Bool). AreSo t n j.part x made) (sym lost) s)) in
+    record {
+      before = before;
+      split = split;
+      answered = same j.answered k.answered (length (ticks_for_all before)) answered_is answered;
+      code = same j.code k.code (ticks_to is_code before) code_is code;
+      settled = same j.settled k.settled (ticks_to settles before) settled_is settled;
+    }
+
 -- ---- a line that is answered
 
 line_of : (j k : CourseJudge) (p : Point) (hand : List Outcome) (kept : List ℕ) (o : Outcome) (w : Interpreting) → OfLine j p hand → MayBegin j → IsJudged j p true kept o w k.line → k.work ≡ w → kind_told k.line.accepted ≡ o.kind → k.line.settles ≡ o.settles
@@ -104,6 +120,7 @@ line_of j k p hand kept o w was b judged work kind settles moved jog_moved answe
   alarmed = ap (λ (u : Bool). not u && is_limit o.answer) (sym answered);
   unheld = λ e. absurd (let f : false ≡ true = sym answered ∙ e in cc);
   none = λ e. absurd (let f : true ≡ false = sym in_hand ∙ e in cc);
+  held = λ e u. (o, refl);
   are = ((refl, sym settles, sym kind), tt);
 } where
   left : k.work.left ≡ o.work
@@ -155,14 +172,10 @@ line_begun j k kept o w first sent replies records s b judged kind settles jogge
   loses_some = λ e none. s.loses_some (sym (ap (λ (x : CourseJudge). x.lost) is) ∙ e) (none_of s.ticks (ticks_for o) none).0;
   is_made = is_made;
   untouched = λ u t. absurd (let f : false ≡ true = sym answered ∙ u in cc);
-  loses = record {
-    closed = s.loses.closed;
-    others = s.loses.others;
-    split = ap (λ (os : List Outcome). os ++ o ∷ []) (s.loses.split ∙ ap (λ (os : List Outcome). (s.loses.closed ++ s.loses.others) ++ os) (s.line.none b.closed).none ∙ append-nil (s.loses.closed ++ s.loses.others));
-    over = s.loses.over;
-    jogs = λ e. s.loses.jogs (sym (ap (λ (x : CourseJudge). x.jogs) is) ∙ e);
-    unsettled = λ e. s.loses.unsettled (sym (ap (λ (x : CourseJudge). x.unsettled) is) ∙ e);
-  };
+  owes_behind = λ u. absurd (let f : false ≡ true = sym answered ∙ u in cc);
+  touched = λ u. absurd (let f : false ≡ true = sym answered ∙ u in cc);
+  knows = knows_same j k s.knows.before (s.since ++ o ∷ []) (o ∷ []) s.made (ap (λ (os : List Outcome). os ++ o ∷ []) (s.knows.split ∙ ap (λ (os : List Outcome). s.knows.before ++ os) (s.line.none b.closed).none ∙ append-nil s.knows.before))
+      (ap (λ (x : CourseJudge). x.part) is) (ap (λ (x : CourseJudge). x.lost) is) (ap (λ (x : CourseJudge). x.answered) is) (ap (λ (x : CourseJudge). x.code) is) (ap (λ (x : CourseJudge). x.settled) is) s.knows.answered s.knows.code s.knows.settled;
   alarm = λ e. any_last s.since o e;
   calm = λ e. none_last s.since o (s.calm (no_alarm j s.point s.hand s.line b)) e;
   at_hand = λ e. absurd (let f : true ≡ false = sym (ap (λ (x : CourseJudge). x.in_hand) is) ∙ e in cc);
@@ -234,6 +247,7 @@ broken_of j k p hand kept o w was b judged work kind settles moved jog_moved bro
   alarmed = no_alarm j p hand was b ∙ ap (λ (u : Bool). not u && has_halt o.work) (sym broken);
   unheld = λ e. refl;
   none = λ e. absurd (let f : true ≡ false = sym in_hand ∙ e in cc);
+  held = λ e u. absurd (let f : true ≡ false = sym broken ∙ u in cc);
   are = tt;
 } where
   left : k.work.left ≡ o.work
@@ -272,14 +286,10 @@ line_broken j k kept o w first sent replies records s b judged kind settles is =
       (subst (λ (m : Making). IsMade ((s.since ++ s.begun) ++ o ∷ []) s.made m) same (line_made (s.since ++ s.begun) s.made (making j.part s.ticks s.moves) o s.is_made));
   untouched = λ u t. subst (λ (x : Known). IsBare s.since s.made x.latest) (sym (ap (λ (x : CourseJudge). x.part) is))
       (record { making = making j.part s.ticks s.moves; is = bare_made j first sent replies records s b.answered; out = refl; head = refl });
-  loses = record {
-    closed = s.loses.closed;
-    others = s.loses.others;
-    split = s.loses.split ∙ ap (λ (os : List Outcome). (s.loses.closed ++ s.loses.others) ++ os) (s.line.none b.closed).none;
-    over = s.loses.over;
-    jogs = λ e. s.loses.jogs (sym (ap (λ (x : CourseJudge). x.jogs) is) ∙ e);
-    unsettled = λ e. s.loses.unsettled (sym (ap (λ (x : CourseJudge). x.unsettled) is) ∙ e);
-  };
+  owes_behind = λ u e. subst (OwesBehind s.since s.made) (sym (ap (λ (x : CourseJudge). x.part) is)) (record { ticks = s.ticks; moves = s.moves; is = bare_made j first sent replies records s b.answered });
+  touched = λ u e. absurd (let f : false ≡ true = sym (ap (λ (x : CourseJudge). x.touched) is) ∙ e in cc);
+  knows = knows_same j k s.knows.before s.since [] s.made (s.knows.split ∙ ap (λ (os : List Outcome). s.knows.before ++ os) (s.line.none b.closed).none)
+      (ap (λ (x : CourseJudge). x.part) is) (ap (λ (x : CourseJudge). x.lost) is) (ap (λ (x : CourseJudge). x.answered) is) (ap (λ (x : CourseJudge). x.code) is) (ap (λ (x : CourseJudge). x.settled) is) s.knows.answered s.knows.code s.knows.settled;
   alarm = s.alarm;
   calm = s.calm;
   at_hand = λ e. absurd (let f : true ≡ false = sym (ap (λ (x : CourseJudge). x.in_hand) is) ∙ e in cc);
@@ -392,6 +402,28 @@ line_tells j k machine w accepted settles kept b judged work unanswered first se
       o.0,
       subst (λ (x : Before). Found machine x kept o.0) (stands_there j first sent replies records s b) o.1,
       ap (λ (u : Bool). cond u [] (tells k.work.left)) (unanswered ∙ b.answered) ∙ ap (λ (i : Interpreting). tells i.left) (work ∙ o.2),
+    )
+
+pub line_work : (j k : CourseJudge) (machine : Machine) (w : Interpreting) (accepted : Accepted) (settles : Bool) (kept : List ℕ) → MayBegin j
+    → ((since : Since) → (o : Outcome) × Found machine (stands_before j.work since) kept o × (w ≡ record { state = o.next; number = j.work.number + 1; left = o.work }) × (kind_told accepted ≡ o.kind) × (settles ≡ o.settles))
+    → FindsRight j machine kept → k.work ≡ w → HasWorkOf j k true kept
+line_work j k machine w accepted settles kept b judged finds work first sent replies records s =
+    let o = judged (since_at s.point) in (
+      s.point,
+      o.0,
+      finds s.point (known_at j first sent replies records s b) o.0 (subst (λ (x : Before). Found machine x kept o.0) (stands_there j first sent replies records s b) o.1),
+      ap (λ (i : Interpreting). i.left) (work ∙ o.2),
+    )
+
+pub broken_work : (j k : CourseJudge) (machine : Machine) (w : Interpreting) (accepted : Accepted) (kept : List ℕ) → MayBegin j
+    → ((since : Since) → (o : Outcome) × Found machine (stands_before j.work since) kept o × (w ≡ record { state = o.next; number = j.work.number + 1; left = o.work }) × (kind_told accepted ≡ o.kind))
+    → FindsStill j machine kept → k.work ≡ w → HasWorkOf j k false kept
+broken_work j k machine w accepted kept b judged finds work first sent replies records s =
+    let o = judged (since_at s.point) in (
+      s.point,
+      o.0,
+      finds s.point (known_at j first sent replies records s b) o.0 (subst (λ (x : Before). Found machine x kept o.0) (stands_there j first sent replies records s b) o.1),
+      ap (λ (i : Interpreting). i.left) (work ∙ o.2),
     )
 
 -- ---- how the machine is found

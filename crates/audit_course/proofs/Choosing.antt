@@ -11,8 +11,7 @@ use Rattle.system_lines.specs.declared.Kind.TheVariants as kinds
 use Rattle.run_rules.specs.declared.State.{State}
 use Rattle.run_rules.specs.declared.machine.Machine.{Machine}
 use Rattle.run_rules.specs.declared.machine.Machine.TheVariants.{Stands, Runs, Jogs, Locked}
-use Rattle.run_rules.specs.Finding.{refuses, locks, ByKeptFound, Found}
-use Rattle.run_rules.specs.Locking.{BecomesLocked}
+use Rattle.run_rules.specs.Finding.{refuses, ByKeptFound}
 use Rattle.run_rules.specs.Outcomes.{Before, Becomes, ByKept, ByDollar, ByCode, IsBusy, IsLockedOut, refused, has_cause, begins_with_dollar, either, most_kept}
 use Rattle.run_rules.specs.Work.{Outcome, tells}
 use Rattle.run_rules.proofs.Finding.{becomes_still, becomes_locked}

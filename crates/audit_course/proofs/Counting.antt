@@ -1,9 +1,6 @@
--- What is counted of lines and records, and where they lead, one by one.
-use Rattle.std.proofs.Common.{◌≡◌, ℕ, ◌+◌, Bool, true, false, cond, List, [], ◌∷◌, ◌++◌, length, map, refl, sym, ap, ◌∙◌, arith}
+-- What is counted of lines and records, one by one.
+use Rattle.std.proofs.Common.{◌≡◌, ℕ, ◌+◌, false, cond, List, [], ◌∷◌, ◌++◌, length, map, refl, arith}
 use Rattle.std.proofs.lemmas.List.Sums.{sum_by-append}
-use Rattle.units.specs.declared.Steps3.{Steps3}
-use Rattle.flight.specs.Places.{moved_by}
-use Rattle.step_line.specs.Places.{stepped}
 use Rattle.step_line.specs.declared.Mark.TheVariants as marks
 use Rattle.step_line.specs.declared.Record.{Record}
 use Rattle.step_line.specs.declared.Record.TheVariants as kinds
@@ -46,12 +43,3 @@ cuts_at_cut records k = cuts_on records (kinds.Mark (marks.Cut k) ∷ [])
 
 pub cuts_at_reset : (records : List Record) (k : ℕ) → cuts_among (records ++ kinds.Mark (marks.Reset k) ∷ []) ≡ cuts_among records
 cuts_at_reset records k = let both : cuts_among (records ++ kinds.Mark (marks.Reset k) ∷ []) ≡ cuts_among records + 0 = cuts_on records (kinds.Mark (marks.Reset k) ∷ []) in omega (arith, both)
-
--- ---- places
-
-pub moved_on : (place : Steps3) (rs qs : List Record) → moved_by place (rs ++ qs) ≡ moved_by (moved_by place rs) qs
-moved_on place [] qs = refl
-moved_on place (kinds.Event b ∷ rs) qs = moved_on (stepped place b) rs qs
-moved_on place (kinds.Mark m ∷ rs) qs = moved_on place rs qs
-moved_on place (kinds.Head h ∷ rs) qs = moved_on place rs qs
-moved_on place (kinds.End ∷ rs) qs = moved_on place rs qs

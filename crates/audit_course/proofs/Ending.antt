@@ -1,9 +1,9 @@
 -- A cut, a reset or the end ends a part.
-use Rattle.std.proofs.Common.{◌≡◌, ◌≤◌, ℕ, ◌+◌, ◌-◌, Bool, true, false, cond, not, ◌&&◌, ◌||◌, List, [], ◌∷◌, ◌++◌, length, map, take, drop, append-nil, append_assoc, length-append, ◌⊎◌, inl, inr, refl, sym, ap, ◌∙◌, subst, arith}
+use Rattle.std.proofs.Common.{◌≡◌, ◌≤◌, ℕ, ◌+◌, Bool, true, false, cond, not, ◌&&◌, ◌||◌, List, [], ◌∷◌, ◌++◌, length, map, append-nil, append_assoc, length-append, refl, sym, ap, ◌∙◌, subst, arith}
 use Rattle.std.specs.List.{AllByRecursion, list_any}
-use Rattle.std.proofs.lemmas.List.{take-append-le, take-append-drop}
 use Rattle.std.proofs.lemmas.List.Elements.{filter-append}
 use Rattle.flight.specs.Places.{origin}
+use Rattle.flight.proofs.Places.{moved_on}
 use Rattle.units.specs.declared.Steps3.{Steps3}
 use Rattle.legal_heads.specs.Speeds.{MayStop}
 use Rattle.legal_heads.specs.Whole.{events_among, is_event}
@@ -14,9 +14,9 @@ use Rattle.step_line.specs.declared.Record.{Record}
 use Rattle.step_line.specs.declared.Record.TheVariants as kinds
 use Rattle.modal_state.specs.Modes.{rebased}
 use Rattle.run_rules.specs.declared.State.{State}
-use Rattle.run_rules.specs.Cuts.{ticks_asked_for, LosesJogsAlone}
+use Rattle.run_rules.specs.Cuts.{LosesJogsAlone}
 use Rattle.run_rules.specs.Outcomes.{at_place, either}
-use Rattle.run_rules.specs.Reports.{settles, settled_to, raises_alarm}
+use Rattle.run_rules.specs.Reports.{settles, raises_alarm}
 use Rattle.run_rules.proofs.Answering.{telling_tells}
 use Rattle.run_rules.specs.Work.{Task, Outcome, tells, asks, telling, has_moves, accepted_code, accepted_jog}
 use Rattle.line_interpreter.specs.Desks.{kind_told}
@@ -29,103 +29,36 @@ use Rattle.run_texts.specs.Making.{IsMade, nothing_yet}
 use Rattle.run_texts.specs.Parts.{ending_record}
 use Rattle.run_texts.specs.Parts.Ending.{by_cut, by_reset, by_end}
 use Rattle.run_texts.specs.Points.{Point, opening}
-use Rattle.run_texts.specs.Recorded.{IsRecorded, ticks_for_all, settled_ticks}
+use Rattle.run_texts.specs.Recorded.{IsRecorded, settled_ticks}
 use Rattle.run_texts.specs.Sent.{Sent, waiting_in, has_reset, behind_reset}
 use Rattle.run_texts.specs.Sent.Sent.{a_text, a_stop}
 use Rattle.run_texts.specs.Told.{told_at_reset}
-use Rattle.run_texts.proofs.Events.{ticks_on}
 use Rattle.run_texts.proofs.Making.{begins, finishes}
 use Rattle.audit_course.specs.declared.Progress.{Progress}
 use Rattle.audit_course.specs.declared.judge.CourseJudge.{CourseJudge}
-use Rattle.audit_course.specs.Progressing.{has_ticks, has_halt, ends_none, fresh}
-use Rattle.audit_course.specs.SoFar.{GoesTo, HasJudged, IsBare, IsOver, AddsReset, OfLine, MayLose, MayCut, MayReset, MayEnd, left_to_tell}
+use Rattle.audit_course.specs.declared.ticks.Ticks.TheVariants as standing
+use Rattle.audit_course.specs.Progressing.{has_ticks, has_halt, ends_none, is_code, ticks_to, fresh}
+use Rattle.audit_course.specs.SoFar.{GoesTo, HasJudged, IsBare, IsOver, AddsReset, OfLine, KnowsTicks, AreSo, MayCut, MayReset, MayEnd, left_to_tell}
 use Rattle.audit_course.proofs.Going.{by_a_cut, by_a_reset, at_end}
 use Rattle.audit_course.proofs.Forced.{forced_cut, forced_reset, reset_begins}
-use Rattle.audit_course.proofs.Counting.{cuts_at_cut, cuts_at_reset, lines_sent, moved_on, texts_on}
+use Rattle.audit_course.proofs.Counting.{cuts_at_cut, cuts_at_reset, lines_sent, texts_on}
 use Rattle.audit_course.proofs.Outcomes.{telling_halts, telling_marks}
 use Rattle.audit_course.proofs.Parting.{idle_owes}
-use Rattle.audit_course.proofs.Saying.{none_asked}
-
--- ---- ticks that are left out
-
-count : List Outcome → ℕ
-count os = length (ticks_for_all os)
-
-counted : (xs ys : List Outcome) → count (xs ++ ys) ≡ count xs + count ys
-unfolding count
-counted xs ys = ap length (ticks_on xs ys) ∙ length-append (ticks_for_all xs) (ticks_for_all ys)
-
-one_counted : (o : Outcome) → count (o ∷ []) ≡ ticks_asked_for o
-unfolding count
-one_counted o = ap (λ asked. length (ticks_of_all asked)) (append-nil (asks o.work))
-
-jog_or_none : (jog some : Bool) (n m : ℕ) → (some ≡ false → n ≡ 0) → (jog || not some) ≡ true → (jog ≡ true) ⊎ (n ≤ m)
-jog_or_none true some n m none e = inl refl
-jog_or_none false true n m none e = absurd cc
-jog_or_none false false n m none e = inr (let z = none refl in omega (arith, z))
-
-jogs_lose : (others : List Outcome) (m : ℕ) → AllByRecursion (λ o. (accepted_jog o.kind || not (has_ticks o.work)) ≡ true) others → LosesJogsAlone m others
-jogs_lose [] m all = tt
-jogs_lose (o ∷ os) m all = (
-  jog_or_none (accepted_jog o.kind) (has_ticks o.work) (ticks_asked_for o) m (λ e. ap length (none_asked o.work e)) all.0,
-  jogs_lose os (m - ticks_asked_for o) all.1,
-)
-
-all_lose : (closed others : List Outcome) (m : ℕ) → count closed ≤ m → AllByRecursion (λ o. (accepted_jog o.kind || not (has_ticks o.work)) ≡ true) others → LosesJogsAlone m (closed ++ others)
-all_lose [] others m few all = jogs_lose others m all
-all_lose (o ∷ os) others m few all =
-    let first : count (o ∷ os) ≡ ticks_asked_for o + count os = counted (o ∷ []) os ∙ ap (λ (n : ℕ). n + count os) (one_counted o) in
-    (inr (omega (arith, few, first)), all_lose os others (m - ticks_asked_for o) (omega (arith, few, first)) all)
-
-none_settles : (os : List Outcome) → AllByRecursion (λ o. o.settles ≡ false) os → list_any settles os ≡ false
-none_settles [] all = refl
-none_settles (o ∷ os) all = ap (λ (b : Bool). b || list_any settles os) all.0 ∙ none_settles os all.1
-
-by_cond : (b : Bool) (n m : ℕ) → n ≤ m → cond b n 0 ≤ m
-by_cond true n m few = few
-by_cond false n m few = omega arith
-
-settled_within : (closed others : List Outcome) → AllByRecursion (λ o. o.settles ≡ false) others → settled_to (closed ++ others) ≤ length closed
-settled_within [] [] all = omega arith
-settled_within [] (o ∷ os) all =
-    let none : ◌≡◌ {A = ℕ} (cond (list_any settles (o ∷ os)) (settled_to os + 1) 0) 0 = ap (λ (b : Bool). cond {A = ℕ} b (settled_to os + 1) 0) (none_settles (o ∷ os) all) in
-    omega (arith, none)
-settled_within (c ∷ cs) others all =
-    let again = settled_within cs others all in
-    by_cond (list_any settles (c ∷ (cs ++ others))) (settled_to (cs ++ others) + 1) (length (c ∷ cs)) (omega (arith, again))
-
-front_counted : (n : ℕ) (os : List Outcome) → count (take n os) ≤ count os
-front_counted n os =
-    let both = counted (take n os) (drop n os) in
-    let same : count (take n os ++ drop n os) ≡ count os = ap count (take-append-drop n os) in
-    omega (arith, both, same)
-
-settled_few : (closed others : List Outcome) (m : ℕ) → length (ticks_for_all closed) ≤ m → AllByRecursion (λ o. o.settles ≡ false) others → settled_ticks (closed ++ others) ≤ m
-unfolding count
-settled_few closed others m few all =
-    let n = settled_to (closed ++ others) in
-    let front : take n (closed ++ others) ≡ take n closed = take-append-le n closed others (settled_within closed others all) in
-    let same : settled_ticks (closed ++ others) ≡ count (take n closed) = ap count front in
-    let less = front_counted n closed in
-    omega (arith, few, same, less)
-
-lose_few : (closed others : List Outcome) (m : ℕ) → length (ticks_for_all closed) ≤ m → AllByRecursion (λ o. (accepted_jog o.kind || not (has_ticks o.work)) ≡ true) others → LosesJogsAlone m (closed ++ others)
-unfolding count
-lose_few closed others m few all = all_lose closed others m few all
-
--- what a part may lose, by what is told of the lines of which ticks may be left out
-pub jogs_alone : (j : CourseJudge) (since : List Outcome) (made : List Record) (l : MayLose j since [] made) → j.jogs ≡ true → LosesJogsAlone (length (ticks_among made)) since
-jogs_alone j since made l e =
-    subst (λ (os : List Outcome). LosesJogsAlone (length (ticks_among made)) os) (sym (l.split ∙ append-nil (l.closed ++ l.others))) (lose_few l.closed l.others (length (ticks_among made)) l.over (l.jogs e))
-
-pub settled_all : (j : CourseJudge) (since : List Outcome) (made : List Record) (l : MayLose j since [] made) → j.unsettled ≡ true → settled_ticks since ≤ length (ticks_among made)
-settled_all j since made l e =
-    subst (λ (os : List Outcome). settled_ticks os ≤ length (ticks_among made)) (sym (l.split ∙ append-nil (l.closed ++ l.others))) (settled_few l.closed l.others (length (ticks_among made)) l.over (l.unsettled e))
+use Rattle.audit_course.proofs.Standing.{settled_is, to_jogs, whole_has}
 
 -- ---- an end
 
-with_hand : (j : CourseJudge) (since hand : List Outcome) (made : List Record) → MayLose j since hand made → hand ≡ [] → MayLose j since [] made
-with_hand j since hand made l none = subst (λ (os : List Outcome). MayLose j since os made) none l
+-- where no line is at hand, it is known how the ticks of all stand
+pub closed_lines : (j : CourseJudge) (since hand : List Outcome) (made : List Record) (k : KnowsTicks j since hand made) → hand ≡ [] → k.before ≡ since
+closed_lines j since hand made k none = sym (k.split ∙ ap (λ (os : List Outcome). k.before ++ os) none ∙ append-nil k.before)
+
+-- so what a part may lose is known
+pub code_is : (j : CourseJudge) (since hand : List Outcome) (made : List Record) → KnowsTicks j since hand made → hand ≡ [] → AreSo j.code (ticks_to is_code since) j.part j.lost made
+code_is j since hand made k none = subst (λ (os : List Outcome). AreSo j.code (ticks_to is_code os) j.part j.lost made) (closed_lines j since hand made k none) k.code
+
+pub settled_are : (j : CourseJudge) (since hand : List Outcome) (made : List Record) → KnowsTicks j since hand made → hand ≡ [] → AreSo j.settled (settled_ticks since) j.part j.lost made
+settled_are j since hand made k none =
+    subst (λ (n : ℕ). AreSo j.settled n j.part j.lost made) (sym (settled_is since)) (subst (λ (os : List Outcome). AreSo j.settled (ticks_to settles os) j.part j.lost made) (closed_lines j since hand made k none) k.settled)
 
 pub to_tell : (j : CourseJudge) → j.work.left ≡ [] → left_to_tell j ≡ []
 to_tell j done = ap (λ (ts : List Task). cond j.unanswered [] (tells ts)) done ∙ by j.unanswered where
@@ -137,6 +70,14 @@ pub calm_point : (j : CourseJudge) (p : Point) (hand : List Outcome) → OfLine 
 calm_point j p hand o done calm =
     let limit : o.limit ≡ j.line.halts = sym o.halts ∙ ap (λ (ts : List Task). j.line.halts || has_halt ts) done ∙ or_none j.line.halts in
     o.alarmed ∙ ap (λ (t : Bool). not j.unanswered && t) limit ∙ calm where
+      or_none : (b : Bool) → (b || false) ≡ b
+      or_none true = refl
+      or_none false = refl
+
+pub calm_line : (j : CourseJudge) (p : Point) (hand : List Outcome) → OfLine j p hand → j.work.left ≡ [] → p.before.alarmed ≡ false → (not j.unanswered && j.line.halts) ≡ false
+calm_line j p hand o done free =
+    let limit : o.limit ≡ j.line.halts = sym o.halts ∙ ap (λ (ts : List Task). j.line.halts || has_halt ts) done ∙ or_none j.line.halts in
+    sym (ap (λ (t : Bool). not j.unanswered && t) limit) ∙ sym o.alarmed ∙ free where
       or_none : (b : Bool) → (b || false) ≡ b
       or_none true = refl
       or_none false = refl
@@ -163,7 +104,7 @@ bare_by j first sent replies records s false u untouched = record {
 pub part_cut : (j : CourseJudge) (k : ℕ) (w : Interpreting) (state : State) (first : State) (sent : List Sent) (replies : List Reply) (records : List Record) (s : HasJudged j first sent replies records)
     → MayCut j k → state ≡ (at_place j.place (record s.point.before { state = j.state })).state
     → w.left ≡ j.work.left → w.number ≡ j.work.number → (j.unanswered ≡ false → w.state ≡ state)
-    → HasJudged (record j { work = w; state = state; part = nothing_known; cuts = j.cuts + 1; has_line = false; lost = false; jogs = true; unsettled = true }) first sent replies (records ++ ending_record (by_cut k j.place) ∷ [])
+    → HasJudged (record j { work = w; state = state; part = nothing_known; cuts = j.cuts + 1; has_line = false; lost = false; answered = standing.Whole; code = standing.Whole; settled = standing.Whole }) first sent replies (records ++ ending_record (by_cut k j.place) ∷ [])
 part_cut j k w state first sent replies records s may state_is same_left number_is work_is = record {
   point = behind_cut j.place s.point;
   number = s.number ∙ sym number_is;
@@ -186,7 +127,9 @@ part_cut j k w state first sent replies records s may state_is same_left number_
   loses_some = λ e. absurd cc;
   is_made = begins;
   untouched = λ u e. record { making = nothing_yet; is = begins; out = refl; head = refl };
-  loses = record { closed = []; others = []; split = refl; over = omega arith; jogs = λ e. tt; unsettled = λ e. tt };
+  owes_behind = λ u e. absurd cc;
+  touched = λ u e. absurd (let f : true ≡ false = sym e ∙ may.untouched u in cc);
+  knows = record { before = []; split = refl; answered = omega arith; code = omega arith; settled = omega arith };
   calm = λ e. refl;
   at_hand = λ e. ap has_halt left;
   alarm = λ e. absurd (let f : true ≡ false = sym e ∙ calm_point j s.point s.hand s.line may.ends.done may.calm in cc);
@@ -233,12 +176,12 @@ part_cut j k w state first sent replies records s may state_is same_left number_
       bare.out ∙ may.out,
       subst MayStop (sym bare.head) may.may,
       subst (λ (os : List Outcome). LosesJogsAlone (length (ticks_among s.made)) os) (sym (append-nil s.since))
-          (jogs_alone j s.since s.made (with_hand j s.since s.hand s.made s.loses (s.line.none may.ends.closed).none) may.jogs),
+          (to_jogs s.since (length (ticks_among s.made)) (whole_has j.code (ticks_to is_code s.since) j.part j.lost s.made (code_is j s.since s.hand s.made s.knows (s.line.none may.ends.closed).none) may.code)),
       s.stands,
     );
   })
 
-  cut_line : OfLine (record j { work = w; state = state; part = nothing_known; cuts = j.cuts + 1; has_line = false; lost = false; jogs = true; unsettled = true }) (behind_cut j.place s.point) []
+  cut_line : OfLine (record j { work = w; state = state; part = nothing_known; cuts = j.cuts + 1; has_line = false; lost = false; answered = standing.Whole; code = standing.Whole; settled = standing.Whole }) (behind_cut j.place s.point) []
   cut_line = record {
     work = s.line.work;
     limit = s.line.limit;
@@ -252,6 +195,7 @@ part_cut j k w state first sent replies records s may state_is same_left number_
     alarmed = s.line.alarmed;
     unheld = λ e. refl;
     none = λ e. let n = s.line.none may.ends.closed in record { none = refl; settles = n.settles; code = n.code; jog = n.jog };
+    held = λ e. absurd (let f : false ≡ true = sym may.ends.closed ∙ e in cc);
     are = tt;
   }
 
@@ -290,7 +234,7 @@ reset_here j k dropped alarm locked = record { number = k; dropped = dropped; al
 pub part_reset : (j : CourseJudge) (k dropped : ℕ) (alarm locked : Bool) (lines : List (List ℕ)) (w : Interpreting) (state : State) (first : State) (sent : List Sent) (replies : List Reply) (records : List Record)
     (s : HasJudged j first sent replies records) → MayReset j k alarm → dropped ≡ length lines → locked ≡ (alarm || j.locked) → state ≡ reset_state j.place j.state
     → w ≡ record { state = state; number = k + dropped + 1; left = telling (greeting alarm locked) }
-    → HasJudged (record j { work = w; state = state; part = nothing_known; locked = locked; has_line = false; unanswered = false; lost = false; jogs = true; unsettled = true; moved = false; jog_moved = false; jogged = false; line = fresh false })
+    → HasJudged (record j { work = w; state = state; part = nothing_known; locked = locked; has_line = false; unanswered = false; lost = false; answered = standing.Whole; code = standing.Whole; settled = standing.Whole; moved = false; jog_moved = false; jogged = false; line = fresh false })
     first (sent ++ (map a_text lines ++ a_stop ∷ [])) replies (records ++ kinds.Mark (ResetMark k) ∷ [])
 part_reset j k dropped alarm locked lines w state first sent replies records s may count locked_is state_is is = record {
   point = behind_the_reset (reset_here j k dropped alarm locked) s.point;
@@ -314,6 +258,7 @@ part_reset j k dropped alarm locked lines w state first sent replies records s m
     alarmed = refl;
     unheld = λ e. refl;
     none = λ e. record { none = refl; settles = refl; code = refl; jog = refl };
+    held = λ e. absurd (let f : false ≡ true = sym may.ends.closed ∙ e in cc);
     are = tt;
   };
   since = [];
@@ -331,7 +276,9 @@ part_reset j k dropped alarm locked lines w state first sent replies records s m
   loses_some = λ e. absurd cc;
   is_made = begins;
   untouched = λ u e. absurd cc;
-  loses = record { closed = []; others = []; split = refl; over = omega arith; jogs = λ e. tt; unsettled = λ e. tt };
+  owes_behind = λ u. absurd cc;
+  touched = λ u. absurd cc;
+  knows = record { before = []; split = refl; answered = omega arith; code = omega arith; settled = omega arith };
   alarm = λ e. absurd cc;
   calm = λ e. refl;
   at_hand = λ e. ap has_halt left ∙ telling_halts (greeting alarm locked);
@@ -387,7 +334,7 @@ part_reset j k dropped alarm locked lines w state first sent replies records s m
   recorded = finishes s.from (part_of s.since s.begun (by_reset (reset_here j k dropped alarm locked))) s.made (record {
     making = making j.part s.ticks s.moves;
     is = s.is_made;
-    may = (settled_all j s.since s.made (with_hand j s.since s.hand s.made s.loses (s.line.none may.ends.closed).none) may.settled, s.stands);
+    may = (whole_has j.settled (settled_ticks s.since) j.part j.lost s.made (settled_are j s.since s.hand s.made s.knows (s.line.none may.ends.closed).none) may.settled, s.stands);
   })
 
 -- ---- the end
@@ -431,7 +378,7 @@ course_over j first sent replies records s may = record {
       may.out,
       may.may,
       either_way (list_any raises_alarm s.since) j.line.halts (settled_ticks s.since ≤ length (ticks_among s.made)) ((making j.part s.ticks s.moves).owed ≡ [])
-          (settled_all j s.since s.made (with_hand j s.since s.hand s.made s.loses (s.line.none may.ends.closed).none) may.settled)
+          (whole_has j.settled (settled_ticks s.since) j.part j.lost s.made (settled_are j s.since s.hand s.made s.knows (s.line.none may.ends.closed).none) may.settled)
           (λ e. idle_owes j first sent replies records s (may.none e))
           (λ e. s.alarm (point_halts j s.point s.hand s.line may.ends.done may.answered ∙ e)),
     );
@@ -442,22 +389,22 @@ course_over j first sent replies records s may = record {
 pub cut_made : (j : CourseJudge) (k : ℕ) (w : Interpreting) (state : State) (part : Known) (first : State) (sent : List Sent) (replies : List Reply) (records : List Record)
     → HasJudged j first sent replies records → MayCut j k → state ≡ record j.state { parser = rebased j.state.parser j.place j.state.settings.limits.per_mm }
     → w ≡ record j.work { state = record j.work.state { parser = rebased j.work.state.parser j.place j.work.state.settings.limits.per_mm } } → part ≡ nothing_known
-    → HasJudged (record j { work = w; state = state; part = part; cuts = j.cuts + 1; has_line = false; lost = false; jogs = true; unsettled = true }) first sent replies (records ++ ending_record (by_cut k j.place) ∷ [])
+    → HasJudged (record j { work = w; state = state; part = part; cuts = j.cuts + 1; has_line = false; lost = false; answered = standing.Whole; code = standing.Whole; settled = standing.Whole }) first sent replies (records ++ ending_record (by_cut k j.place) ∷ [])
 cut_made j k w state part first sent replies records s may state_is work part_is =
-    subst (λ (x : Known). HasJudged (record j { work = w; state = state; part = x; cuts = j.cuts + 1; has_line = false; lost = false; jogs = true; unsettled = true }) first sent replies (records ++ ending_record (by_cut k j.place) ∷ [])) (sym part_is)
+    subst (λ (x : Known). HasJudged (record j { work = w; state = state; part = x; cuts = j.cuts + 1; has_line = false; lost = false; answered = standing.Whole; code = standing.Whole; settled = standing.Whole }) first sent replies (records ++ ending_record (by_cut k j.place) ∷ [])) (sym part_is)
     (part_cut j k w state first sent replies records s may state_is (ap (λ (i : Interpreting). i.left) work) (ap (λ (i : Interpreting). i.number) work)
     (λ e. ap (λ (i : Interpreting). i.state) work ∙ ap (λ (x : State). record x { parser = rebased x.parser j.place x.settings.limits.per_mm }) (sym (s.same_state e)) ∙ sym state_is))
 
 pub reset_made : (j : CourseJudge) (k dropped : ℕ) (alarm locked : Bool) (w : Interpreting) (state : State) (part : Known) (line : Progress)
     → MayReset j k alarm → locked ≡ (alarm || j.locked) → state ≡ reset_state j.place j.state
     → w ≡ record { state = state; number = j.work.number + dropped; left = telling (greeting alarm locked) } → part ≡ nothing_known → line ≡ fresh false
-    → AddsReset j (record j { work = w; state = state; part = part; locked = locked; has_line = false; unanswered = false; lost = false; jogs = true; unsettled = true; moved = false; jog_moved = false; jogged = false; line = line }) k dropped
+    → AddsReset j (record j { work = w; state = state; part = part; locked = locked; has_line = false; unanswered = false; lost = false; answered = standing.Whole; code = standing.Whole; settled = standing.Whole; moved = false; jog_moved = false; jogged = false; line = line }) k dropped
 reset_made j k dropped alarm locked w state part line may locked_is state_is opened part_is new lines count first sent replies records s =
     let number : j.work.number + dropped ≡ k + dropped + 1 = (let n = may.number in omega (arith, n)) in
     let here : w ≡ record { state = state; number = k + dropped + 1; left = telling (greeting alarm locked) } =
     opened ∙ ap (λ (n : ℕ). record { state = state; number = n; left = telling (greeting alarm locked) }) number in
-    subst (λ (x : Known). HasJudged (record j { work = w; state = state; part = x; locked = locked; has_line = false; unanswered = false; lost = false; jogs = true; unsettled = true; moved = false; jog_moved = false; jogged = false; line = line })
+    subst (λ (x : Known). HasJudged (record j { work = w; state = state; part = x; locked = locked; has_line = false; unanswered = false; lost = false; answered = standing.Whole; code = standing.Whole; settled = standing.Whole; moved = false; jog_moved = false; jogged = false; line = line })
     first (sent ++ (map a_text lines ++ a_stop ∷ [])) replies (records ++ kinds.Mark (ResetMark k) ∷ [])) (sym part_is)
-    (subst (λ (l : Progress). HasJudged (record j { work = w; state = state; part = nothing_known; locked = locked; has_line = false; unanswered = false; lost = false; jogs = true; unsettled = true; moved = false; jog_moved = false; jogged = false; line = l })
+    (subst (λ (l : Progress). HasJudged (record j { work = w; state = state; part = nothing_known; locked = locked; has_line = false; unanswered = false; lost = false; answered = standing.Whole; code = standing.Whole; settled = standing.Whole; moved = false; jog_moved = false; jogged = false; line = l })
     first (sent ++ (map a_text lines ++ a_stop ∷ [])) replies (records ++ kinds.Mark (ResetMark k) ∷ [])) (sym new)
     (part_reset j k dropped alarm locked lines w state first sent replies records s may count locked_is state_is here))

@@ -1,11 +1,10 @@
 -- A machine that is found by the error that is told of a line.
 use Rattle.std.proofs.Common.{◌≡◌, ℕ, Bool, true, false, List, [], ◌∷◌, length, nat_eq, nat_lt, inl, inr, refl, sym, ◌∙◌}
 use Rattle.system_lines.specs.Commands.{kind_of, refused_in_run}
-use Rattle.run_rules.specs.declared.machine.Machine.TheVariants.{Stands, Runs, Jogs}
+use Rattle.run_rules.specs.declared.machine.Machine.TheVariants.{Runs, Jogs}
 use Rattle.run_rules.specs.Finding.{refuses, ByKeptFound, Found}
 use Rattle.run_rules.specs.Outcomes.{Before, Becomes, ByKept, ByDollar, ByCode, has_cause, begins_with_dollar, either, most_kept}
 use Rattle.run_rules.specs.Work.{Outcome}
-use Rattle.run_rules.proofs.Finding.{becomes_still}
 
 -- what holds of one choice holds of both
 pub on_either : (t : Bool) (A B C D : Type 0) → (t ≡ true → A → C) → (t ≡ false → B → D) → either t A B → either t C D
@@ -31,9 +30,6 @@ kept_on b (c ∷ cs) o is = on_either (nat_eq c 36) _ _ _ _ (λ e. dollar_on b (
 
 pub still_may : (b : Before) (kept : List ℕ) (o : Outcome) → Becomes false b kept o → Becomes true b kept o
 still_may b kept o is = on_either (nat_lt most_kept (length kept)) _ _ _ _ (λ e x. x) (λ e. kept_on b kept o) is
-
-pub stands_becomes : (b : Before) (kept : List ℕ) (o : Outcome) → Found Stands b kept o → Becomes true b kept o
-stands_becomes b kept o is = still_may b kept o (becomes_still b kept o is)
 
 -- error 8
 busy_kept : (b : Before) (kept : List ℕ) (o : Outcome) → begins_with_dollar kept ≡ true → refused_in_run (kind_of kept) ≡ true → has_cause b (kind_of kept) ≡ true → ByKeptFound Runs b kept o → ByKept true b kept o

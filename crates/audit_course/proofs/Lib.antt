@@ -4,6 +4,7 @@ pub mod Outcomes
 pub mod Forced
 pub mod Finding
 pub mod Counting
+pub mod Standing
 pub mod Passing
 pub mod Beginning
 pub mod Parting

@@ -1,5 +1,5 @@
 -- Before the first line.
-use Rattle.std.proofs.Common.{◌≡◌, ℕ, ◌+◌, pos, Bool, true, false, not, ◌&&◌, ◌||◌, List, [], ◌++◌, refl, sym, ap, ◌∙◌, subst, arith}
+use Rattle.std.proofs.Common.{◌≡◌, ℕ, ◌+◌, pos, Bool, true, false, ◌||◌, List, [], ◌++◌, refl, sym, ap, ◌∙◌, subst, arith}
 use Rattle.std.specs.List.{AllByRecursion}
 use Rattle.flight.specs.Places.{origin}
 use Rattle.status_report.specs.declared.Reply.{Reply}
@@ -17,6 +17,7 @@ use Rattle.run_texts.specs.Points.{opening}
 use Rattle.run_texts.proofs.Making.{begins}
 use Rattle.audit_course.specs.declared.Progress.{Progress}
 use Rattle.audit_course.specs.declared.judge.CourseJudge.{CourseJudge}
+use Rattle.audit_course.specs.declared.ticks.Ticks.TheVariants as standing
 use Rattle.audit_course.specs.Progressing.{has_ticks, has_halt, ends_none, IsNew}
 use Rattle.audit_course.specs.SoFar.{GoesTo, HasJudged}
 use Rattle.audit_course.proofs.Ending.{moved_before}
@@ -36,8 +37,9 @@ opened w state part line = record {
   touched = false;
   lost = false;
   in_hand = false;
-  jogs = true;
-  unsettled = true;
+  answered = standing.Whole;
+  code = standing.Whole;
+  settled = standing.Whole;
   moved = false;
   jog_moved = false;
   jogged = false;
@@ -68,6 +70,7 @@ opens_so_far first w state part line state_is work number left part_is new settl
     alarmed = refl;
     unheld = λ e. refl;
     none = λ e. record { none = refl; settles = settles; code = code; jog = jog };
+    held = λ e. absurd cc;
     are = tt;
   };
   since = [];
@@ -82,7 +85,9 @@ opens_so_far first w state part line state_is work number left part_is new settl
   loses_some = λ e. absurd cc;
   is_made = subst (λ (k : Known). IsMade [] [] (making k [] [])) (sym part_is) begins;
   untouched = λ u t. absurd cc;
-  loses = record { closed = []; others = []; split = refl; over = omega arith; jogs = λ e. tt; unsettled = λ e. tt };
+  owes_behind = λ u. absurd cc;
+  touched = λ u. absurd cc;
+  knows = record { before = []; split = refl; answered = omega arith; code = omega arith; settled = omega arith };
   alarm = λ e. absurd cc;
   calm = λ e. refl;
   at_hand = λ e. ap has_halt left;

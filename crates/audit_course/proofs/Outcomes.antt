@@ -1,5 +1,5 @@
 -- What becomes of a line, and what its tasks say of it.
-use Rattle.std.proofs.Common.{◌≡◌, ℕ, Bool, true, false, List, [], ◌∷◌, ◌++◌, length, nat_eq, nat_lt, append_assoc, refl, sym, ap, ◌∙◌, subst}
+use Rattle.std.proofs.Common.{◌≡◌, ℕ, true, false, List, [], ◌∷◌, ◌++◌, length, nat_eq, nat_lt, refl, sym, subst}
 use Rattle.std.specs.List.{AllByRecursion}
 use Rattle.gcode_check.specs.declared.Accept.{Accept as Accepted}
 use Rattle.status_report.specs.declared.Message.TheVariants.{Unlocked}

@@ -1,9 +1,10 @@
 -- A judge takes records, and ends a part.
-use Rattle.std.proofs.Common.{◌≡◌, ◌≤◌, ℕ, ◌+◌, Bool, true, false, not, ◌&&◌, ◌||◌, List, [], ◌∷◌, ◌++◌, length, append-nil, append_assoc, length-append, refl, sym, ap, ◌∙◌, subst, arith}
+use Rattle.std.proofs.Common.{◌≡◌, ◌≤◌, ℕ, ◌+◌, Bool, true, false, cond, not, ◌&&◌, ◌||◌, List, [], ◌∷◌, ◌++◌, length, append-nil, append_assoc, length-append, refl, sym, ap, ◌∙◌, subst, IsTrue, arith}
 use Rattle.std.specs.List.{AllByRecursion}
 use Rattle.std.proofs.lemmas.List.Elements.{filter-append}
 use Rattle.units.specs.declared.Steps3.{Steps3}
 use Rattle.flight.specs.Places.{moved_by, origin}
+use Rattle.flight.proofs.Places.{moved_on}
 use Rattle.legal_heads.specs.Whole.{events_among}
 use Rattle.status_report.specs.declared.Reply.{Reply}
 use Rattle.step_line.specs.Asking.{ticks_of_all, ticks_among}
@@ -15,19 +16,23 @@ use Rattle.run_rules.specs.declared.State.{State}
 use Rattle.run_rules.specs.Work.{Task, Outcome, asks, has_moves, accepted_code, accepted_jog}
 use Rattle.line_interpreter.specs.Desks.{kind_told}
 use Rattle.line_interpreter.specs.Interpreting.{Interpreting}
-use Rattle.part_making.specs.Judging.{Known, Goes, making, rest_of, all_ticks}
+use Rattle.part_making.specs.Judging.{Known, Goes, making, rest_of, all_ticks, owed_of}
+use Rattle.run_rules.specs.Reports.{settles}
 use Rattle.run_texts.specs.Making.{IsMade}
+use Rattle.run_texts.specs.Recorded.{ticks_for_all}
 use Rattle.run_texts.specs.Parts.{is_ending}
 use Rattle.run_texts.specs.Points.{Point, opening}
 use Rattle.run_texts.specs.Sent.{Sent}
-use Rattle.part_making.proofs.Ending.{entered}
 use Rattle.part_making.proofs.Refused.{made_on}
-use Rattle.audit_course.proofs.Counting.{cuts_behind, moved_on}
+use Rattle.audit_course.proofs.Counting.{cuts_behind}
 use Rattle.audit_course.proofs.Forced.{behind_made}
+use Rattle.audit_course.proofs.Standing.{made_counted, are_taken, taken_more, ticks_closed, whole_has}
 use Rattle.audit_course.specs.declared.Progress.{Progress}
 use Rattle.audit_course.specs.declared.judge.CourseJudge.{CourseJudge}
-use Rattle.audit_course.specs.Progressing.{has_ticks, has_halt, ends_none, moved_now, fresh}
-use Rattle.audit_course.specs.SoFar.{GoesTo, HasJudged, OfLine, IsNoLine, MayLose, IsIdle, left_to_tell}
+use Rattle.audit_course.specs.declared.ticks.Ticks.{Ticks}
+use Rattle.audit_course.specs.declared.ticks.Ticks.TheVariants as standing
+use Rattle.audit_course.specs.Progressing.{has_ticks, has_halt, ends_none, is_code, is_whole, behind_record, ticks_to, moved_now, fresh}
+use Rattle.audit_course.specs.SoFar.{GoesTo, HasJudged, KnowsTicks, AreSo, AreNow, OfLine, IsNoLine, OwesBehind, IsIdle, left_to_tell}
 
 -- ---- a record
 
@@ -36,6 +41,10 @@ more_ticks made r =
     let both : ticks_among (made ++ r ∷ []) ≡ ticks_among made ++ ticks_among (r ∷ []) = filter-append is_tick made (r ∷ []) in
     let long = ap length both ∙ length-append (ticks_among made) (ticks_among (r ∷ [])) in
     omega (arith, long)
+
+or_none : (b : Bool) → (b || false) ≡ b
+or_none true = refl
+or_none false = refl
 
 -- It does not change what the line says; a judge that differs in these fields alone.
 same_line : (j k : CourseJudge) (p : Point) (hand : List Outcome) → OfLine j p hand → k.work ≡ j.work → k.line ≡ j.line → k.moved ≡ j.moved → k.jog_moved ≡ j.jog_moved → k.jogged ≡ j.jogged → k.unanswered ≡ j.unanswered → k.in_hand ≡ j.in_hand → OfLine k p hand
@@ -53,9 +62,18 @@ same_line j k p hand o work line moved jog_moved jogged unanswered in_hand = rec
   jogged = o.jogged ∙ sym jogged;
   alarmed = o.alarmed ∙ ap (λ (b : Bool). not b && o.limit) (sym unanswered);
   unheld = λ e. o.unheld (sym unanswered ∙ e);
+  held = λ e u. o.held (sym in_hand ∙ e) (sym unanswered ∙ u);
   none = λ e. subst (λ (l : Progress). IsNoLine l hand) (sym line) (o.none (sym in_hand ∙ e));
   are = subst (λ (l : Progress). AllByRecursion (λ (x : Outcome). (x.work ≡ o.work) × (x.settles ≡ l.settles) × (x.kind ≡ kind_told l.accepted)) hand) (sym line) o.are;
 }
+
+pub was_no : (b : Bool) → not b ≡ true → b ≡ false
+was_no true e = absurd cc
+was_no false e = refl
+
+pub was_yes : (b : Bool) → not b ≡ false → IsTrue b
+was_yes true e = refl
+was_yes false e = absurd cc
 
 goes_inside : (k now : Known) (r : Record) → Goes k r now → is_ending r ≡ false
 goes_inside k now (kinds.Event b) g = refl
@@ -63,10 +81,12 @@ goes_inside k now (kinds.Head h) g = refl
 goes_inside k now (kinds.Mark m) g = (g [] []).inside
 goes_inside k now kinds.End g = absurd (g [] [])
 
-pub record_taken : (j : CourseJudge) (r : Record) (part : Known) (place : Steps3) (events : ℕ) (first : State) (sent : List Sent) (replies : List Reply) (records : List Record) → HasJudged j first sent replies records
+pub record_taken : (j : CourseJudge) (r : Record) (part : Known) (place : Steps3) (events : ℕ) (touched idle : Bool) (answered code settled : Ticks) (first : State) (sent : List Sent) (replies : List Reply) (records : List Record) → HasJudged j first sent replies records
     → Goes j.part r part → place ≡ moved_by j.place (r ∷ []) → events ≡ j.events + length (events_among (r ∷ []))
-    → HasJudged (record j { part = part; place = place; events = events; touched = true }) first sent replies (records ++ r ∷ [])
-record_taken j r part place events first sent replies records s goes here count = record {
+    → (idle ≡ true → owed_of part ≡ []) → (idle ≡ false → owed_of part ≡ [] → ⊥) → touched ≡ (j.touched || is_whole j.answered)
+    → answered ≡ behind_record idle j.answered → code ≡ behind_record idle j.code → settled ≡ behind_record idle j.settled
+    → HasJudged (record j { part = part; place = place; events = events; touched = touched; answered = answered; code = code; settled = settled }) first sent replies (records ++ r ∷ [])
+record_taken j r part place events touched idle answered code settled first sent replies records s goes here count none some touched_is answered_is code_is settled_is = record {
   point = s.point;
   number = s.number;
   state = s.state;
@@ -75,7 +95,7 @@ record_taken j r part place events first sent replies records s goes here count 
   has_line = s.has_line;
   unanswered = s.unanswered;
   hand = s.hand;
-  line = same_line j (record j { part = part; place = place; events = events; touched = true }) s.point s.hand s.line refl refl refl refl refl refl refl;
+  line = same_line j (record j { part = part; place = place; events = events; touched = touched; answered = answered; code = code; settled = settled }) s.point s.hand s.line refl refl refl refl refl refl refl;
   since = s.since;
   begun = s.begun;
   none_begun = s.none_begun;
@@ -87,14 +107,18 @@ record_taken j r part place events first sent replies records s goes here count 
   asked = s.asked;
   loses_some = s.loses_some;
   is_made = made_on (s.since ++ s.begun) s.made j.part part s.ticks s.moves r s.is_made goes;
-  untouched = λ u e. absurd cc;
-  loses = record {
-    closed = s.loses.closed;
-    others = s.loses.others;
-    split = s.loses.split;
-    over = (let few = s.loses.over in let more = more_ticks s.made r in omega (arith, few, more));
-    jogs = s.loses.jogs;
-    unsettled = s.loses.unsettled;
+  untouched = λ u e.
+      let o = both_no j.touched (is_whole j.answered) (sym touched_is ∙ e) in
+      let b = behind u o.1 in
+      record { making = making part b.ticks b.moves; is = b.is; out = refl; head = refl };
+  owes_behind = λ u e. behind u (still j.answered idle (sym (ap is_whole answered_is) ∙ e));
+  touched = λ u e. let all = before_all u e in record { all = omega (arith, all, more); behind = λ out. let one = taken_more j.part part s.made r goes out in omega (arith, all, one) };
+  knows = record {
+    before = s.knows.before;
+    split = s.knows.split;
+    answered = subst (λ (t : Ticks). AreSo t (length (ticks_for_all s.knows.before)) part j.lost (s.made ++ r ∷ [])) (sym answered_is) (are_taken j.answered (length (ticks_for_all s.knows.before)) j.part part j.lost s.made r idle s.knows.answered none some more sum);
+    code = subst (λ (t : Ticks). AreSo t (ticks_to is_code s.knows.before) part j.lost (s.made ++ r ∷ [])) (sym code_is) (are_taken j.code (ticks_to is_code s.knows.before) j.part part j.lost s.made r idle s.knows.code none some more sum);
+    settled = subst (λ (t : Ticks). AreSo t (ticks_to settles s.knows.before) part j.lost (s.made ++ r ∷ [])) (sym settled_is) (are_taken j.settled (ticks_to settles s.knows.before) j.part part j.lost s.made r idle s.knows.settled none some more sum);
   };
   alarm = s.alarm;
   calm = s.calm;
@@ -112,37 +136,52 @@ record_taken j r part place events first sent replies records s goes here count 
       subst (λ (rs : List Record). GoesTo s.point s.since s.begun s.from n more told rs last) (sym (append_assoc s.made (r ∷ []) rest))
       (s.forth n more told (r ∷ rest) last (record { late = behind_made j.work.number (r ∷ []) rest (goes_inside j.part part r goes, tt) may.late; resets = may.resets })
       (subst (λ (rs : List Record). GoesTo (opening first) [] [] origin (n + j.cuts) (sent ++ more) (replies ++ (left_to_tell j ++ told)) rs last) (append_assoc records (r ∷ []) rest) g));
-}
+} where
+  more : length (ticks_among s.made) ≤ length (ticks_among (s.made ++ r ∷ []))
+  more = more_ticks s.made r
+
+  is_made_now : IsMade (s.since ++ s.begun) (s.made ++ r ∷ []) (making part s.ticks s.moves)
+  is_made_now = made_on (s.since ++ s.begun) s.made j.part part s.ticks s.moves r s.is_made goes
+
+  sum : length (ticks_among (s.made ++ r ∷ [])) + length (owed_of part) ≡ length (ticks_among s.made) + length (owed_of j.part)
+  sum =
+      let before = made_counted (s.since ++ s.begun) s.made j.part s.ticks s.moves s.is_made in
+      let behind = made_counted (s.since ++ s.begun) (s.made ++ r ∷ []) part s.ticks s.moves is_made_now in
+      omega (arith, before, behind)
+
+  both_no : (a b : Bool) → (a || b) ≡ false → (a ≡ false) × (b ≡ false)
+  both_no true b e = absurd cc
+  both_no false b e = (refl, e)
+
+  still : (t : Ticks) (idle : Bool) → is_whole (behind_record idle t) ≡ false → is_whole t ≡ false
+  still standing.Whole true e = absurd cc
+  still standing.Whole false e = absurd cc
+  still standing.Owed idle e = refl
+  still standing.Lost idle e = refl
+
+  -- what the part owes is of the answered lines
+  behind : j.unanswered ≡ true → is_whole j.answered ≡ false → OwesBehind s.since (s.made ++ r ∷ []) part
+  behind u e = let b = s.owes_behind u e in record { ticks = b.ticks; moves = b.moves; is = made_on s.since s.made j.part part b.ticks b.moves r b.is goes }
+
+  answered_all : j.unanswered ≡ true → s.knows.before ≡ s.since
+  answered_all u = sym (s.knows.split ∙ ap (λ (os : List Outcome). s.knows.before ++ os) (s.line.unheld u) ∙ append-nil s.knows.before)
+
+  -- and once a record is of another line, they have all of theirs
+  before_all : j.unanswered ≡ true → touched ≡ true → length (ticks_for_all s.since) ≤ length (ticks_among s.made)
+  before_all u e = by (is_whole j.answered) refl where
+    by : (w : Bool) → is_whole j.answered ≡ w → length (ticks_for_all s.since) ≤ length (ticks_among s.made)
+    by true w = subst (λ (os : List Outcome). length (ticks_for_all os) ≤ length (ticks_among s.made)) (answered_all u) (whole_has j.answered (length (ticks_for_all s.knows.before)) j.part j.lost s.made s.knows.answered w)
+    by false w = (s.touched u (sym (or_none j.touched) ∙ ap (λ (b : Bool). j.touched || b) (sym w) ∙ sym touched_is ∙ e)).all
 
 -- ---- the line at hand is over
 
-by_and : (a b : Bool) → (a && b) ≡ true → (a ≡ true) × (b ≡ true)
-by_and true b e = (refl, e)
-by_and false b e = absurd cc
-
-by_not : (b : Bool) → not b ≡ true → b ≡ false
-by_not true e = absurd cc
-by_not false e = refl
-
-or_none : (b : Bool) → (b || false) ≡ b
-or_none true = refl
-or_none false = refl
-
--- the lines at hand join those of which ticks may be left out
-all_join : {A : Type 0} (P : A → Type 0) (xs ys : List A) → AllByRecursion P xs → AllByRecursion P ys → AllByRecursion P (xs ++ ys)
-all_join P [] ys a b = b
-all_join P (x ∷ xs) ys a b = (a.0, all_join P xs ys a.1 b)
-
-all_by : {A : Type 0} (P Q : A → Type 0) → ((x : A) → P x → Q x) → (xs : List A) → AllByRecursion P xs → AllByRecursion Q xs
-all_by P Q f [] a = tt
-all_by P Q f (x ∷ xs) a = (f x a.0, all_by P Q f xs a.1)
-
--- that goes on behind a line that is over, where nothing is owed or what may be left out is told
-pub line_closed : (j : CourseJudge) (l : Progress) (moved jog_moved jogs unsettled : Bool) (first : State) (sent : List Sent) (replies : List Reply) (records : List Record) (s : HasJudged j first sent replies records)
+-- that goes on behind a line that is over, with what is known of the ticks of all lines
+pub line_closed : (j : CourseJudge) (l : Progress) (moved jog_moved : Bool) (answered code settled : Ticks) (first : State) (sent : List Sent) (replies : List Reply) (records : List Record) (s : HasJudged j first sent replies records)
     → j.work.left ≡ [] → l ≡ fresh j.line.halts
     → moved ≡ moved_now (accepted_code (kind_told j.line.accepted)) j.line j.moved → jog_moved ≡ moved_now (accepted_jog (kind_told j.line.accepted)) j.line j.jog_moved
-    → ((made : MayLose (record j { jogs = jogs; unsettled = unsettled }) s.since [] s.made) → HasJudged (record j { line = l; in_hand = false; moved = moved; jog_moved = jog_moved; jogs = jogs; unsettled = unsettled }) first sent replies records)
-line_closed j l moved jog_moved jogs unsettled first sent replies records s done new is_moved is_jog loses = record {
+    → (j.unanswered ≡ true → is_whole answered ≡ false → OwesBehind s.since s.made j.part) → KnowsTicks (record j { answered = answered; code = code; settled = settled }) s.since [] s.made
+    → HasJudged (record j { line = l; in_hand = false; moved = moved; jog_moved = jog_moved; answered = answered; code = code; settled = settled }) first sent replies records
+line_closed j l moved jog_moved answered code settled first sent replies records s done new is_moved is_jog behind knows = record {
   point = s.point;
   number = s.number;
   state = s.state;
@@ -166,6 +205,7 @@ line_closed j l moved jog_moved jogs unsettled first sent replies records s done
     alarmed = s.line.alarmed;
     unheld = λ e. refl;
     none = λ e. subst (λ (p : Progress). IsNoLine p []) (sym new) (record { none = refl; settles = refl; code = refl; jog = refl });
+    held = λ e. absurd cc;
     are = tt;
   };
   since = s.since;
@@ -180,7 +220,9 @@ line_closed j l moved jog_moved jogs unsettled first sent replies records s done
   loses_some = s.loses_some;
   is_made = s.is_made;
   untouched = s.untouched;
-  loses = record { closed = loses.closed; others = loses.others; split = loses.split; over = loses.over; jogs = loses.jogs; unsettled = loses.unsettled };
+  owes_behind = behind;
+  touched = s.touched;
+  knows = record { before = knows.before; split = knows.split; answered = knows.answered; code = knows.code; settled = knows.settled };
   alarm = s.alarm;
   calm = s.calm;
   at_hand = λ e. ap has_halt done;
@@ -205,68 +247,27 @@ idle_owes j first sent replies records s i =
     let n = none_of (rest_of j.part.latest) (all_ticks j.part.next) i.none in
     ap (λ (rs : List Record). rs ++ (all_ticks j.part.next ++ s.ticks)) n.0 ∙ ap (λ (rs : List Record). rs ++ s.ticks) n.1 ∙ ticks
 
-bare : (j : CourseJudge) (first : State) (sent : List Sent) (replies : List Reply) (records : List Record) (s : HasJudged j first sent replies records) → j.unanswered ≡ false → IsMade s.since s.made (making j.part s.ticks s.moves)
-bare j first sent replies records s answered =
-    subst (λ (os : List Outcome). IsMade os s.made (making j.part s.ticks s.moves)) (ap (λ (os : List Outcome). s.since ++ os) (s.none_begun answered) ∙ append-nil s.since) s.is_made
-
--- then no line has lost a tick
-pub idle_loses : (j : CourseJudge) (jogs unsettled : Bool) (first : State) (sent : List Sent) (replies : List Reply) (records : List Record) (s : HasJudged j first sent replies records) → IsIdle j
-    → MayLose (record j { jogs = jogs; unsettled = unsettled }) s.since [] s.made
-idle_loses j jogs unsettled first sent replies records s i = record {
-  closed = s.since;
-  others = [];
-  split = sym (append-nil (s.since ++ []) ∙ append-nil s.since);
-  over = entered s.since s.made (making j.part s.ticks s.moves) (bare j first sent replies records s i.answered) (idle_owes j first sent replies records s i);
-  jogs = λ e. tt;
-  unsettled = λ e. tt;
-}
-
--- and else the line at hand may have
-pub other_loses : (j : CourseJudge) (first : State) (sent : List Sent) (replies : List Reply) (records : List Record) (s : HasJudged j first sent replies records) → j.work.left ≡ []
-    → MayLose (record j { jogs = j.jogs && (j.unanswered || (accepted_jog (kind_told j.line.accepted) || not j.line.asks)); unsettled = j.unsettled && not j.line.settles }) s.since [] s.made
-other_loses j first sent replies records s done = record {
-  closed = s.loses.closed;
-  others = s.loses.others ++ s.hand;
-  split = s.loses.split ∙ append_assoc s.loses.closed s.loses.others s.hand ∙ sym (append-nil (s.loses.closed ++ (s.loses.others ++ s.hand)));
-  over = s.loses.over;
-  jogs = λ e.
-      let b = by_and j.jogs (j.unanswered || (accepted_jog (kind_told j.line.accepted) || not j.line.asks)) e in
-      all_join (λ o. (accepted_jog o.kind || not (has_ticks o.work)) ≡ true) s.loses.others s.hand (s.loses.jogs b.0) (by_jogs j.unanswered refl b.1);
-  unsettled = λ e.
-      let b = by_and j.unsettled (not j.line.settles) e in
-      all_join (λ o. o.settles ≡ false) s.loses.others s.hand (s.loses.unsettled b.0) (all_by _ (λ o. o.settles ≡ false) (λ o is. is.1 ∙ by_not j.line.settles b.1) s.hand s.line.are);
-} where
-  ticks : j.line.asks ≡ has_ticks s.line.work
-  ticks = sym (or_none j.line.asks) ∙ ap (λ (ts : List Task). j.line.asks || has_ticks ts) (sym done) ∙ s.line.ticks
-
-  by_jogs : (u : Bool) → j.unanswered ≡ u → (u || (accepted_jog (kind_told j.line.accepted) || not j.line.asks)) ≡ true → AllByRecursion (λ o. (accepted_jog o.kind || not (has_ticks o.work)) ≡ true) s.hand
-  by_jogs true u e = subst (λ (os : List Outcome). AllByRecursion (λ (o : Outcome). (accepted_jog o.kind || not (has_ticks o.work)) ≡ true) os) (sym (s.line.unheld u)) tt
-  by_jogs false u e = all_by _ (λ o. (accepted_jog o.kind || not (has_ticks o.work)) ≡ true)
-      (λ o is. ap (λ k. accepted_jog k || not (has_ticks o.work)) is.2 ∙ ap (λ (ts : List Task). accepted_jog (kind_told j.line.accepted) || not (has_ticks ts)) is.0
-      ∙ ap (λ (t : Bool). accepted_jog (kind_told j.line.accepted) || not t) (sym ticks) ∙ e) s.hand s.line.are
-
-pub or_first : (a b : Bool) → (a || b) ≡ false → a ≡ false
-or_first true b e = absurd cc
-or_first false b e = refl
-
 -- ---- as the code has it
 
-abbrev jogs_now : CourseJudge → Bool → Bool
-jogs_now j idle = idle || (j.jogs && (j.unanswered || (accepted_jog (kind_told j.line.accepted) || not j.line.asks)))
-
-abbrev unsettled_now : CourseJudge → Bool → Bool
-unsettled_now j idle = idle || (j.unsettled && not j.line.settles)
-
-loses_by : (j : CourseJudge) (idle : Bool) (first : State) (sent : List Sent) (replies : List Reply) (records : List Record) (s : HasJudged j first sent replies records) → j.work.left ≡ [] → (idle ≡ true → IsIdle j)
-    → MayLose (record j { jogs = jogs_now j idle; unsettled = unsettled_now j idle }) s.since [] s.made
-loses_by j true first sent replies records s done is = idle_loses j true true first sent replies records s (is refl)
-loses_by j false first sent replies records s done is = other_loses j first sent replies records s done
-
-pub closes : (j : CourseJudge) (idle : Bool) (l : Progress) (moved jog_moved jogs unsettled : Bool) (first : State) (sent : List Sent) (replies : List Reply) (records : List Record) → HasJudged j first sent replies records
-    → j.work.left ≡ [] → (idle ≡ true → IsIdle j) → l ≡ fresh j.line.halts → jogs ≡ jogs_now j idle → unsettled ≡ unsettled_now j idle
+pub closes : (j : CourseJudge) (now : Ticks) (l : Progress) (moved jog_moved : Bool) (answered code settled : Ticks) (first : State) (sent : List Sent) (replies : List Reply) (records : List Record) → HasJudged j first sent replies records
+    → j.work.left ≡ [] → AreNow now j → l ≡ fresh j.line.halts
+    → answered ≡ cond ((j.in_hand && not j.unanswered) && true) now j.answered
+    → code ≡ cond ((j.in_hand && not j.unanswered) && (not (accepted_jog (kind_told j.line.accepted)) && j.line.asks)) now j.code
+    → settled ≡ cond ((j.in_hand && not j.unanswered) && j.line.settles) now j.settled
     → moved ≡ moved_now (accepted_code (kind_told j.line.accepted)) j.line j.moved → jog_moved ≡ moved_now (accepted_jog (kind_told j.line.accepted)) j.line j.jog_moved
-    → HasJudged (record j { line = l; in_hand = false; moved = moved; jog_moved = jog_moved; jogs = jogs; unsettled = unsettled }) first sent replies records
-closes j idle l moved jog_moved jogs unsettled first sent replies records s done is new jogs_is unsettled_is moved_is jog_is =
-    line_closed j l moved jog_moved jogs unsettled first sent replies records s done new moved_is jog_is
-    (subst (λ (b : Bool). MayLose (record j { jogs = b; unsettled = unsettled }) s.since [] s.made) (sym jogs_is)
-    (subst (λ (b : Bool). MayLose (record j { jogs = jogs_now j idle; unsettled = b }) s.since [] s.made) (sym unsettled_is) (loses_by j idle first sent replies records s done is)))
+    → HasJudged (record j { line = l; in_hand = false; moved = moved; jog_moved = jog_moved; answered = answered; code = code; settled = settled }) first sent replies records
+closes j now l moved jog_moved answered code settled first sent replies records s done stands new answered_is code_is settled_is moved_is jog_is =
+    line_closed j l moved jog_moved answered code settled first sent replies records s done new moved_is jog_is
+    (λ u e. s.owes_behind u (sym (ap is_whole (answered_is ∙ ap (λ (b : Bool). cond b now j.answered) (not_here j.in_hand j.unanswered u))) ∙ e))
+    (subst (λ (x : Ticks). KnowsTicks (record j { answered = x; code = code; settled = settled }) s.since [] s.made) (sym answered_is)
+    (subst (λ (x : Ticks). KnowsTicks (record j { answered = cond ((j.in_hand && not j.unanswered) && true) now j.answered; code = x; settled = settled }) s.since [] s.made) (sym code_is)
+    (subst (λ (x : Ticks). KnowsTicks (record j {
+      answered = cond ((j.in_hand && not j.unanswered) && true) now j.answered;
+      code = cond ((j.in_hand && not j.unanswered) && (not (accepted_jog (kind_told j.line.accepted)) && j.line.asks)) now j.code;
+      settled = x;
+    }) s.since [] s.made) (sym settled_is)
+    (ticks_closed j now first sent replies records s done stands j.in_hand j.unanswered refl refl)))) where
+      not_here : (b u : Bool) → u ≡ true → ((b && not u) && true) ≡ false
+      not_here true true e = refl
+      not_here true false e = absurd cc
+      not_here false u e = refl

@@ -1,35 +1,40 @@
 -- What is refused: no texts fit that go on by it.
-use Rattle.std.proofs.Common.{◌≡◌, ℕ, ◌+◌, Bool, true, false, not, ◌&&◌, List, [], ◌∷◌, ◌++◌, append-nil, append_assoc, refl, sym, ap, ◌∙◌, subst, ◌≤◌, arith}
+use Rattle.std.proofs.Common.{◌≡◌, ℕ, ◌+◌, Bool, true, false, cond, List, [], ◌∷◌, ◌++◌, length, length-append, append-nil, append_assoc, refl, sym, ap, ◌∙◌, subst, ◌≤◌, arith}
 use Rattle.std.specs.List.{list_any}
 use Rattle.legal_heads.specs.Speeds.{MayStop}
 use Rattle.flight.specs.Places.{origin}
 use Rattle.status_report.specs.declared.Reply.{Reply}
+use Rattle.step_line.specs.Asking.{ticks_among}
 use Rattle.step_line.specs.declared.Record.{Record}
 use Rattle.step_line.specs.declared.Record.TheVariants as kinds
 use Rattle.step_line.specs.declared.Mark.TheVariants as marks
 use Rattle.run_rules.specs.declared.State.{State}
-use Rattle.part_making.specs.Judging.{Known, Refuses, making, rest_of, all_ticks, owed_of, coming_of, head_of}
+use Rattle.part_making.specs.Judging.{Refuses, making, rest_of, all_ticks, coming_of}
+use Rattle.part_making.proofs.Ending.{entered, settled_made}
 use Rattle.part_making.proofs.Refused.{never_made}
 use Rattle.run_rules.specs.Outcomes.{either}
 use Rattle.line_interpreter.specs.Interpreting.{Interpreting}
 use Rattle.run_rules.specs.Reports.{raises_alarm}
-use Rattle.run_rules.specs.Work.{Outcome}
+use Rattle.run_rules.specs.Work.{Outcome, tells}
+use Rattle.run_rules.specs.Cuts.{LosesJogsAlone}
 use Rattle.run_texts.specs.Courses.{Passed, Follows}
 use Rattle.run_texts.specs.Courses.Passed.{a_line, a_broken, a_cut, a_reset}
 use Rattle.run_texts.specs.Left.{behind_lines}
-use Rattle.run_texts.specs.Making.{Making, IsMade}
-use Rattle.run_texts.specs.Recorded.{AreRecorded}
+use Rattle.run_texts.specs.Making.{Making, IsMade, with_line}
+use Rattle.run_texts.specs.Recorded.{AreRecorded, ticks_for_all, settled_ticks}
 use Rattle.run_texts.specs.Parts.{parts_of, ending_record, is_ending, lines_counted}
 use Rattle.run_texts.specs.Parts.Ending.{by_cut, by_end}
 use Rattle.run_texts.specs.Points.{Point, IsPassed, IsBroken, opening}
 use Rattle.run_texts.specs.Sent.{Sent}
-use Rattle.run_texts.proofs.Making.{finished}
+use Rattle.run_texts.proofs.Making.{finished, line_made}
 use Rattle.run_texts.proofs.OneMaking.{one_making}
 use Rattle.run_texts.proofs.Stops.{same_split}
 use Rattle.audit_course.specs.declared.judge.CourseJudge.{CourseJudge}
-use Rattle.audit_course.specs.SoFar.{GoesTo, HasJudged, IsIdle, MayFollow, RefusesLine, left_to_tell}
-use Rattle.audit_course.proofs.Ending.{calm_point, point_halts, to_tell}
+use Rattle.audit_course.specs.Progressing.{is_code, ticks_to}
+use Rattle.audit_course.specs.SoFar.{GoesTo, HasJudged, IsClosed, IsIdle, MayCut, MayEnd, MayFollow, RefusesEnd, RefusesLine, RefusesRecord, left_to_tell}
+use Rattle.audit_course.proofs.Ending.{calm_line, code_is, point_halts, settled_are, to_tell}
 use Rattle.audit_course.proofs.Parting.{none_of}
+use Rattle.audit_course.proofs.Standing.{is_whole_so, jogs_to}
 use Rattle.audit_course.proofs.Forced.{broken_too_late, cut_is, first_ending, line_too_late}
 use Rattle.audit_course.proofs.FirstPart.{IsMadeOf, ending_ends, first_part, front_made, holds_front, made_behind}
 
@@ -60,57 +65,64 @@ second : (t : Bool) (A B : Type 0) → t ≡ false → either t A B → B
 second true A B e x = absurd cc
 second false A B e x = x
 
-no_halt : (u h : Bool) → h ≡ false → (not u && h) ≡ false
-no_halt true h e = refl
-no_halt false h e = e
+both_ways : (t : Bool) (A B C : Type 0) → either t A B → (A → C) → (B → C) → C
+both_ways true A B C is f g = f is
+both_ways false A B C is f g = g is
+
+-- where nothing is owed and lost, all is
+idle_by : (j : CourseJudge) (first : State) (sent : List Sent) (replies : List Reply) (records : List Record) (s : HasJudged j first sent replies records) → j.work.left ≡ [] → j.unanswered ≡ false → (making j.part s.ticks s.moves).owed ≡ [] → IsIdle j
+idle_by j first sent replies records s done answered none =
+    let rest = none_of (rest_of j.part.latest) (all_ticks j.part.next ++ s.ticks) none in
+    let next = none_of (all_ticks j.part.next) s.ticks rest.1 in
+    record { done = done; none = ap (λ (rs : List Record). rs ++ all_ticks j.part.next) rest.0 ∙ next.0; kept = kept s.ticks next.1 s.loses_some j.lost refl; answered = answered } where
+      kept : (ticks : List Record) → ticks ≡ [] → (j.lost ≡ true → ticks ≡ [] → ⊥) → (lost : Bool) → j.lost ≡ lost → lost ≡ false
+      kept ticks none some true is = absurd (some is none)
+      kept ticks none some false is = refl
 
 never_ends : (j : CourseJudge) (first : State) (sent : List Sent) (replies : List Reply) (records : List Record) (s : HasJudged j first sent replies records) (last : Point) (ps : List Passed)
-    → j.work.left ≡ [] → j.unanswered ≡ false → j.line.halts ≡ false → (coming_of j.part.latest ≡ [] → MayStop (head_of j.part.latest) → IsIdle j → ⊥)
+    → IsClosed j → j.unanswered ≡ false → (MayEnd j → ⊥)
     → Follows s.point [] ps last → AreRecorded s.from (behind_lines s.since s.begun (parts_of ps)) (s.made ++ kinds.End ∷ []) → ⊥
-never_ends j first sent replies records s last (a_line o ∷ ps) done answered halts not_so f are = f
-never_ends j first sent replies records s last (a_broken o ∷ ps) done answered halts not_so f are = f
-never_ends j first sent replies records s last (a_cut k at ∷ ps) done answered halts not_so f are =
+never_ends j first sent replies records s last (a_line o ∷ ps) closed answered not_so f are = f
+never_ends j first sent replies records s last (a_broken o ∷ ps) closed answered not_so f are = f
+never_ends j first sent replies records s last (a_cut k at ∷ ps) closed answered not_so f are =
     let same = same_split s.made are.0 [] are.1 kinds.End (kinds.Mark (marks.Cut k)) s.is_made.inside are.3.inside refl refl are.2 in absurd (let g = same.ending in cc)
-never_ends j first sent replies records s last (a_reset r ∷ ps) done answered halts not_so f are =
+never_ends j first sent replies records s last (a_reset r ∷ ps) closed answered not_so f are =
     let same = same_split s.made are.0 [] are.1 kinds.End (kinds.Mark (marks.Reset r.number)) s.is_made.inside are.3.inside refl refl are.2 in absurd (let g = same.ending in cc)
-never_ends j first sent replies records s last [] done answered halts not_so f are =
+never_ends j first sent replies records s last [] closed answered not_so f are =
     let same = same_split s.made are.0 [] are.1 kinds.End kinds.End s.is_made.inside are.3.inside refl refl are.2 in
     let whole = finished s.from (record { lines = s.since ++ []; begun = s.begun ++ []; ending = by_end }) are.0 are.3 in
     let lines : (s.since ++ []) ++ (s.begun ++ []) ≡ s.since ++ s.begun = ap (λ (os : List Outcome). os ++ (s.begun ++ [])) (append-nil s.since) ∙ ap (λ (os : List Outcome). s.since ++ os) (append-nil s.begun) in
     let is : IsMade (s.since ++ s.begun) s.made whole.making =
     subst (λ (rs : List Record). IsMade (s.since ++ s.begun) rs whole.making) (sym same.front) (subst (λ (os : List Outcome). IsMade os are.0 whole.making) lines whole.is) in
     let m : whole.making ≡ making j.part s.ticks s.moves = one_making (s.since ++ s.begun) s.made whole.making (making j.part s.ticks s.moves) is s.is_made in
-    let calm : list_any raises_alarm (s.since ++ []) ≡ false =
-    ap (list_any raises_alarm) (append-nil s.since) ∙ s.calm (calm_point j s.point s.hand s.line done (no_halt j.unanswered j.line.halts halts)) in
-    let owed : rest_of j.part.latest ++ (all_ticks j.part.next ++ s.ticks) ≡ [] = sym (ap (λ (x : Making). x.owed) m) ∙ second (list_any raises_alarm (s.since ++ [])) _ _ calm whole.may.2 in
-    let rest = none_of (rest_of j.part.latest) (all_ticks j.part.next ++ s.ticks) owed in
-    let next = none_of (all_ticks j.part.next) s.ticks rest.1 in
-    let none : owed_of j.part ≡ [] = ap (λ (rs : List Record). rs ++ all_ticks j.part.next) rest.0 ∙ next.0 in
-    not_so (sym (ap (λ (x : Making). x.coming) m) ∙ whole.may.0) (subst MayStop (ap (λ (x : Making). x.latest) m) whole.may.1)
-    (record { done = done; none = none; kept = kept s.ticks next.1 s.loses_some j.lost refl; answered = answered }) where
-      kept : (ticks : List Record) → ticks ≡ [] → (j.lost ≡ true → ticks ≡ [] → ⊥) → (lost : Bool) → j.lost ≡ lost → lost ≡ false
-      kept ticks none some true is = absurd (some is none)
-      kept ticks none some false is = refl
+    let bare : IsMade s.since s.made (making j.part s.ticks s.moves) = subst (λ (os : List Outcome). IsMade os s.made (making j.part s.ticks s.moves)) (ap (λ (os : List Outcome). s.since ++ os) (s.none_begun answered) ∙ append-nil s.since) s.is_made in
+    let few : settled_ticks s.since ≤ length (ticks_among s.made) =
+    both_ways (list_any raises_alarm (s.since ++ [])) _ _ (settled_ticks s.since ≤ length (ticks_among s.made)) whole.may.2
+    (λ settled. subst (λ (rs : List Record). settled_ticks s.since ≤ length (ticks_among rs)) (sym same.front) (subst (λ (os : List Outcome). settled_ticks os ≤ length (ticks_among are.0)) (append-nil s.since) settled))
+    (λ none. settled_made s.since s.made (entered s.since s.made (making j.part s.ticks s.moves) bare (sym (ap (λ (x : Making). x.owed) m) ∙ none))) in
+    let settled = is_whole_so j.settled (settled_ticks s.since) j.part j.lost s.made (settled_are j s.since s.hand s.made s.knows (s.line.none closed.closed).none) few in
+    not_so (record {
+      ends = closed;
+      answered = answered;
+      out = sym (ap (λ (x : Making). x.coming) m) ∙ whole.may.0;
+      may = subst MayStop (ap (λ (x : Making). x.latest) m) whole.may.1;
+      settled = settled;
+      none = λ halts.
+          let calm : list_any raises_alarm (s.since ++ []) ≡ false = ap (list_any raises_alarm) (append-nil s.since) ∙ s.calm (point_halts j s.point s.hand s.line closed.done answered ∙ halts) in
+          idle_by j first sent replies records s closed.done answered (sym (ap (λ (x : Making). x.owed) m) ∙ second (list_any raises_alarm (s.since ++ [])) _ _ calm whole.may.2);
+    })
 
-pub never_over : (j : CourseJudge) (first : State) (sent : List Sent) (replies : List Reply) (records : List Record) → HasJudged j first sent replies records
-    → j.work.left ≡ [] → j.unanswered ≡ false → j.line.halts ≡ false → (coming_of j.part.latest ≡ [] → MayStop (head_of j.part.latest) → IsIdle j → ⊥)
-    → (n : ℕ) (last : Point) → GoesTo (opening first) [] [] origin (n + j.cuts) sent replies (records ++ kinds.End ∷ []) last → ⊥
-never_over j first sent replies records s done answered halts not_so n last g =
-    let told : replies ≡ replies ++ (left_to_tell j ++ []) = sym (ap (λ (rs : List Reply). replies ++ (rs ++ [])) (to_tell j done) ∙ append-nil replies) in
-    let here = s.forth n [] [] (kinds.End ∷ []) last (record { late = tt; resets = λ u. absurd (let f : false ≡ true = sym answered ∙ u in cc) })
-    (subst (λ (ss : List Sent). GoesTo (opening first) [] [] origin (n + j.cuts) ss (replies ++ (left_to_tell j ++ [])) (records ++ kinds.End ∷ []) last) (sym (append-nil sent))
-    (subst (λ (rs : List Reply). GoesTo (opening first) [] [] origin (n + j.cuts) sent rs (records ++ kinds.End ∷ []) last) told g)) in
-    never_ends j first sent replies records s last here.course done answered halts not_so here.follows here.recorded
-
--- as the code has it
-pub not_by : (old now : CourseJudge) → now.work ≡ old.work → now.part ≡ old.part → now.lost ≡ old.lost → now.unanswered ≡ old.unanswered
-    → (now.unsettled ≡ false → IsIdle old → ⊥) → (now.unsettled ≡ true → coming_of now.part.latest ≡ [] → MayStop (head_of now.part.latest) → IsIdle now → ⊥)
-    → coming_of old.part.latest ≡ [] → MayStop (head_of old.part.latest) → IsIdle old → ⊥
-not_by old now work part lost unanswered unsettled settled out may idle = by now.unsettled refl where
-  by : (u : Bool) → now.unsettled ≡ u → ⊥
-  by false u = unsettled u idle
-  by true u = settled u (ap (λ (k : Known). coming_of k.latest) part ∙ out) (subst (λ (k : Known). MayStop (head_of k.latest)) (sym part) may)
-      (record { done = ap (λ (i : Interpreting). i.left) work ∙ idle.done; none = ap owed_of part ∙ idle.none; kept = lost ∙ idle.kept; answered = unanswered ∙ idle.answered })
+pub never_over : (old mid : CourseJudge)
+    → ((first : State) (sent : List Sent) (replies : List Reply) (records : List Record) → HasJudged old first sent replies records → HasJudged mid first sent replies records)
+    → mid.work ≡ old.work → mid.cuts ≡ old.cuts → IsClosed mid → mid.unanswered ≡ false → (MayEnd mid → ⊥) → RefusesEnd old
+never_over old mid stays work cuts closed answered not_so first sent replies records s n last g =
+    let here = stays first sent replies records s in
+    let told : replies ≡ replies ++ (left_to_tell mid ++ []) = sym (ap (λ (rs : List Reply). replies ++ (rs ++ [])) (to_tell mid closed.done) ∙ append-nil replies) in
+    let on = here.forth n [] [] (kinds.End ∷ []) last (record { late = tt; resets = λ u. absurd (let f : false ≡ true = sym answered ∙ u in cc) })
+    (subst (λ (c : ℕ). GoesTo (opening first) [] [] origin (n + c) (sent ++ []) (replies ++ (left_to_tell mid ++ [])) (records ++ kinds.End ∷ []) last) (sym cuts)
+    (subst (λ (ss : List Sent). GoesTo (opening first) [] [] origin (n + old.cuts) ss (replies ++ (left_to_tell mid ++ [])) (records ++ kinds.End ∷ []) last) (sym (append-nil sent))
+    (subst (λ (rs : List Reply). GoesTo (opening first) [] [] origin (n + old.cuts) sent rs (records ++ kinds.End ∷ []) last) told g))) in
+    never_ends mid first sent replies records here last on.course closed answered not_so on.follows on.recorded
 
 -- ---- a line
 
@@ -124,37 +136,80 @@ none_begins j done halts first sent replies records s kept o = by j.unanswered r
 
 -- ---- a cut
 
+-- lines more leave what is made, but for what is owed
+pub record MadeWith (lines : List Outcome) (made : List Record) (m : Making) : Type 0 where
+  pub making : Making
+  pub is : IsMade lines made making
+  pub coming : making.coming ≡ m.coming
+  pub latest : making.latest ≡ m.latest
+
+made_with : (lines more : List Outcome) (made : List Record) (m : Making) → IsMade lines made m → MadeWith (lines ++ more) made m
+made_with lines [] made m is = record { making = m; is = subst (λ (os : List Outcome). IsMade os made m) (sym (append-nil lines)) is; coming = refl; latest = refl }
+made_with lines (o ∷ more) made m is =
+    let on = made_with (lines ++ o ∷ []) more made (with_line o m) (line_made lines made m o is) in
+    record { making = on.making; is = subst (λ (os : List Outcome). IsMade os made on.making) (append_assoc lines (o ∷ []) more) on.is; coming = on.coming; latest = on.latest }
+
+-- what is made of the answered lines has no tick of another one
+untouched_by : (j : CourseJudge) (first : State) (sent : List Sent) (replies : List Reply) (records : List Record) (s : HasJudged j first sent replies records) (m : Making) → IsMade s.since s.made m → coming_of j.part.latest ≡ []
+    → j.unanswered ≡ true → j.touched ≡ false
+untouched_by j first sent replies records s m is out u = by j.touched refl where
+  by : (b : Bool) → j.touched ≡ b → j.touched ≡ false
+  by false e = e
+  by true e =
+      let less = (s.touched u e).behind out in
+      let all : length (ticks_for_all s.since) ≡ length (ticks_among s.made) + length m.owed = ap length is.ticks ∙ length-append (ticks_among s.made) m.owed in
+      absurd (omega (arith, less, all))
+
 never_cut_by : (j : CourseJudge) (k : ℕ) (first : State) (sent : List Sent) (replies : List Reply) (records : List Record) (s : HasJudged j first sent replies records) (more : List Sent) (rest : List Record) (last : Point) (ps : List Passed)
-    → j.work.left ≡ [] → j.unanswered ≡ false → j.work.number ≡ k + 1 → (j.line.halts ≡ false → j.has_line ≡ true → coming_of j.part.latest ≡ [] → MayStop (head_of j.part.latest) → ⊥)
+    → IsClosed j → j.work.number ≡ k + 1 → (MayCut j k → ⊥)
     → Follows s.point more ps last → AreRecorded s.from (behind_lines s.since s.begun (parts_of ps)) (s.made ++ kinds.Mark (marks.Cut k) ∷ rest) → ⊥
-never_cut_by j k first sent replies records s more rest last [] done answered number not_so f are =
+never_cut_by j k first sent replies records s more rest last [] closed number not_so f are =
     let same = same_split s.made are.0 rest are.1 (kinds.Mark (marks.Cut k)) kinds.End s.is_made.inside are.3.inside refl refl are.2 in absurd (let g = same.ending in cc)
-never_cut_by j k first sent replies records s more rest last (a_reset r ∷ ps) done answered number not_so f are =
+never_cut_by j k first sent replies records s more rest last (a_reset r ∷ ps) closed number not_so f are =
     let same = same_split s.made are.0 rest are.1 (kinds.Mark (marks.Cut k)) (kinds.Mark (marks.Reset r.number)) s.is_made.inside are.3.inside refl refl are.2 in absurd (let g = same.ending in cc)
-never_cut_by j k first sent replies records s more rest last (a_line o ∷ ps) done answered number not_so f are =
+never_cut_by j k first sent replies records s more rest last (a_line o ∷ ps) closed number not_so f are =
     let g = first_part s.from s.since s.begun (a_line o ∷ ps) (s.made ++ kinds.Mark (marks.Cut k) ∷ rest) are in
     let same = same_split s.made g.mine rest g.behind (kinds.Mark (marks.Cut k)) (ending_record g.part.ending) s.is_made.inside g.is.inside refl (ending_ends g.part.ending) g.split in
     let is = cut_is k g.part.ending same.ending in
     line_too_late s.point last more o ps g.part.ending f (ap first_ending g.parts) is.0 (s.number ∙ number ∙ ap (λ (m : ℕ). m + 1) (sym is.1))
-never_cut_by j k first sent replies records s more rest last (a_broken o ∷ ps) done answered number not_so f are =
+never_cut_by j k first sent replies records s more rest last (a_broken o ∷ ps) closed number not_so f are =
     let g = first_part s.from s.since s.begun (a_broken o ∷ ps) (s.made ++ kinds.Mark (marks.Cut k) ∷ rest) are in
     let same = same_split s.made g.mine rest g.behind (kinds.Mark (marks.Cut k)) (ending_record g.part.ending) s.is_made.inside g.is.inside refl (ending_ends g.part.ending) g.split in
     let is = cut_is k g.part.ending same.ending in
     broken_too_late s.point last more o ps g.part.ending f (ap first_ending g.parts) is.0 (s.number ∙ number ∙ ap (λ (m : ℕ). m + 1) (sym is.1))
-never_cut_by j k first sent replies records s more rest last (a_cut i at ∷ ps) done answered number not_so f are =
+never_cut_by j k first sent replies records s more rest last (a_cut i at ∷ ps) closed number not_so f are =
     let same = same_split s.made are.0 rest are.1 (kinds.Mark (marks.Cut k)) (kinds.Mark (marks.Cut i)) s.is_made.inside are.3.inside refl refl are.2 in
     let whole = finished s.from (record { lines = s.since ++ []; begun = s.begun ++ []; ending = by_cut i at }) are.0 are.3 in
-    let lines : (s.since ++ []) ++ [] ≡ s.since ++ s.begun = append-nil (s.since ++ []) ∙ ap (λ (os : List Outcome). s.since ++ os) (sym (s.none_begun answered)) in
-    let is : IsMade (s.since ++ s.begun) s.made whole.making =
-    subst (λ (rs : List Record). IsMade (s.since ++ s.begun) rs whole.making) (sym same.front) (subst (λ (os : List Outcome). IsMade os are.0 whole.making) lines whole.is) in
-    let m : whole.making ≡ making j.part s.ticks s.moves = one_making (s.since ++ s.begun) s.made whole.making (making j.part s.ticks s.moves) is s.is_made in
-    not_so (sym (point_halts j s.point s.hand s.line done answered) ∙ f.0.free) (sym s.has_line ∙ f.0.has_line)
-    (sym (ap (λ (x : Making). x.coming) m) ∙ whole.may.0) (subst MayStop (ap (λ (x : Making). x.latest) m) whole.may.1)
+    let lines : (s.since ++ []) ++ [] ≡ s.since = append-nil (s.since ++ []) ∙ append-nil s.since in
+    let bare : IsMade s.since s.made whole.making =
+    subst (λ (rs : List Record). IsMade s.since rs whole.making) (sym same.front) (subst (λ (os : List Outcome). IsMade os are.0 whole.making) lines whole.is) in
+    let with_begun = made_with s.since s.begun s.made whole.making bare in
+    let m : with_begun.making ≡ making j.part s.ticks s.moves = one_making (s.since ++ s.begun) s.made with_begun.making (making j.part s.ticks s.moves) with_begun.is s.is_made in
+    let out : coming_of j.part.latest ≡ [] = sym (ap (λ (x : Making). x.coming) m) ∙ with_begun.coming ∙ whole.may.0 in
+    let loses : LosesJogsAlone (length (ticks_among s.made)) s.since =
+    subst (λ (rs : List Record). LosesJogsAlone (length (ticks_among rs)) s.since) (sym same.front) (subst (LosesJogsAlone (length (ticks_among are.0))) lines whole.may.2) in
+    let code = is_whole_so j.code (ticks_to is_code s.since) j.part j.lost s.made (code_is j s.since s.hand s.made s.knows (s.line.none closed.closed).none) (jogs_to s.since (length (ticks_among s.made)) loses) in
+    not_so (record {
+      ends = closed;
+      untouched = untouched_by j first sent replies records s whole.making bare out;
+      calm = calm_line j s.point s.hand s.line closed.done f.0.free;
+      has_line = sym s.has_line ∙ f.0.has_line;
+      number = number;
+      out = out;
+      may = subst MayStop (sym with_begun.latest ∙ ap (λ (x : Making). x.latest) m) whole.may.1;
+      code = code;
+    })
 
-pub never_cut : (j : CourseJudge) (k : ℕ) (first : State) (sent : List Sent) (replies : List Reply) (records : List Record) → HasJudged j first sent replies records
-    → j.work.left ≡ [] → j.unanswered ≡ false → j.work.number ≡ k + 1 → (j.line.halts ≡ false → j.has_line ≡ true → coming_of j.part.latest ≡ [] → MayStop (head_of j.part.latest) → ⊥)
-    → (n : ℕ) (more : List Sent) (told : List Reply) (rest : List Record) (last : Point) → MayFollow j told (kinds.Mark (marks.Cut k) ∷ rest)
-    → GoesTo (opening first) [] [] origin (n + j.cuts) (sent ++ more) (replies ++ (left_to_tell j ++ told)) (records ++ kinds.Mark (marks.Cut k) ∷ rest) last → ⊥
-never_cut j k first sent replies records s done answered number not_so n more told rest last may g =
-    let here = s.forth n more told (kinds.Mark (marks.Cut k) ∷ rest) last may g in
-    never_cut_by j k first sent replies records s more rest last here.course done answered number not_so here.follows here.recorded
+pub never_cut : (old mid : CourseJudge) (k : ℕ)
+    → ((first : State) (sent : List Sent) (replies : List Reply) (records : List Record) → HasJudged old first sent replies records → HasJudged mid first sent replies records)
+    → mid.work ≡ old.work → mid.unanswered ≡ old.unanswered → mid.cuts ≡ old.cuts → IsClosed mid → k + 1 ≤ old.work.number → (MayCut mid k → ⊥) → RefusesRecord old (kinds.Mark (marks.Cut k))
+never_cut old mid k stays work unanswered cuts closed late not_so first sent replies records s n more told rest last may g =
+    let here = stays first sent replies records s in
+    let same : left_to_tell mid ≡ left_to_tell old = ap (λ (u : Bool). cond u [] (tells mid.work.left)) unanswered ∙ ap (λ (i : Interpreting). cond old.unanswered [] (tells i.left)) work in
+    let soon : old.work.number ≤ k + 1 = may.late in
+    let number : mid.work.number ≡ k + 1 = ap (λ (i : Interpreting). i.number) work ∙ (let e : old.work.number ≡ k + 1 = omega (arith, late, soon) in e) in
+    let on = here.forth n more told (kinds.Mark (marks.Cut k) ∷ rest) last
+    (record { late = subst (λ (i : Interpreting). i.number ≤ k + 1) (sym work) soon; resets = λ u. may.resets (sym unanswered ∙ u) })
+    (subst (λ (c : ℕ). GoesTo (opening first) [] [] origin (n + c) (sent ++ more) (replies ++ (left_to_tell mid ++ told)) (records ++ kinds.Mark (marks.Cut k) ∷ rest) last) (sym cuts)
+    (subst (λ (rs : List Reply). GoesTo (opening first) [] [] origin (n + old.cuts) (sent ++ more) (replies ++ (rs ++ told)) (records ++ kinds.Mark (marks.Cut k) ∷ rest) last) (sym same) g)) in
+    never_cut_by mid k first sent replies records here more rest last on.course closed number not_so on.follows on.recorded

@@ -1,32 +1,19 @@
 -- What a task says of a line.
-use Rattle.std.proofs.Common.{◌≡◌, Bool, true, false, ◌||◌, List, [], ◌∷◌, refl, subst}
-use Rattle.step_line.specs.Asking.Asked.{a_move, a_mark, a_rest}
-use Rattle.step_line.specs.Asking.{ticks_of_all}
+use Rattle.std.proofs.Common.{◌≡◌, Bool, true, false, ◌||◌, List, refl, subst}
+use Rattle.step_line.specs.Asking.Asked.{a_rest}
 use Rattle.step_line.specs.declared.Mark.{Mark}
-use Rattle.run_rules.specs.Work.{Task, asks}
-use Rattle.run_rules.specs.Work.Task.{ask, tell, pause, normal, finish, halt}
+use Rattle.run_rules.specs.Work.{Task}
+use Rattle.run_rules.specs.Work.Task.{ask, tell, pause, normal, finish}
 use Rattle.line_interpreter.specs.Lefts.{IsNextOf, IsTodo}
 use Rattle.line_interpreter.specs.declared.tasks.Todo.{Todo}
 use Rattle.line_interpreter.specs.declared.tasks.Todo.TheVariants as todos
 use Rattle.status_report.specs.declared.Reply.{Reply}
 use Rattle.audit_course.specs.declared.Progress.{Progress}
-use Rattle.audit_course.specs.Progressing.{has_ticks, Counts}
+use Rattle.audit_course.specs.Progressing.{Counts}
 
 pub or_on : (a b c : Bool) → ((a || b) || c) ≡ (a || (b || c))
 or_on true b c = refl
 or_on false b c = refl
-
--- without ticks to ask for
-pub none_asked : (ts : List Task) → has_ticks ts ≡ false → ticks_of_all (asks ts) ≡ []
-none_asked [] e = refl
-none_asked (tell r ∷ ts) e = none_asked ts e
-none_asked (ask (a_move m) ∷ ts) e = absurd cc
-none_asked (ask (a_mark m) ∷ ts) e = absurd cc
-none_asked (ask a_rest ∷ ts) e = none_asked ts e
-none_asked (pause ∷ ts) e = none_asked ts e
-none_asked (normal ∷ ts) e = none_asked ts e
-none_asked (finish ∷ ts) e = none_asked ts e
-none_asked (halt ∷ ts) e = none_asked ts e
 
 -- a reply that is told says nothing of a line
 or_none : (b : Bool) → b ≡ (b || false)

@@ -1,5 +1,5 @@
 -- A course so far, as its judge knows it.
-use Rattle.std.specs.Prelude.{◌≡◌, ◌≤◌, ℕ, ◌+◌, Bool, true, false, cond, not, nat_eq, ◌&&◌, ◌||◌, List, [], ◌∷◌, ◌++◌, length, map}
+use Rattle.std.specs.Prelude.{◌≡◌, ◌≤◌, ◌<◌, ℕ, ◌+◌, Bool, true, false, cond, not, nat_eq, ◌&&◌, ◌||◌, List, [], ◌∷◌, ◌++◌, length, map}
 use Rattle.std.specs.List.{AllByRecursion, list_any, count_by}
 use Rattle.std.specs.declared.option.Option.{Option}
 use Rattle.units.specs.declared.Steps3.{Steps3}
@@ -15,11 +15,11 @@ use Rattle.step_line.specs.declared.planned_move.PlannedMove.{PlannedMove}
 use Rattle.run_rules.specs.declared.State.{State}
 use Rattle.run_rules.specs.declared.machine.Machine.{Machine}
 use Rattle.run_rules.specs.Finding.{Found}
-use Rattle.run_rules.specs.Reports.{raises_alarm}
+use Rattle.run_rules.specs.Reports.{raises_alarm, settles}
 use Rattle.run_rules.specs.Work.{Task, Outcome, tells, asks, has_moves, accepted_code, accepted_jog}
 use Rattle.line_interpreter.specs.Desks.{kind_told}
 use Rattle.legal_heads.specs.Speeds.{MayStop}
-use Rattle.part_making.specs.Judging.{Traced, making, owed_of, coming_of, head_of}
+use Rattle.part_making.specs.Judging.{Known, Traced, making, owed_of, coming_of, head_of}
 use Rattle.run_texts.specs.Courses.{Passed, Follows, cuts_in}
 use Rattle.run_texts.specs.Left.{behind_lines}
 use Rattle.run_texts.specs.Making.{Making, IsMade}
@@ -32,8 +32,10 @@ use Rattle.run_texts.specs.Told.{told_in}
 use Rattle.audit_course.specs.declared.MotionError.{MotionError}
 use Rattle.audit_course.specs.declared.MotionError.TheVariants as errors
 use Rattle.audit_course.specs.declared.Progress.{Progress}
+use Rattle.audit_course.specs.declared.ticks.Ticks.{Ticks}
+use Rattle.audit_course.specs.declared.ticks.Ticks.TheVariants as standing
 use Rattle.audit_course.specs.declared.judge.CourseJudge.{CourseJudge}
-use Rattle.audit_course.specs.Progressing.{has_ticks, has_halt, ends_none}
+use Rattle.audit_course.specs.Progressing.{has_ticks, has_halt, ends_none, is_code, is_whole, ticks_to}
 
 -- What is left of texts that fit goes on to this point, from another one on: `GoesOn` of `run_texts`, with the point told.
 pub record GoesTo (p : Point) (since begun : List Outcome) (place : Steps3) (cuts : ℕ) (sent : List Sent) (replies : List Reply) (records : List Record) (last : Point) : Type 0 where
@@ -85,18 +87,32 @@ pub record OfLine (j : CourseJudge) (p : Point) (hand : List Outcome) : Type 0 w
   pub alarmed : p.before.alarmed ≡ (not j.unanswered && limit)
   pub unheld : j.unanswered ≡ true → hand ≡ []
   pub none : j.in_hand ≡ false → IsNoLine j.line hand
+  pub held : j.in_hand ≡ true → j.unanswered ≡ false → (o : Outcome) × (hand ≡ o ∷ [])
   pub are : AllByRecursion (λ o. (o.work ≡ work) × (o.settles ≡ j.line.settles) × (o.kind ≡ kind_told j.line.accepted)) hand
 
 -- ---- the part
 
--- Of the lines of a part the first have all their ticks; of the others but the last what may be left out is known.
-pub record MayLose (j : CourseJudge) (since hand : List Outcome) (made : List Record) : Type 0 where
-  pub closed : List Outcome
-  pub others : List Outcome
-  pub split : since ≡ (closed ++ others) ++ hand
-  pub over : length (ticks_for_all closed) ≤ length (ticks_among made)
-  pub jogs : j.jogs ≡ true → AllByRecursion (λ o. (accepted_jog o.kind || not (has_ticks o.work)) ≡ true) others
-  pub unsettled : j.unsettled ≡ true → AllByRecursion (λ o. o.settles ≡ false) others
+-- Of the ticks of the first lines of a part, n in all, these records have each; or they lack the last, which the part owes, or
+-- which is lost behind all that the part owes.
+abbrev pub AreSo : Ticks → ℕ → Known → Bool → List Record → Type 0
+AreSo standing.Whole n part lost made = n ≤ length (ticks_among made)
+AreSo standing.Owed n part lost made = (n ≡ length (ticks_among made) + length (owed_of part)) × (0 < length (owed_of part))
+AreSo standing.Lost n part lost made = (length (ticks_among made) + length (owed_of part) < n) × (lost ≡ true)
+
+-- Of the answered lines of a part before the one at hand it is known how their ticks stand: of all of them, up to the last that
+-- is no jog and asks for some, and up to the last that settles.
+pub record KnowsTicks (j : CourseJudge) (since hand : List Outcome) (made : List Record) : Type 0 where
+  pub before : List Outcome
+  pub split : since ≡ before ++ hand
+  pub answered : AreSo j.answered (length (ticks_for_all before)) j.part j.lost made
+  pub code : AreSo j.code (ticks_to is_code before) j.part j.lost made
+  pub settled : AreSo j.settled (ticks_to settles before) j.part j.lost made
+
+-- how the ticks of all lines stand, where all that they ask for is asked of the part, or lost
+abbrev pub AreNow : Ticks → CourseJudge → Type 0
+AreNow standing.Whole j = (j.lost ≡ false) × (owed_of j.part ≡ [])
+AreNow standing.Owed j = (j.lost ≡ false) × (owed_of j.part ≡ [] → ⊥)
+AreNow standing.Lost j = j.lost ≡ true
 
 -- This is made of the answered lines alone, and this is its last head: no record is of another line.
 pub record IsBare (since : List Outcome) (made : List Record) (latest : Option Traced) : Type 0 where
@@ -104,6 +120,17 @@ pub record IsBare (since : List Outcome) (made : List Record) (latest : Option T
   pub is : IsMade since made making
   pub out : making.coming ≡ coming_of latest
   pub head : making.latest ≡ head_of latest
+
+-- This is made of the answered lines, and what is known of the part is owed of them alone.
+pub record OwesBehind (since : List Outcome) (made : List Record) (part : Known) : Type 0 where
+  pub ticks : List Record
+  pub moves : List PlannedMove
+  pub is : IsMade since made (making part ticks moves)
+
+-- A record is of a line behind the answered ones, which have all their ticks. Once its last head is out a tick of it is recorded.
+pub record IsTouched (since : List Outcome) (made : List Record) (latest : Option Traced) : Type 0 where
+  pub all : length (ticks_for_all since) ≤ length (ticks_among made)
+  pub behind : coming_of latest ≡ [] → length (ticks_for_all since) < length (ticks_among made)
 
 -- ---- the one way on
 
@@ -158,7 +185,9 @@ pub record HasJudged (j : CourseJudge) (first : State) (sent : List Sent) (repli
   pub loses_some : j.lost ≡ true → ticks ≡ [] → ⊥
   pub is_made : IsMade (since ++ begun) made (making j.part ticks moves)
   pub untouched : j.unanswered ≡ true → j.touched ≡ false → IsBare since made j.part.latest
-  pub loses : MayLose j since hand made
+  pub owes_behind : j.unanswered ≡ true → is_whole j.answered ≡ false → OwesBehind since made j.part
+  pub touched : j.unanswered ≡ true → j.touched ≡ true → IsTouched since made j.part.latest
+  pub knows : KnowsTicks j since hand made
   pub alarm : point.before.alarmed ≡ true → list_any raises_alarm since ≡ true
   pub calm : point.before.alarmed ≡ false → list_any raises_alarm since ≡ false
   pub at_hand : j.in_hand ≡ false → has_halt j.work.left ≡ false
@@ -256,6 +285,11 @@ abbrev pub TellsFound : CourseJudge → CourseJudge → Machine → List ℕ →
 TellsFound j k machine kept =
     (first : State) (sent : List Sent) (replies : List Reply) (records : List Record) (s : HasJudged j first sent replies records) → (o : Outcome) × Found machine s.point.before kept o × (left_to_tell k ≡ tells o.work)
 
+-- what is left to do is the work of what the line becomes, by the rules
+abbrev pub HasWorkOf : CourseJudge → CourseJudge → Bool → List ℕ → Type 0
+HasWorkOf j k runs kept =
+    (first : State) (sent : List Sent) (replies : List Reply) (records : List Record) → HasJudged j first sent replies records → (p : Point) × (o : Outcome) × BecomesAt runs p kept o × (k.work.left ≡ o.work)
+
 -- Texts that begin with what it was told, have this line next, end no part before it, and tell first of it a reply that fits the
 -- error and that no reset tells, tell all that is left to tell of the line now.
 abbrev pub TellsAlone : CourseJudge → CourseJudge → MotionError → List ℕ → Type 0
@@ -312,14 +346,14 @@ pub record MayCut (j : CourseJudge) (k : ℕ) : Type 0 where
   pub number : j.work.number ≡ k + 1
   pub out : coming_of j.part.latest ≡ []
   pub may : MayStop (head_of j.part.latest)
-  pub jogs : j.jogs ≡ true
+  pub code : is_whole j.code ≡ true
 
 -- a reset may end a part behind line k, with or without its alarm
 pub record MayReset (j : CourseJudge) (k : ℕ) (alarm : Bool) : Type 0 where
   pub ends : IsClosed j
   pub calm : (not j.unanswered && j.line.halts) ≡ false
   pub number : k + 1 ≡ j.work.number
-  pub settled : j.unsettled ≡ true
+  pub settled : is_whole j.settled ≡ true
   pub cause : alarm ≡ true → (j.moved || j.jog_moved) ≡ true
 
 -- the end may come
@@ -328,5 +362,5 @@ pub record MayEnd (j : CourseJudge) : Type 0 where
   pub answered : j.unanswered ≡ false
   pub out : coming_of j.part.latest ≡ []
   pub may : MayStop (head_of j.part.latest)
-  pub settled : j.unsettled ≡ true
+  pub settled : is_whole j.settled ≡ true
   pub none : j.line.halts ≡ false → IsIdle j

@@ -7,9 +7,10 @@ ghost use Rattle.units.specs.Lengths.{IsPlace, IsCoordinate};
 ghost use Rattle.legal_heads.specs.Speeds.{MayStop};
 ghost use Rattle.part_making.specs.Judging.{coming_of, head_of};
 ghost use Rattle.line_interpreter.specs.Lefts.{greeting};
+ghost use Rattle.audit_course.specs.Progressing.{is_whole};
 ghost use Rattle.audit_course.specs.SoFar.{left_to_tell, BeginsPart, AddsRecord, AddsReset, EndsSoFar, RefusesEnd, RefusesRecord, RefusesReset, IsClosed, IsIdle, MayCut, MayReset, MayEnd};
 
-use crate::{CourseJudge, Progress};
+use crate::{CourseJudge, Progress, Ticks};
 use part_making::PartJudge;
 use units::Steps3;
 
@@ -36,10 +37,10 @@ fn locks(alarm: bool, was: bool) -> bool
 }
 
 impl CourseJudge {
-    /// Whether no record was told since the last line was begun, where that is not answered. A cut drops such a line whole.
+    /// Whether no record was told of the last line, where that is not answered. A cut drops such a line whole.
     fn is_untouched(&self) -> bool
         ensures is { result ≡ true → self.now.unanswered ≡ true → self.now.touched ≡ false }
-        ensures answered { self.now.unanswered ≡ false → result ≡ true }
+        ensures no { result ≡ false → (self.now.unanswered ≡ true → self.now.touched ≡ false) → ⊥ }
     {
         !self.unanswered || !self.touched
     }
@@ -57,10 +58,10 @@ impl CourseJudge {
     fn ends_jogs(&self, k: u32) -> bool
         ensures number { IsTrue result → self.now.work.number ≡ k + 1 }
         ensures has_line { IsTrue result → self.now.has_line ≡ true }
-        ensures jogs { IsTrue result → self.now.jogs ≡ true }
-        ensures no { result ≡ false → self.now.work.number ≡ k + 1 → self.now.has_line ≡ true → self.now.jogs ≡ true → ⊥ }
+        ensures code { IsTrue result → is_whole self.now.code ≡ true }
+        ensures no { result ≡ false → self.now.work.number ≡ k + 1 → self.now.has_line ≡ true → is_whole self.now.code ≡ true → ⊥ }
     {
-        u64::from(self.work.number()) == u64::from(k) + 1 && self.has_line && self.jogs
+        u64::from(self.work.number()) == u64::from(k) + 1 && self.has_line && self.code.is_whole()
     }
 
     /// Whether the machine can stop behind the last line, which has raised no alarm; if it is not answered, no record is of it.
@@ -69,7 +70,7 @@ impl CourseJudge {
         ensures may { IsTrue result → MayStop (head_of self.now.part.latest) }
         ensures untouched { IsTrue result → self.now.unanswered ≡ true → self.now.touched ≡ false }
         ensures calm { IsTrue result → (not self.now.unanswered && self.now.line.halts) ≡ false }
-        ensures no { result ≡ false → self.now.unanswered ≡ false → self.now.line.halts ≡ false → coming_of self.now.part.latest ≡ [] → MayStop (head_of self.now.part.latest) → ⊥ }
+        ensures no { result ≡ false → (self.now.unanswered ≡ true → self.now.touched ≡ false) → (not self.now.unanswered && self.now.line.halts) ≡ false → coming_of self.now.part.latest ≡ [] → MayStop (head_of self.now.part.latest) → ⊥ }
     {
         self.part.may_stop() && self.is_untouched() && !self.has_alarm()
     }
@@ -80,7 +81,7 @@ impl CourseJudge {
         ensures yes { IsTrue result → MayCut self.now k }
         ensures place { IsTrue result → IsPlace self.now.place }
         ensures few { IsTrue result → self.now.cuts + 1 < 2 ^ 32 }
-        ensures no { result ≡ false → self.now.unanswered ≡ false → self.now.work.number ≡ k + 1 → self.now.jogs ≡ true → self.now.line.halts ≡ false → self.now.has_line ≡ true → coming_of self.now.part.latest ≡ [] → MayStop (head_of self.now.part.latest) → IsPlace self.now.place → self.now.cuts + 1 < 2 ^ 32 → ⊥ }
+        ensures no { result ≡ false → IsPlace self.now.place → self.now.cuts + 1 < 2 ^ 32 → MayCut self.now k → ⊥ }
     {
         self.is_in_reach() && self.ends_jogs(k) && self.may_rest()
     }
@@ -101,15 +102,16 @@ impl CourseJudge {
         self.cuts += 1;
         self.has_line = false;
         self.lost = false;
-        self.jogs = true;
-        self.unsettled = true;
+        self.answered = Ticks::Whole;
+        self.code = Ticks::Whole;
+        self.settled = Ticks::Whole;
     }
 
-    /// The mark of a cut comes, behind this line: whether it may. The line may stay without its answer. If it may not, though that
-    /// is the last line, done and answered, and no tick is lost but of jogs, no texts fit that have this mark next; the machine is
-    /// in its range, and one more cut can be counted.
+    /// The mark of a cut comes, behind this line: whether it may. The line may stay without its answer. If it may not, though the
+    /// last line is done and that is no later one, no texts fit that have this mark next; the machine is in its range, and one
+    /// more cut can be counted.
     pub fn cut(&mut self, k: u32) -> bool
-        ensures no { result ≡ false → self.old.work.left ≡ [] → self.old.unanswered ≡ false → self.old.work.number ≡ k + 1 → IsPlace self.old.place → self.old.cuts + 1 < 2 ^ 32 → self.new.jogs ≡ true → RefusesRecord self.old (kinds.Mark (CutMark k)) }
+        ensures no { result ≡ false → self.old.work.left ≡ [] → k + 1 ≤ self.old.work.number → IsPlace self.old.place → self.old.cuts + 1 < 2 ^ 32 → RefusesRecord self.old (kinds.Mark (CutMark k)) }
         ensures yes { IsTrue result → AddsRecord self.old self.new (kinds.Mark (CutMark k)) }
         ensures work { self.new.work.left ≡ self.old.work.left }
         ensures done { IsTrue result → self.new.work.left ≡ [] }
@@ -151,12 +153,12 @@ impl CourseJudge {
         ensures yes { IsTrue result → MayReset self.now k alarm }
         ensures place { IsTrue result → IsPlace self.now.place }
         ensures few { IsTrue result → self.now.work.number + dropped < 2 ^ 32 }
-        ensures no { result ≡ false → self.now.work.number ≡ k + 1 → self.now.unsettled ≡ true → IsPlace self.now.place → self.now.work.number + dropped < 2 ^ 32 → (not self.now.unanswered && self.now.line.halts) ≡ false → (alarm ≡ true → (self.now.moved || self.now.jog_moved) ≡ true) → ⊥ }
+        ensures no { result ≡ false → IsPlace self.now.place → self.now.work.number + dropped < 2 ^ 32 → MayReset self.now k alarm → ⊥ }
     {
         self.can_drop(dropped)
             && !self.has_alarm()
             && u64::from(self.work.number()) == u64::from(k) + 1
-            && self.unsettled
+            && self.settled.is_whole()
             && self.has_moved_for(alarm)
     }
 
@@ -182,8 +184,9 @@ impl CourseJudge {
         self.has_line = false;
         self.unanswered = false;
         self.lost = false;
-        self.jogs = true;
-        self.unsettled = true;
+        self.answered = Ticks::Whole;
+        self.code = Ticks::Whole;
+        self.settled = Ticks::Whole;
         self.moved = false;
         self.jog_moved = false;
         self.jogged = false;
@@ -192,8 +195,7 @@ impl CourseJudge {
 
     /// A reset comes of the job, which drops so many lines that are not begun, and its mark, behind this line: whether it
     /// may. Then what is told at it is to be told, with or without the alarm. If it may not, though that is the last line, which is
-    /// done, and no tick is lost of a line up to the last that settles, no texts fit that have this reset next; the machine is in
-    /// its range, and the lines can be counted.
+    /// done, no texts fit that have this reset next; the machine is in its range, and the lines can be counted.
     pub fn reset(&mut self, k: u32, dropped: u32, alarm: bool) -> bool
         ensures yes { IsTrue result → AddsReset self.old self.new k dropped }
         ensures greets { IsTrue result → left_to_tell self.new ≡ greeting alarm (alarm || self.old.locked) }
@@ -201,7 +203,7 @@ impl CourseJudge {
         ensures answered { IsTrue result → self.new.unanswered ≡ false }
         ensures calm { IsTrue result → self.new.line.halts ≡ false }
         ensures begins { IsTrue result → BeginsPart self.new }
-        ensures no { result ≡ false → self.old.work.left ≡ [] → self.old.work.number ≡ k + 1 → IsPlace self.old.place → self.old.work.number + dropped < 2 ^ 32 → self.new.unsettled ≡ true → RefusesReset self.old k dropped alarm }
+        ensures no { result ≡ false → self.old.work.left ≡ [] → self.old.work.number ≡ k + 1 → IsPlace self.old.place → self.old.work.number + dropped < 2 ^ 32 → RefusesReset self.old k dropped alarm }
     {
         if !self.work.is_done() {
             return false;
@@ -246,23 +248,22 @@ impl CourseJudge {
     fn may_end(&self) -> bool
         requires { IsClosed self.now }
         ensures yes { IsTrue result → MayEnd self.now }
-        ensures no { result ≡ false → self.now.line.halts ≡ false → self.now.unanswered ≡ false → self.now.unsettled ≡ true → coming_of self.now.part.latest ≡ [] → MayStop (head_of self.now.part.latest) → IsIdle self.now → ⊥ }
+        ensures no { result ≡ false → MayEnd self.now → ⊥ }
     {
         !self.unanswered
             && self.part.may_stop()
-            && self.unsettled
+            && self.settled.is_whole()
             && (self.line.halts || self.is_idle())
     }
 
-    /// The end comes: whether it may. If not, and the last line is done and answered and has raised no alarm, no texts fit that
-    /// end here.
+    /// The end comes: whether it may. If not, and the last line is done and answered, no texts fit that end here.
     pub fn end(&mut self) -> bool
         ensures yes { IsTrue result → EndsSoFar self.old self.new }
         ensures number { self.new.work.number ≡ self.old.work.number }
         ensures cuts { self.new.cuts ≡ self.old.cuts }
         ensures unanswered { self.new.unanswered ≡ self.old.unanswered }
         ensures halts { self.new.line.halts ≡ self.old.line.halts }
-        ensures no { result ≡ false → self.old.work.left ≡ [] → self.old.unanswered ≡ false → self.old.line.halts ≡ false → RefusesEnd self.old }
+        ensures no { result ≡ false → self.old.work.left ≡ [] → self.old.unanswered ≡ false → RefusesEnd self.old }
     {
         if !self.work.is_done() {
             return false;

@@ -15,8 +15,8 @@ ghost use Rattle.line_interpreter.specs.Lefts.{IsNextOf, IsTodo};
 ghost use Rattle.audit_course.specs.Progressing.{Counts, IsNew};
 ghost use Rattle.audit_course.specs.SoFar.{HasJudged, AddsReply, MayBegin, SameLine, left_to_tell};
 
-use crate::Progress;
 use crate::valid::ValidState;
+use crate::{Progress, Ticks};
 use line_interpreter::{Accepted, Interpreter, Todo};
 use part_making::{Item, PartJudge};
 use status_report::Reply;
@@ -52,16 +52,18 @@ pub struct CourseJudge {
     pub(crate) has_line: bool,
     /// The last line is not answered.
     pub(crate) unanswered: bool,
-    /// A record was told since that line was begun.
+    /// A record of that line was told.
     pub(crate) touched: bool,
     /// Something that a line asks for is not recorded before the part ends.
     pub(crate) lost: bool,
     /// A line is at hand.
     pub(crate) in_hand: bool,
-    /// Of the lines before it those of which ticks are owed are jogs.
-    pub(crate) jogs: bool,
-    /// None of these settles.
-    pub(crate) unsettled: bool,
+    /// How the ticks of the answered lines before it stand: of all of them.
+    pub(crate) answered: Ticks,
+    /// Up to the last that is no jog and asks for some.
+    pub(crate) code: Ticks,
+    /// Up to the last that settles.
+    pub(crate) settled: Ticks,
     pub(crate) moved: bool,
     pub(crate) jog_moved: bool,
     pub(crate) jogged: bool,
@@ -148,8 +150,9 @@ impl CourseJudge {
             touched: false,
             lost: false,
             in_hand: false,
-            jogs: true,
-            unsettled: true,
+            answered: Ticks::Whole,
+            code: Ticks::Whole,
+            settled: Ticks::Whole,
             moved: false,
             jog_moved: false,
             jogged: false,

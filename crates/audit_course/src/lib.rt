@@ -8,10 +8,12 @@ mod judge;
 mod lines;
 mod machines;
 mod tasks;
+mod ticks;
 mod valid;
 
 pub use judge::{CourseJudge, Next};
 use line_interpreter::Accepted;
+pub(crate) use ticks::Ticks;
 
 /// What is known of the line at hand, by how it was judged and by its tasks so far.
 #[derive(Clone, Copy)]

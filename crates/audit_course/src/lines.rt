@@ -7,11 +7,11 @@ ghost use Rattle.run_texts.specs.Sent.Sent.{a_text};
 ghost use Rattle.line_interpreter.specs.Desks.{kind_told};
 ghost use Rattle.line_interpreter.specs.Keeping.{IsKept};
 ghost use Rattle.audit_course.specs.Progressing.{moved_now, fresh};
-ghost use Rattle.audit_course.specs.SoFar.{StaysSoFar, AddsSent, RefusesLine, MayBegin, IsIdle, FindsRight, FindsStill, TellsAlone, TellsFound};
+ghost use Rattle.audit_course.specs.SoFar.{StaysSoFar, AreNow, AddsSent, RefusesLine, MayBegin, IsIdle, FindsRight, FindsStill, TellsAlone, TellsFound, HasWorkOf};
 
 use crate::machines::unlocks;
 use crate::valid::ValidState;
-use crate::{CourseJudge, MotionError, Progress};
+use crate::{CourseJudge, MotionError, Progress, Ticks};
 use line_interpreter::{Accepted, KeptLine};
 use run_rules::Machine;
 
@@ -33,20 +33,6 @@ fn still_locked(was: bool, unlocked: bool) -> bool
     was && !unlocked
 }
 
-/// Whether this is so of the last line, or that is not answered.
-fn if_answered(unanswered: bool, is_so: bool) -> bool
-    ensures { result ≡ (unanswered || is_so) }
-{
-    unanswered || is_so
-}
-
-/// Whether something may be left out: where nothing is owed, or it may be of the lines before and of this one.
-fn may_lose(idle: bool, before: bool, here: bool) -> bool
-    ensures { result ≡ (idle || (before && here)) }
-{
-    idle || before && here
-}
-
 impl Progress {
     /// Whether it is a line of G-code.
     fn is_code(&self) -> bool
@@ -62,11 +48,11 @@ impl Progress {
         matches!(self.accepted, Accepted::Jog)
     }
 
-    /// Whether it asks for no ticks but those of a jog.
-    fn loses_jogs(&self) -> bool
-        ensures { result ≡ (accepted_jog (kind_told self.now.accepted) || not self.now.asks) }
+    /// Whether it asks for ticks and is no jog.
+    fn asks_for_code(&self) -> bool
+        ensures { result ≡ (not (accepted_jog (kind_told self.now.accepted)) && self.now.asks) }
     {
-        self.is_jog() || !self.asks
+        !self.is_jog() && self.asks
     }
 
     /// Whether lines of G-code have moved, or jogs have, up to it, since an answered line settled.
@@ -100,6 +86,26 @@ impl CourseJudge {
         !self.lost && !self.unanswered && self.part.is_idle()
     }
 
+    /// How the ticks of all lines stand, where all of the line at hand is done.
+    fn ticks_now(&self) -> Ticks
+        ensures { AreNow result self.now }
+    {
+        if self.lost {
+            return Ticks::Lost;
+        }
+        if self.owes() {
+            return Ticks::Owed;
+        }
+        Ticks::Whole
+    }
+
+    /// Whether a line is at hand that is answered.
+    fn has_answered(&self) -> bool
+        ensures { result ≡ (self.now.in_hand && not self.now.unanswered) }
+    {
+        self.in_hand && !self.unanswered
+    }
+
     /// The line at hand is over.
     pub(crate) fn close(&mut self)
         requires { self.old.work.left ≡ [] }
@@ -107,23 +113,18 @@ impl CourseJudge {
         ensures closed { self.new.in_hand ≡ false }
         ensures work { self.new.work ≡ self.old.work }
         ensures unanswered { self.new.unanswered ≡ self.old.unanswered }
-        ensures part { self.new.part ≡ self.old.part }
-        ensures has_line { self.new.has_line ≡ self.old.has_line }
         ensures place { self.new.place ≡ self.old.place }
         ensures cuts { self.new.cuts ≡ self.old.cuts }
-        ensures lost { self.new.lost ≡ self.old.lost }
         ensures locked { self.new.locked ≡ self.old.locked }
-        ensures unsettled { self.new.unsettled ≡ false → IsIdle self.old → ⊥ }
+        ensures lost { self.new.lost ≡ self.old.lost }
         ensures halts { self.new.line.halts ≡ self.old.line.halts }
     {
-        let idle = self.is_idle();
         let line = self.line;
-        self.jogs = may_lose(
-            idle,
-            self.jogs,
-            if_answered(self.unanswered, line.loses_jogs()),
-        );
-        self.unsettled = may_lose(idle, self.unsettled, !line.settles);
+        let here = self.has_answered();
+        let now = self.ticks_now();
+        self.answered = self.answered.behind_line(here, true, now);
+        self.code = self.code.behind_line(here, line.asks_for_code(), now);
+        self.settled = self.settled.behind_line(here, line.settles, now);
         self.moved = line.moved_now(line.is_code(), self.moved);
         self.jog_moved = line.moved_now(line.is_jog(), self.jog_moved);
         self.in_hand = false;
@@ -148,6 +149,7 @@ impl CourseJudge {
         requires found { (kept : List ℕ) → IsKept line.now kept → FindsRight self.old machine kept }
         ensures adds { (kept : List ℕ) → IsKept line.now kept → AddsSent self.old self.new (a_text kept ∷ []) }
         ensures tells { (kept : List ℕ) → IsKept line.now kept → TellsFound self.old self.new machine kept }
+        ensures work { (kept : List ℕ) → IsKept line.now kept → HasWorkOf self.old self.new true kept }
         ensures unanswered { self.new.unanswered ≡ self.old.unanswered }
         ensures in_hand { self.new.in_hand ≡ true }
         ensures lost { self.new.lost ≡ self.old.lost }
@@ -170,6 +172,7 @@ impl CourseJudge {
         ensures no { result ≡ false → self.old.work.left ≡ [] → self.old.work.number + 1 < 2 ^ 32 → RefusesLine self.old }
         ensures yes { IsTrue result → (kept : List ℕ) → IsKept line.now kept → AddsSent self.old self.new (a_text kept ∷ []) }
         ensures alone { IsTrue result → (kept : List ℕ) → IsKept line.now kept → TellsAlone self.old self.new error kept }
+        ensures work { IsTrue result → (kept : List ℕ) → IsKept line.now kept → HasWorkOf self.old self.new true kept }
         ensures unanswered { IsTrue result → self.new.unanswered ≡ false }
         ensures in_hand { IsTrue result → self.new.in_hand ≡ true }
         ensures lost { IsTrue result → self.new.lost ≡ self.old.lost }
@@ -189,6 +192,7 @@ impl CourseJudge {
         requires few { self.old.work.number + 1 < 2 ^ 32 }
         requires found { (kept : List ℕ) → IsKept line.now kept → FindsStill self.old machine kept }
         ensures adds { (kept : List ℕ) → IsKept line.now kept → AddsSent self.old self.new (a_text kept ∷ []) }
+        ensures work { (kept : List ℕ) → IsKept line.now kept → HasWorkOf self.old self.new false kept }
         ensures unanswered { self.new.unanswered ≡ true }
         ensures lost { self.new.lost ≡ self.old.lost }
     {
@@ -207,6 +211,7 @@ impl CourseJudge {
     pub fn begin_unanswered(&mut self, line: &KeptLine) -> bool
         ensures no { result ≡ false → self.old.work.left ≡ [] → self.old.work.number + 1 < 2 ^ 32 → RefusesLine self.old }
         ensures yes { IsTrue result → (kept : List ℕ) → IsKept line.now kept → AddsSent self.old self.new (a_text kept ∷ []) }
+        ensures work { IsTrue result → (kept : List ℕ) → IsKept line.now kept → HasWorkOf self.old self.new false kept }
         ensures unanswered { IsTrue result → self.new.unanswered ≡ true }
         ensures lost { IsTrue result → self.new.lost ≡ self.old.lost }
     {

@@ -1,6 +1,6 @@
 //! The tasks of the line at hand that tell nothing, and the records that come for them.
 
-ghost use Rattle.std.specs.Prelude.{◌≡◌, ◌≢◌, ◌↔◌, ◌+◌, ◌+ℤ◌, ◌≤◌, ◌<◌, ◌^◌, ◌∷◌, [], true, false, None, IsTrue, IfSome, length, drop};
+ghost use Rattle.std.specs.Prelude.{◌≡◌, ◌≢◌, ◌↔◌, ◌+◌, ◌+ℤ◌, ◌≤◌, ◌<◌, ◌^◌, ◌||◌, ◌∷◌, [], true, false, None, IsTrue, IfSome, length, drop};
 ghost use Rattle.status_report.specs.declared.Reply.{Reply as AnyReply};
 ghost use Rattle.run_rules.specs.Work.{Task};
 ghost use Rattle.run_rules.specs.Work.Task.{tell};
@@ -68,6 +68,13 @@ fn event_count(given: &Record) -> u64
         Record::Event(_) => 1,
         _ => 0,
     }
+}
+
+/// Whether a record was told of a line without its answer: one is, where the answered lines have all of theirs.
+fn touches(was: bool, whole: bool) -> bool
+    ensures { result ≡ (was || whole) }
+{
+    was || whole
 }
 
 impl CourseJudge {
@@ -168,6 +175,7 @@ impl CourseJudge {
     /// Whether something is owed of what the lines ask for.
     pub fn owes(&self) -> bool
         ensures owes { IsTrue result ↔ (owed_of self.now.part ≢ []) }
+        ensures idle { result ≡ false → owed_of self.now.part ≡ [] }
         ensures none { result ≡ false → self.now.part.next ≡ None }
     {
         !self.part.is_idle()
@@ -194,7 +202,11 @@ impl CourseJudge {
         }
         self.place = place;
         self.events += count;
-        self.touched = true;
+        self.touched = touches(self.touched, self.answered.is_whole());
+        let idle = !self.owes();
+        self.answered = self.answered.behind_record(idle);
+        self.code = self.code.behind_record(idle);
+        self.settled = self.settled.behind_record(idle);
         true
     }
 }

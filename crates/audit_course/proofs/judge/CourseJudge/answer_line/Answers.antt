@@ -1,6 +1,6 @@
 use Rattle.std.proofs.Common.{true, refl, ap, ◌∙◌, ◌&&◌, Bool, not, subst, sym}
 use Rattle.run_rules.specs.States.{IsState}
-use Rattle.audit_course.proofs.Beginning.{line_answered, line_tells}
+use Rattle.audit_course.proofs.Beginning.{line_answered, line_tells, line_work}
 use Rattle.audit_course.proofs.judge.CourseJudge.answer_line.Goals as goal
 
 pub of-self-requires : goal.of-self-requires
@@ -16,3 +16,8 @@ pub returns-clause-tells : goal.returns-clause-tells
 returns-clause-tells c = λ kept is first sent replies records s.
     line_tells c.args.self.now (record c.args.self.now { work = c.judge_settling-judged.new.self; state = c.of-self.result; locked = c.still_locked-self.result; has_line = true; in_hand = true; jogged = c.jogged_behind-self.result; line = c.begin-self.result })
     c.args.machine c.judge_settling-judged.new.self c.judge_settling-judged.result.accepted c.judge_settling-judged.result.settles kept c.requires.may (λ since. c.judge_settling-judged.ensures.becomes since kept is) refl refl first sent replies records s
+
+pub returns-clause-work : goal.returns-clause-work
+returns-clause-work c = λ kept is.
+    line_work c.args.self.now (record c.args.self.now { work = c.judge_settling-judged.new.self; state = c.of-self.result; locked = c.still_locked-self.result; has_line = true; in_hand = true; jogged = c.jogged_behind-self.result; line = c.begin-self.result })
+    c.args.machine c.judge_settling-judged.new.self c.judge_settling-judged.result.accepted c.judge_settling-judged.result.settles kept c.requires.may (λ since. c.judge_settling-judged.ensures.becomes since kept is) (c.requires.found kept is) refl

@@ -10,8 +10,8 @@ returns-then-self-clause-stays c = λ first sent replies records s.
 pub returns-clause-stays : goal.returns-clause-stays
 returns-clause-stays c = λ first sent replies records s.
     let n = some_next c.args.self.now.work.left c.requires.some in
-    item_asked c.args.self.now n.0 c.args.item c.done.new.self c.counted-self.result c.ask.new.self first sent replies records s n.1 (c.requires.of n.0 n.1) c.if-self.false
-    (c.owes.ensures.none c.if-owes.false) c.ask.ensures c.done.ensures
+    item_asked c.args.self.now n.0 c.args.item c.done.new.self c.counted-self.result c.ask.new.self first sent replies records s n.1 (c.requires.of n.0 n.1) c.requires.item c.if-self.false
+    (c.owes.ensures.idle c.if-owes.false) (c.owes.ensures.none c.if-owes.false) c.ask.ensures c.done.ensures
     (c.counted-self.ensures c.args.self.now.work.left c.requires.todo n.0 n.1)
 
 pub returns-then-self-clause-halts : goal.returns-then-self-clause-halts

@@ -1,5 +1,4 @@
-use Rattle.std.proofs.Common.{rules, ap, ◌∙◌}
-use Rattle.line_interpreter.specs.Interpreting.{Interpreting}
+use Rattle.std.proofs.Common.{rules}
 use Rattle.audit_course.specs.SoFar.{MayBegin}
 use Rattle.audit_course.proofs.Choosing.{tells_alone}
 use Rattle.audit_course.proofs.judge.CourseJudge.begin.Goals as goal
@@ -9,3 +8,6 @@ returns-clause-alone c = λ yes kept is.
     let may : MayBegin c.close.new.self = search rules in
     tells_alone c.args.self.now c.close.new.self c.answer_line.new.self c.args.error c.machine_for-machine.result kept may
     c.close.ensures.stays c.close.ensures.work c.close.ensures.unanswered c.close.ensures.cuts (c.machine_for-machine.ensures.alone kept is) (c.answer_line.ensures.tells kept is)
+
+pub returns-clause-work : goal.returns-clause-work
+returns-clause-work c = λ yes kept is first sent replies records s. c.answer_line.ensures.work kept is first sent replies records (c.close.ensures.stays first sent replies records s)

@@ -1,4 +1,4 @@
-use Rattle.std.proofs.Common.{rules, ◌≡◌, ◌<◌, ◌+◌, ◌^◌, ℕ, false, ap, sym, ◌∙◌, subst}
+use Rattle.std.proofs.Common.{rules, ◌≡◌, ◌<◌, ◌+◌, ◌^◌, false, ap, sym, ◌∙◌, subst}
 use Rattle.units.specs.Lengths.{IsPlace}
 use Rattle.line_interpreter.specs.Interpreting.{Interpreting}
 use Rattle.audit_course.specs.SoFar.{IsClosed}
@@ -9,10 +9,10 @@ pub returns-clause-yes : goal.returns-clause-yes
 returns-clause-yes c = λ yes lines count first sent replies records s. c.make_reset.ensures.adds lines count first sent replies records (c.close.ensures.stays first sent replies records s)
 
 pub returns-then-not-may_reset-clause-no : goal.returns-then-not-may_reset-clause-no
-returns-then-not-may_reset-clause-no c = λ no done number place few unsettled.
+returns-then-not-may_reset-clause-no c = λ no done number place few.
     let same = c.close.ensures in
     let refused : c.may_reset.result ≡ false = search rules in
     let closed : IsClosed c.close.new.self = record { done = ap (λ (i : Interpreting). i.left) same.work ∙ done; closed = same.closed } in
     let number_is : c.close.new.self.work.number ≡ c.args.k + 1 = ap (λ (i : Interpreting). i.number) same.work ∙ number in
     never_reset c.args.self.now c.close.new.self c.args.k c.args.dropped c.args.alarm same.stays same.work same.unanswered same.cuts closed number_is
-    (c.may_reset.ensures.no refused number_is unsettled (subst IsPlace (sym same.place) place) (subst (λ (i : Interpreting). i.number + c.args.dropped < 2 ^ 32) (sym same.work) few))
+    (c.may_reset.ensures.no refused (subst IsPlace (sym same.place) place) (subst (λ (i : Interpreting). i.number + c.args.dropped < 2 ^ 32) (sym same.work) few))
