@@ -53,7 +53,7 @@ behind_made n (kinds.Head h ∷ made) rs inside later = behind_made n made rs in
 behind_made n (kinds.Event b ∷ made) rs inside later = behind_made n made rs inside.1 later
 behind_made n (kinds.End ∷ made) rs inside later = absurd (let e = inside.0 in cc)
 
-made_before : (n : ℕ) (mine rs : List Record) → Inside mine → EndsLate n (mine ++ rs) → EndsLate n rs
+pub made_before : (n : ℕ) (mine rs : List Record) → Inside mine → EndsLate n (mine ++ rs) → EndsLate n rs
 made_before n [] rs inside later = later
 made_before n (kinds.Mark (marks.Cut k) ∷ made) rs inside later = absurd (let e = inside.0 in cc)
 made_before n (kinds.Mark (marks.Reset k) ∷ made) rs inside later = absurd (let e = inside.0 in cc)
@@ -89,12 +89,12 @@ onto_ends : (o : Outcome) (ps : List Part) → first_ending (onto_first o ps) �
 onto_ends o [] = refl
 onto_ends o (p ∷ ps) = refl
 
-begun_ends : (o : Outcome) (ps : List Part) → first_ending (begun_first o ps) ≡ first_ending ps
+pub begun_ends : (o : Outcome) (ps : List Part) → first_ending (begun_first o ps) ≡ first_ending ps
 begun_ends o [] = refl
 begun_ends o (p ∷ ps) = refl
 
 -- and no cut and no reset comes of a line before it
-number_comes : (p last : Point) (sent : List Sent) (ps : List Passed) (e : Ending) → Follows p sent ps last → first_ending (parts_of ps) ≡ e → is_stop e ≡ true → p.before.number ≤ number_of e + 1
+pub number_comes : (p last : Point) (sent : List Sent) (ps : List Passed) (e : Ending) → Follows p sent ps last → first_ending (parts_of ps) ≡ e → is_stop e ≡ true → p.before.number ≤ number_of e + 1
 number_comes p last sent [] e f is stops = absurd (let g : false ≡ true = ap is_stop is ∙ stops in cc)
 number_comes p last sent (a_cut k at ∷ ps) e f is stops = let same : k ≡ number_of e = ap number_of is in let number = f.0.number in omega (arith, same, number)
 number_comes p last sent (a_reset r ∷ ps) e f is stops = let same : r.number ≡ number_of e = ap number_of is in let number = f.0.number in omega (arith, same, number)
@@ -125,7 +125,7 @@ broken_too_late p last (a_text line ∷ sent) o ps e f is stops number =
 
 -- ---- what is told
 
-same_opens : (r : Reply) → is_of_reset r ≡ opens r
+pub same_opens : (r : Reply) → is_of_reset r ≡ opens r
 same_opens replies.Banner = refl
 same_opens (replies.Alarm n) = refl
 same_opens _ = refl
@@ -145,7 +145,7 @@ reset_begins true more xs = refl
 reset_begins false more xs = refl
 
 -- behind a line that is not answered a reset is told first
-broken_begins : (p last : Point) (sent : List Sent) (ps : List Passed) → Follows p sent ps last → p.unanswered ≡ true → begins_epoch (told_in ps) ≡ true
+pub broken_begins : (p last : Point) (sent : List Sent) (ps : List Passed) → Follows p sent ps last → p.unanswered ≡ true → begins_epoch (told_in ps) ≡ true
 broken_begins p last sent [] f begun = absurd (let e : false ≡ true = sym f.1.answered ∙ begun in cc)
 broken_begins p last sent (a_cut k at ∷ ps) f begun = broken_begins (behind_cut at p) last sent ps f.1 begun
 broken_begins p last sent (a_reset r ∷ ps) f begun = reset_begins r.alarm _ (told_in ps)

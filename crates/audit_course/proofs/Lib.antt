@@ -14,3 +14,4 @@ pub mod FirstPart
 pub mod Refused
 pub mod Choosing
 pub mod Resetting
+pub mod Onward
