@@ -1,72 +1,50 @@
 -- A console goes on with the reply that is taken behind its reports.
-use Rattle.std.specs.Prelude.{codes, if◌then◌else◌, ◌==◌}
-use Rattle.std.proofs.Common.{◌≡◌, ◌<◌, ◌≤◌, ◌⊎◌, ◌↔◌, inl, inr, ℕ, Bool, true, false, List, [], ◌∷◌, ◌++◌, length, drop, append_assoc, Some, None, refl, sym, ap, ◌∙◌, subst, arith}
+use Rattle.std.proofs.Common.{◌≡◌, ◌<◌, ◌≤◌, ◌⊎◌, ◌↔◌, inl, inr, ℕ, true, false, List, [], ◌∷◌, ◌++◌, length, drop, append_assoc, Some, None, refl, sym, ap, ◌∙◌, subst, arith}
 use Rattle.std.specs.List.{AllByRecursion}
 use Rattle.std.specs.declared.option.Option.{Option}
 use Rattle.std.specs.Io.KnownBytes.{Consumes, IsAtEnd}
 use Rattle.std.proofs.lemmas.Option.{some_pair_parts}
 use Rattle.outside.specs.Causes.{SourceState}
 use Rattle.status_report.specs.Answering.{is_report, is_bye}
-use Rattle.status_report.specs.Replies.{reply_text, row_name}
-use Rattle.status_report.specs.Places.{place_text, in_thousandths}
-use Rattle.status_report.specs.Reports.{IsReport, HasWidths, report_text}
-use Rattle.status_report.specs.declared.Message.TheVariants.{Unlocked, ProgramEnd, ResetToContinue, Locked}
+use Rattle.status_report.specs.Replies.{reply_text}
+use Rattle.status_report.specs.Reports.{IsReport, HasWidths}
 use Rattle.status_report.specs.declared.Reply.{Reply}
 use Rattle.status_report.specs.declared.Reply.TheVariants.{Banner, Ok as Accepted, Error, Alarm, Message as Telling, Report as Reporting, Setting, Modes, Offset, Bye}
 use Rattle.status_report.specs.declared.reports.Report.{Report}
 use Rattle.run_rules.specs.Told.{replies_text}
 use Rattle.audit_rules.specs.Consoles.{IsOnConsole, GoesOnWith}
-use Rattle.audit_readers.specs.Windows.{Window, ahead, look_ahead}
+use Rattle.audit_readers.specs.Windows.{ahead, look_ahead}
 use Rattle.audit_readers.specs.Console.{ConsoleRead, LooksAhead, Skips}
 use Rattle.audit_readers.specs.Windows.{too_long}
 use Rattle.audit_readers.specs.Reports.{report_at}
+use Rattle.audit_readers.proofs.Apart.{first_byte, one_first}
 use Rattle.audit_readers.proofs.Reporting.{report_again, report_short}
 use Rattle.audit_readers.proofs.Stepping.{Seen, seen_by, front_waits}
 
 -- ---- a report begins with `<`, and no other reply does
 
 -- no report begins a text
-abbrev NoReport : List ℕ → Type 0
+abbrev pub NoReport : List ℕ → Type 0
 NoReport text = (r : Report) (rest : List ℕ) → IsReport r → HasWidths r → text ≡ reply_text (Reporting r) ++ rest → ⊥
 
-report_first : (r : Report) (rest : List ℕ) → (more : List ℕ) × (reply_text (Reporting r) ++ rest ≡ 60 ∷ more)
-unfolding reply_text report_text
-report_first r rest = (_, refl)
+not_report : (reply : Reply) → is_report reply ≡ false → is_bye reply ≡ false → first_byte reply ≡ 60 → ⊥
+not_report Banner plain some e = omega (arith, e)
+not_report Accepted plain some e = omega (arith, e)
+not_report (Error n) plain some e = omega (arith, e)
+not_report (Alarm n) plain some e = omega (arith, e)
+not_report (Telling m) plain some e = omega (arith, e)
+not_report (Reporting r) plain some e = absurd cc
+not_report (Setting n value) plain some e = omega (arith, e)
+not_report (Modes m) plain some e = omega (arith, e)
+not_report (Offset row at) plain some e = omega (arith, e)
+not_report Bye plain some e = absurd cc
 
-offset_first : (a b : Bool) (x y z tail : List ℕ) → (more : List ℕ) × ((if a then 91 ∷ x else (if b then 91 ∷ y else 91 ∷ z)) ++ tail ≡ 91 ∷ more)
-offset_first true b x y z tail = (x ++ tail, refl)
-offset_first false true x y z tail = (y ++ tail, refl)
-offset_first false false x y z tail = (z ++ tail, refl)
-
--- the first byte of another reply
-other_first : (reply : Reply) → is_report reply ≡ false → is_bye reply ≡ false → (c : ℕ) × (more : List ℕ) × (reply_text reply ≡ c ∷ more) × (c ≡ 60 → ⊥)
-unfolding reply_text
-other_first Banner plain some = (13, _, refl, λ e. omega (arith, e))
-other_first Accepted plain some = (111, _, refl, λ e. omega (arith, e))
-other_first (Error n) plain some = (101, _, refl, λ e. omega (arith, e))
-other_first (Alarm n) plain some = (65, _, refl, λ e. omega (arith, e))
-other_first (Telling Unlocked) plain some = (91, _, refl, λ e. omega (arith, e))
-other_first (Telling ProgramEnd) plain some = (91, _, refl, λ e. omega (arith, e))
-other_first (Telling ResetToContinue) plain some = (91, _, refl, λ e. omega (arith, e))
-other_first (Telling Locked) plain some = (91, _, refl, λ e. omega (arith, e))
-other_first (Reporting r) plain some = absurd cc
-other_first (Setting n value) plain some = (36, _, refl, λ e. omega (arith, e))
-other_first (Modes m) plain some = (91, _, refl, λ e. omega (arith, e))
-other_first (Offset row at) plain some =
-    let begins = offset_first (row == 9) (row == 10) (drop 1 (codes "[TLO:0.000]")) (drop 1 (codes "[PRB:0.000,0.000,0.000:0]")) (row_name row ++ codes ":" ++ place_text (in_thousandths at) ++ codes "]") (codes "\r\n") in
-    (91, begins.0, begins.1, λ e. omega (arith, e))
-other_first Bye plain some = absurd cc
-
-no_report : (reply : Reply) (later : List ℕ) → is_report reply ≡ false → is_bye reply ≡ false → NoReport (reply_text reply ++ later)
-no_report reply later plain some r rest is widths e =
-    let first = other_first reply plain some in
-    let begins = report_first r rest in
-    let both : first.0 ∷ (first.1 ++ later) ≡ 60 ∷ begins.0 = sym (ap (λ (t : List ℕ). t ++ later) first.2) ∙ e ∙ begins.1 in
-    first.3 (let same : first.0 ≡ 60 = cc in same)
+pub no_report : (reply : Reply) (later : List ℕ) → is_report reply ≡ false → is_bye reply ≡ false → NoReport (reply_text reply ++ later)
+no_report reply later plain some r rest is widths e = not_report reply plain some (one_first reply (Reporting r) later rest some refl e)
 
 -- ---- the reports that stand next are those of one list
 
-only_reports : {A : Type 0} (reply : Reply) → is_report reply ≡ true → IsOnConsole reply → ((r : Report) → reply ≡ Reporting r → IsReport r → HasWidths r → A) → A
+pub only_reports : {A : Type 0} (reply : Reply) → is_report reply ≡ true → IsOnConsole reply → ((r : Report) → reply ≡ Reporting r → IsReport r → HasWidths r → A) → A
 only_reports (Reporting r) is on f = f r refl on.0 on.1
 only_reports Banner is on f = absurd cc
 only_reports Accepted is on f = absurd cc
@@ -78,7 +56,7 @@ only_reports (Modes m) is on f = absurd cc
 only_reports (Offset row at) is on f = absurd cc
 only_reports Bye is on f = absurd cc
 
-one_report : (r q : Report) (xs ys : List ℕ) → IsReport r → HasWidths r → IsReport q → HasWidths q → reply_text (Reporting r) ++ xs ≡ reply_text (Reporting q) ++ ys → xs ≡ ys
+pub one_report : (r q : Report) (xs ys : List ℕ) → IsReport r → HasWidths r → IsReport q → HasWidths q → reply_text (Reporting r) ++ xs ≡ reply_text (Reporting q) ++ ys → xs ≡ ys
 one_report r q xs ys is_r w_r is_q w_q e =
     let both : Some (r, 13 ∷ 10 ∷ xs) ≡ Some (q, 13 ∷ 10 ∷ ys) = sym (report_again r xs is_r w_r) ∙ ap report_at e ∙ report_again q ys is_q w_q in
     let rests : 13 ∷ 10 ∷ xs ≡ 13 ∷ 10 ∷ ys = (some_pair_parts r q (13 ∷ 10 ∷ xs) (13 ∷ 10 ∷ ys) both).1 in
@@ -102,45 +80,50 @@ same_rest (g ∷ gs) (s ∷ ss) x y each_g are_g each_s are_s none_x none_y e =
 
 -- ---- what follows the reports that were taken
 
-record Follows (text : List ℕ) (reports : List Reply) (w : Window) : Type 0 where
+record Follows (text : List ℕ) (reports : List Reply) (now : Option (List ℕ)) : Type 0 where
   pub rest : List ℕ
   pub text_is : text ≡ replies_text reports ++ rest
-  pub shown : Seen w rest
+  pub is : now ≡ Some rest
 
-follows_by : (text : List ℕ) (reports : List Reply) (w : Window) (now : Option (List ℕ)) → Consumes (Some text) now (replies_text reports) → ((rest : List ℕ) → now ≡ Some rest → Seen w rest) → Follows text reports w
-follows_by text reports w None c shown = absurd c
-follows_by text reports w (Some rest) c shown = record { rest = rest; text_is = c; shown = shown rest refl }
+follows_by : (text : List ℕ) (reports : List Reply) (now : Option (List ℕ)) → Consumes (Some text) now (replies_text reports) → Follows text reports now
+follows_by text reports None c = absurd c
+follows_by text reports (Some rest) c = record { rest = rest; text_is = c; is = refl }
 
-follows : (old now : ConsoleRead) (s t : SourceState) (text : List ℕ) → (z : Skips old now s t) → ahead old.window s ≡ Some text → Follows text z.some.reports now.window
-follows old now s t text z e =
-    follows_by text z.some.reports now.window (ahead now.window t) (subst (λ (o : Option (List ℕ)). Consumes o (ahead now.window t) (replies_text z.some.reports)) e z.some.text)
-    (λ rest f. seen_by now.window t.left rest (by z.looks) f) where
-      by : LooksAhead now.window → (look_ahead ≤ length now.window.waiting) ⊎ IsAtEnd t.left
-      by (inl many) = inl many
-      by (inr over) = inr (z.some.known over)
+-- what waits behind reports that were skipped shows what follows
+pub shown_next : (old now : ConsoleRead) (s t : SourceState) (rest : List ℕ) → Skips old now s t → ahead now.window t ≡ Some rest → Seen now.window rest
+shown_next old now s t rest z e = seen_by now.window t.left rest (by z.looks) e where
+  by : LooksAhead now.window → (look_ahead ≤ length now.window.waiting) ⊎ IsAtEnd t.left
+  by (inl many) = inl many
+  by (inr over) = inr (z.some.known over)
+
+-- and no report follows them
+pub no_report_next : (old now : ConsoleRead) (s t : SourceState) (rest : List ℕ) → Skips old now s t → now.place < too_long → ahead now.window t ≡ Some rest → NoReport rest
+no_report_next old now s t rest z short e r later is widths g =
+    z.none short r (drop (length (reply_text (Reporting r))) now.window.waiting) is widths
+    (front_waits now.window rest (reply_text (Reporting r)) later (shown_next old now s t rest z e) (report_short r is widths) g)
 
 pub goes_on : (old now : ConsoleRead) (s t : SourceState) (text : List ℕ) (reply : Reply) → Skips old now s t → now.place < too_long → ahead old.window s ≡ Some text
     → is_report reply ≡ false → is_bye reply ≡ false → length (reply_text reply) ≤ look_ahead
     → GoesOnWith text reply ↔ (now.window.waiting ≡ reply_text reply ++ drop (length (reply_text reply)) now.window.waiting)
 goes_on old now s t text reply z short e plain some fits = (to, from) where
-  f : Follows text z.some.reports now.window
-  f = follows old now s t text z e
+  f : Follows text z.some.reports (ahead now.window t)
+  f = follows_by text z.some.reports (ahead now.window t) (subst (λ (o : Option (List ℕ)). Consumes o (ahead now.window t) (replies_text z.some.reports)) e z.some.text)
 
-  none : NoReport f.rest
-  none r rest is widths g = z.none short r (drop (length (reply_text (Reporting r))) now.window.waiting) is widths (front_waits now.window f.rest (reply_text (Reporting r)) rest f.shown (report_short r is widths) g)
+  shown : Seen now.window f.rest
+  shown = shown_next old now s t f.rest z f.is
 
   to : GoesOnWith text reply → now.window.waiting ≡ reply_text reply ++ drop (length (reply_text reply)) now.window.waiting
   to g =
-      let same = same_rest g.reports z.some.reports (reply_text reply ++ g.later) f.rest g.each g.are z.some.each z.some.are (no_report reply g.later plain some) none (sym g.text ∙ f.text_is) in
-      front_waits now.window f.rest (reply_text reply) g.later f.shown fits (sym same)
+      let same = same_rest g.reports z.some.reports (reply_text reply ++ g.later) f.rest g.each g.are z.some.each z.some.are (no_report reply g.later plain some) (no_report_next old now s t f.rest z short f.is) (sym g.text ∙ f.text_is) in
+      front_waits now.window f.rest (reply_text reply) g.later shown fits (sym same)
 
   from : now.window.waiting ≡ reply_text reply ++ drop (length (reply_text reply)) now.window.waiting → GoesOnWith text reply
   from g = record {
     reports = z.some.reports;
-    later = drop (length (reply_text reply)) now.window.waiting ++ f.shown.behind;
+    later = drop (length (reply_text reply)) now.window.waiting ++ shown.behind;
     text =
         f.text_is ∙ ap (λ (bytes : List ℕ). replies_text z.some.reports ++ bytes)
-        (f.shown.is ∙ ap (λ (bytes : List ℕ). bytes ++ f.shown.behind) g ∙ append_assoc (reply_text reply) (drop (length (reply_text reply)) now.window.waiting) f.shown.behind);
+        (shown.is ∙ ap (λ (bytes : List ℕ). bytes ++ shown.behind) g ∙ append_assoc (reply_text reply) (drop (length (reply_text reply)) now.window.waiting) shown.behind);
     each = z.some.each;
     are = z.some.are;
   }

@@ -4,7 +4,9 @@ pub mod Filling
 pub mod Stepping
 pub mod Reporting
 pub mod Skipping
+pub mod Apart
 pub mod Going
+pub mod Alike
 pub mod Taking
 pub mod Scanning
 pub mod Reading
