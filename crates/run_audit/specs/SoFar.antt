@@ -1,12 +1,12 @@
 -- How far each of three texts was read, and what was told of it.
-use Rattle.std.specs.Prelude.{◌≡◌, ◌≤◌, ◌⊎◌, ℕ, ◌<◌, ◌^◌, ◌+◌, ◌-◌, Bool, true, false, cond, not, ◌&&◌, List, [], ◌∷◌, ◌++◌, length, take, drop, replicate, IfSome, nat_eq, Some, None}
+use Rattle.std.specs.Prelude.{◌≡◌, ◌≤◌, ◌⊎◌, ℕ, ◌<◌, ◌^◌, ◌+◌, ◌-◌, Bool, true, false, cond, not, ◌&&◌, ◌||◌, List, [], ◌∷◌, ◌++◌, length, take, drop, replicate, IfSome, nat_eq, Some, None}
 use Rattle.std.specs.declared.option.Option.{Option}
 use Rattle.std.specs.List.{flat_map, sum_by, AllByRecursion}
 use Rattle.outside.specs.Causes.{SourceState}
 use Rattle.status_report.specs.Answering.{without_reports, is_bye}
 use Rattle.status_report.specs.Replies.{reply_text}
 use Rattle.status_report.specs.declared.Reply.{Reply}
-use Rattle.status_report.specs.declared.Reply.TheVariants.{Banner}
+use Rattle.status_report.specs.declared.Reply.TheVariants.{Banner, Error, Alarm}
 use Rattle.step_line.specs.declared.Record.{Record}
 use Rattle.step_line.specs.declared.Record.TheVariants as kinds
 use Rattle.step_record.specs.declared.forms.Line.{Line as AnyLine}
@@ -20,7 +20,7 @@ use Rattle.audit_rules.specs.Scanned.{Scanned, scanned, cuts_by, holds_by}
 use Rattle.audit_rules.specs.StepTexts.{AreLinesOf, IsStepText, form_of, body_of, heading, last_of, lines_text, records_of}
 use Rattle.audit_readers.specs.Console.{ConsoleRead}
 use Rattle.audit_readers.specs.Jobs.{JobRead, scanned_behind, lines_behind}
-use Rattle.audit_readers.specs.Windows.{Window, ahead, too_long}
+use Rattle.audit_readers.specs.Windows.{Window, ahead, look_ahead, too_long}
 use Rattle.run_audit.specs.Auditing.{IsFirstForeign}
 use Rattle.run_audit.specs.declared.listening.Listening.{Listening}
 use Rattle.run_audit.specs.declared.recorded.Recorded.{Recorded}
@@ -114,6 +114,18 @@ abbrev pub known_of : Option Reply → List Reply
 known_of None = []
 known_of (Some reply) = reply ∷ []
 
+-- this reply is looked for before it is told: an error of the motion, or what is told first at a reset
+abbrev pub is_looked_for : Reply → Bool
+is_looked_for Banner = true
+is_looked_for (Error n) = nat_eq n 8 || nat_eq n 9
+is_looked_for (Alarm n) = nat_eq n 3
+is_looked_for _ = false
+
+-- the first of these replies, if it is looked for
+abbrev pub looked_for : List Reply → Option Reply
+looked_for [] = None
+looked_for (reply ∷ more) = cond (is_looked_for reply) (Some reply) None
+
 -- no byte was taken, and no reply is known
 pub record Opens (l : Listening) (source : SourceState) (text : List ℕ) : Type 0 where
   pub first : l.reader.place ≡ 0
@@ -145,6 +157,7 @@ pub record ConsoleSoFar (l : Listening) (source : SourceState) (text : List ℕ)
   pub read : HasRead l.reader.window source l.reader.place text (replies_text (Banner ∷ behind))
   pub each : AllByRecursion IsOnConsole behind
   pub are : without_reports behind ≡ told ++ known_of l.known
+  pub early : IfSome l.known (λ reply. is_looked_for reply ≡ true)
 
 -- nothing more was told of it
 abbrev pub StaysTold : Listening → Listening → SourceState → SourceState → Type 0
@@ -159,6 +172,16 @@ pub record TakesReply (old now : ConsoleRead) (reply : Reply) : Type 0 where
   pub some : is_bye reply ≡ false
   pub waiting : old.window.waiting ≡ reply_text reply ++ now.window.waiting
   pub place : now.place ≡ old.place + length (reply_text reply)
+
+-- the text of a reply, which is no longer than what is looked at, does not begin what waits
+pub record IsNotNext (r : ConsoleRead) (reply : Reply) : Type 0 where
+  pub short : length (reply_text reply) ≤ look_ahead
+  pub none : (later : List ℕ) → r.window.waiting ≡ reply_text reply ++ later → ⊥
+
+-- a reply that is looked for begins what waits, or none does
+abbrev pub StandsNext : ConsoleRead → Option Reply → Type 0
+StandsNext r None = (reply : Reply) → is_looked_for reply ≡ true → IsNotNext r reply
+StandsNext r (Some reply) = (is_looked_for reply ≡ true) × (later : List ℕ) × (r.window.waiting ≡ reply_text reply ++ later)
 
 -- the reply was told next, or it was not and the text can be read on
 abbrev pub Hears : Bool → Listening → SourceState → List ℕ → List Reply → Type 0
@@ -175,6 +198,23 @@ pub record IsWhole (text : List ℕ) (told : List Reply) : Type 0 where
 -- if so, nothing follows what was told
 abbrev pub EndsConsole : Bool → Listening → SourceState → Type 0
 EndsConsole none l source = none ≡ true → (text : List ℕ) (told : List Reply) → ConsoleSoFar l source text told → IsWhole text told
+
+-- a console that is not too long tells these replies, and nothing else
+pub record TellsAll (text : List ℕ) (all : List Reply) : Type 0 where
+  pub whole : IsWhole text all
+  pub short : too_long ≤ length text → ⊥
+
+-- of a console that tells more, the next reply is found, if it is looked for
+abbrev pub FindsReply : Option Reply → Listening → SourceState → Type 0
+FindsReply found l source = (text : List ℕ) (told more : List Reply) → ConsoleSoFar l source text told → TellsAll text (told ++ more) → found ≡ looked_for more
+
+-- if it is not heard, no console goes on with this reply
+abbrev pub HearsNot : Bool → Listening → SourceState → Reply → Type 0
+HearsNot heard l source reply = heard ≡ false → (text : List ℕ) (told more : List Reply) → ConsoleSoFar l source text told → TellsAll text (told ++ reply ∷ more) → ⊥
+
+-- if something follows, what was told is not all
+abbrev pub EndsNot : Bool → Listening → SourceState → Type 0
+EndsNot none l source = none ≡ false → (text : List ℕ) (told : List Reply) → ConsoleSoFar l source text told → TellsAll text told → ⊥
 
 -- ---- the steps
 

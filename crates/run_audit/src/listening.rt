@@ -1,13 +1,14 @@
 //! What a console tells.
 
-ghost use Rattle.std.specs.Prelude.{◌≡◌, ◌↔◌, ◌≤◌, ◌∷◌, ◌++◌, [], ℕ, List, Some, None, false, MatchResult, IfOk, IsTrue};
+ghost use Rattle.std.specs.Prelude.{◌≡◌, ◌↔◌, ◌≤◌, ◌<◌, ◌∷◌, ◌++◌, [], ℕ, List, Some, None, true, false, MatchResult, IfOk, IsTrue};
 ghost use Rattle.outside.specs.Causes.{Rose, SourceState};
 ghost use Rattle.status_report.specs.Replies.{IsReply};
-ghost use Rattle.status_report.specs.Answering.{is_report};
+ghost use Rattle.status_report.specs.Answering.{is_report, is_bye};
 ghost use Rattle.status_report.specs.declared.Reply.{Reply as AnyReply};
+ghost use Rattle.audit_rules.specs.Telling.{HasNoBanner};
 ghost use Rattle.audit_readers.specs.Windows.{KnowsEnd, ahead, too_long};
 ghost use Rattle.run_audit.specs.Reading.{KnowsConsole, IsSame};
-ghost use Rattle.run_audit.specs.SoFar.{ConsoleSoFar, Opens, Hears, TakesReply, StaysTold, BecomesKnown, IsRead, IsReadOn, EndsConsole};
+ghost use Rattle.run_audit.specs.SoFar.{ConsoleSoFar, Opens, Hears, TakesReply, IsNotNext, StandsNext, StaysTold, BecomesKnown, IsRead, IsReadOn, EndsConsole, FindsReply, HearsNot, EndsNot, is_looked_for};
 
 use audit_readers::ConsoleReader;
 use outside::{Failed, Source};
@@ -18,7 +19,8 @@ pub(crate) const TOO_LONG: u64 = 9_223_372_036_854_775_808;
 
 /// Whether a reply is that which was known before it is told.
 fn is_same(known: &Reply, reply: &Reply) -> bool
-    ensures { IsTrue result → known.now ≡ reply.now }
+    ensures same { IsTrue result → known.now ≡ reply.now }
+    ensures other { result ≡ false → is_looked_for known.now ≡ true → known.now ≡ reply.now → ⊥ }
 {
     match (known, reply) {
         (Reply::Banner, Reply::Banner) => true,
@@ -51,6 +53,7 @@ impl Listening {
         requires known { KnowsConsole self.old.reader (S.state source.old) }
         ensures known { MatchResult result (λ answer. KnowsConsole self.new.reader (S.state source.new) × IsSame (S.state source.old) (S.state source.new)) (λ e. Rose (S.state source.old).faults (S.state source.new).faults) }
         ensures begins { IfOk result (λ yes. (text : List ℕ) → Opens self.old (S.state source.old) text → Hears yes self.new (S.state source.new) text []) }
+        ensures no { IfOk result (λ yes. yes ≡ false → (text : List ℕ) → Opens self.old (S.state source.old) text → HasNoBanner text) }
     {
         self.reader.skip_reports(source)?;
         if self.reader.place() > 0 {
@@ -65,6 +68,7 @@ impl Listening {
         ensures known { MatchResult result (λ answer. KnowsConsole self.new.reader (S.state source.new) × IsSame (S.state source.old) (S.state source.new)) (λ e. Rose (S.state source.old).faults (S.state source.new).faults) }
         ensures next { IfOk result (λ reply. reply ≡ self.new.known) }
         ensures so_far { IfOk result (λ reply. StaysTold self.old self.new (S.state source.old) (S.state source.new)) }
+        ensures found { IfOk result (λ reply. FindsReply reply self.old (S.state source.old)) }
     {
         if self.known.is_some() {
             return Ok(self.known);
@@ -85,6 +89,7 @@ impl Listening {
     fn next_known(&mut self) -> Option<Reply>
         ensures ended { self.new.reader.window.ended ≡ self.old.reader.window.ended }
         ensures known { self.old.known ≡ None → BecomesKnown self.old self.new result }
+        ensures found { self.old.reader.place < too_long → StandsNext self.old.reader result }
     {
         if self.takes(&Reply::Error(8)) {
             return Some(Reply::Error(8));
@@ -108,6 +113,7 @@ impl Listening {
         ensures known { self.new.known ≡ self.old.known }
         ensures taken { IsTrue result → TakesReply self.old.reader self.new.reader reply.now }
         ensures same { result ≡ false → self.new ≡ self.old }
+        ensures other { result ≡ false → self.old.reader.place < too_long → is_bye reply.now ≡ false → IsNotNext self.old.reader reply.now }
     {
         if self.reader.place() >= TOO_LONG || matches!(reply, Reply::Bye) {
             return false;
@@ -122,6 +128,7 @@ impl Listening {
         requires plain { is_report reply.now ≡ false }
         ensures known { MatchResult result (λ answer. KnowsConsole self.new.reader (S.state source.new) × IsSame (S.state source.old) (S.state source.new)) (λ e. Rose (S.state source.old).faults (S.state source.new).faults) }
         ensures so_far { IfOk result (λ yes. (text : List ℕ) (told : List AnyReply) → ConsoleSoFar self.old (S.state source.old) text told → Hears yes self.new (S.state source.new) text (told ++ reply.now ∷ [])) }
+        ensures no { IfOk result (λ yes. HearsNot yes self.old (S.state source.old) reply.now) }
     {
         if let Some(known) = self.known {
             self.known = None;
@@ -137,6 +144,7 @@ impl Listening {
         ensures known { MatchResult result (λ answer. KnowsConsole self.new.reader (S.state source.new) × IsSame (S.state source.old) (S.state source.new)) (λ e. Rose (S.state source.old).faults (S.state source.new).faults) }
         ensures read { IfOk result (λ none. IsReadOn self.old.reader.window self.new.reader.window (S.state source.old) (S.state source.new) self.old.reader.place self.new.reader.place) }
         ensures ends { IfOk result (λ none. EndsConsole none self.old (S.state source.old)) }
+        ensures no { IfOk result (λ none. EndsNot none self.old (S.state source.old)) }
         ensures over { IfOk result (λ none. IsRead self.new.reader.window self.new.reader.place) }
     {
         let none = self.known.is_none();
