@@ -245,6 +245,24 @@ pub record AreRecords (text : List ℕ) (told : List Record) : Type 0 where
   pub are_lines : IsStepText text lines
   pub are : records_of lines ≡ told
 
+-- the first of these records
+abbrev pub next_of : List Record → Option Record
+next_of [] = None
+next_of (r ∷ more) = Some r
+
+-- steps that are not too long are these records, and nothing else
+pub record RecordsAll (text : List ℕ) (all : List Record) : Type 0 where
+  pub are : AreRecords text all
+  pub short : too_long ≤ length text → ⊥
+
+-- of steps that have more records, the next one is found
+abbrev pub FindsRecord : Option Record → Recorded → SourceState → Type 0
+FindsRecord found r source = (text : List ℕ) (told more : List Record) → StepsSoFar r source text told → RecordsAll text (told ++ more) → found ≡ next_of more
+
+-- if something follows, what was told is not all
+abbrev pub StepsGoOn : Bool → Recorded → SourceState → Type 0
+StepsGoOn over r source = over ≡ false → (text : List ℕ) (told : List Record) → StepsSoFar r source text told → AreRecords text told → ⊥
+
 -- they can be read on; and if so, they are what was told
 pub record Ending (over : Bool) (now : Recorded) (source : SourceState) (text : List ℕ) (told : List Record) : Type 0 where
   pub read : IsReadTo now.reader.window source now.reader.place text

@@ -4,7 +4,7 @@ ghost use Rattle.std.specs.Prelude.{◌≡◌, ◌↔◌, ◌≤◌, ◌∷◌, 
 ghost use Rattle.outside.specs.Causes.{Rose, SourceState};
 ghost use Rattle.step_line.specs.declared.Record.{Record as AnyRecord};
 ghost use Rattle.run_audit.specs.Reading.{KnowsSteps, IsSame};
-ghost use Rattle.run_audit.specs.SoFar.{StepsSoFar, StaysRecorded, KeepsLine, IsRead, IsReadOn, EndsSteps};
+ghost use Rattle.run_audit.specs.SoFar.{StepsSoFar, StaysRecorded, KeepsLine, IsRead, IsReadOn, EndsSteps, FindsRecord, StepsGoOn};
 ghost use Rattle.audit_readers.specs.Windows.{too_long};
 
 use crate::listening::TOO_LONG;
@@ -45,6 +45,7 @@ impl Recorded {
         ensures known { MatchResult result (λ answer. KnowsSteps self.new.reader (S.state source.new) × IsSame (S.state source.old) (S.state source.new)) (λ e. Rose (S.state source.old).faults (S.state source.new).faults) }
         ensures next { IfOk result (λ found. found ≡ self.new.next) }
         ensures so_far { IfOk result (λ found. StaysRecorded self.old self.new (S.state source.old) (S.state source.new)) }
+        ensures found { IfOk result (λ found. FindsRecord found self.old (S.state source.old)) }
     {
         if self.next.is_some() {
             return Ok(self.next);
@@ -98,6 +99,7 @@ impl Recorded {
         requires known { KnowsSteps self.old.reader (S.state source.old) }
         ensures known { MatchResult result (λ answer. KnowsSteps self.new.reader (S.state source.new) × IsSame (S.state source.old) (S.state source.new)) (λ e. Rose (S.state source.old).faults (S.state source.new).faults) }
         ensures ends { IfOk result (λ over. EndsSteps over self.old self.new (S.state source.old) (S.state source.new)) }
+        ensures no { IfOk result (λ over. StepsGoOn over self.old (S.state source.old)) }
     {
         self.at = self.reader.place();
         let is_at_end = self.reader.is_at_end(source)?;
