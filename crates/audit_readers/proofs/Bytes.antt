@@ -12,7 +12,7 @@ use Rattle.gcode_words.specs.declared.stripping.Stripped.{Stripped}
 use Rattle.gcode_words.specs.declared.stripping.Stripped.TheVariants.{Nothing, Keep, Realtime}
 use Rattle.gcode_words.proofs.Scanning.{seen, after, shown, scan, cut_scan, shown-append}
 use Rattle.run_texts.specs.Sent.{is_reset, behind_resets, kept_of, resets_of}
-use Rattle.audit_rules.specs.Scanned.{may_cut, is_hold}
+use Rattle.audit_rules.specs.Scanned.{may_cut}
 use Rattle.audit_readers.specs.JobLines.{SeenLine, HasCome}
 
 cut_is : (line : List ℕ) → cut line ≡ scan Outside line
@@ -105,7 +105,7 @@ any_taken c = by_realtime (is_realtime c) refl where
     no_reset true e = absurd (let f : true ≡ false = sym (reset_is_realtime c e) ∙ g in cc)
     no_reset false e = e
 
-count_push : (p : ℕ → Bool) (xs ys : List ℕ) → count_by p (xs ++ ys) ≡ count_by p xs + count_by p ys
+pub count_push : (p : ℕ → Bool) (xs ys : List ℕ) → count_by p (xs ++ ys) ≡ count_by p xs + count_by p ys
 count_push p [] ys = omega arith
 count_push p (x ∷ xs) ys =
     let f : ℕ → ℕ = λ y. cond (p y) 1 0 in
@@ -166,9 +166,9 @@ resets_more line byte taken t =
 -- A byte more has come.
 pub has_come : (old now : SeenLine) (byte : ℕ) (answer : Stripped) → Feeds old.comment byte answer now.comment → byte ≢ 10
     → now.kept ≡ cond (list_any is_reset (taken_by answer)) [] (old.kept ++ kept_by answer)
-    → now.resets ≡ old.resets + count_by is_reset (taken_by answer) → now.cuts ≡ old.cuts + count_by may_cut (taken_by answer) → now.holds ≡ old.holds + count_by is_hold (taken_by answer)
+    → now.resets ≡ old.resets + count_by is_reset (taken_by answer) → now.cuts ≡ old.cuts + count_by may_cut (taken_by answer)
     → (line : List ℕ) → HasCome line old → HasCome (line ++ byte ∷ []) now
-has_come old now byte answer f inside kept resets cuts holds line h =
+has_come old now byte answer f inside kept resets cuts line h =
     let k = kept_is line byte old.comment now.comment answer f inside h.comment in
     let t = taken_is line byte old.comment now.comment answer f inside h.comment in
     let more = f.taken line inside h.comment in
@@ -177,34 +177,33 @@ has_come old now byte answer f inside kept resets cuts holds line h =
       kept = kept ∙ ap (λ (l : List ℕ). cond (list_any is_reset (taken_by answer)) [] (l ++ kept_by answer)) h.kept ∙ sym (kept_more line byte (kept_by answer) (taken_by answer) k t);
       resets = resets ∙ ap (λ (n : ℕ). n + count_by is_reset (taken_by answer)) h.resets ∙ sym (resets_more line byte (taken_by answer) t);
       cuts = cuts ∙ ap (λ (n : ℕ). n + count_by may_cut (taken_by answer)) h.cuts ∙ sym (ap (count_by may_cut) more ∙ count_push may_cut (realtime line) (taken_by answer));
-      holds = holds ∙ ap (λ (n : ℕ). n + count_by is_hold (taken_by answer)) h.holds ∙ sym (ap (count_by is_hold) more ∙ count_push is_hold (realtime line) (taken_by answer));
     }
 
 -- ---- what a reader does with a byte
 
-pub nothing_came : (v : SeenLine) → v.comment ≡ comment_after [] → v.kept ≡ [] → v.resets ≡ 0 → v.cuts ≡ 0 → v.holds ≡ 0 → HasCome [] v
+pub nothing_came : (v : SeenLine) → v.comment ≡ comment_after [] → v.kept ≡ [] → v.resets ≡ 0 → v.cuts ≡ 0 → HasCome [] v
 unfolding cut_within
-nothing_came v comment kept resets cuts holds = record { comment = comment; kept = kept; resets = resets; cuts = cuts; holds = holds }
+nothing_came v comment kept resets cuts = record { comment = comment; kept = kept; resets = resets; cuts = cuts }
 
 pub kept_comes : (old now : SeenLine) (byte b : ℕ) (answer : Stripped) → answer ≡ Keep b → Feeds old.comment byte answer now.comment → byte ≢ 10
-    → now.kept ≡ old.kept ++ b ∷ [] → now.resets ≡ old.resets → now.cuts ≡ old.cuts → now.holds ≡ old.holds
+    → now.kept ≡ old.kept ++ b ∷ [] → now.resets ≡ old.resets → now.cuts ≡ old.cuts
     → (line : List ℕ) → HasCome line old → HasCome (line ++ byte ∷ []) now
-kept_comes old now byte b answer is f inside kept resets cuts holds =
-    has_come old now byte (Keep b) (subst (λ (a : Stripped). Feeds old.comment byte a now.comment) is f) inside kept (resets ∙ omega arith) (cuts ∙ omega arith) (holds ∙ omega arith)
+kept_comes old now byte b answer is f inside kept resets cuts =
+    has_come old now byte (Keep b) (subst (λ (a : Stripped). Feeds old.comment byte a now.comment) is f) inside kept (resets ∙ omega arith) (cuts ∙ omega arith)
 
 pub nothing_comes : (old now : SeenLine) (byte : ℕ) (answer : Stripped) → answer ≡ Nothing → Feeds old.comment byte answer now.comment → byte ≢ 10
-    → now.kept ≡ old.kept → now.resets ≡ old.resets → now.cuts ≡ old.cuts → now.holds ≡ old.holds
+    → now.kept ≡ old.kept → now.resets ≡ old.resets → now.cuts ≡ old.cuts
     → (line : List ℕ) → HasCome line old → HasCome (line ++ byte ∷ []) now
-nothing_comes old now byte answer is f inside kept resets cuts holds =
-    has_come old now byte Nothing (subst (λ (a : Stripped). Feeds old.comment byte a now.comment) is f) inside (kept ∙ sym (append-nil old.kept)) (resets ∙ omega arith) (cuts ∙ omega arith) (holds ∙ omega arith)
+nothing_comes old now byte answer is f inside kept resets cuts =
+    has_come old now byte Nothing (subst (λ (a : Stripped). Feeds old.comment byte a now.comment) is f) inside (kept ∙ sym (append-nil old.kept)) (resets ∙ omega arith) (cuts ∙ omega arith)
 
 or_not : (b : Bool) → (b || false) ≡ b
 or_not true = refl
 or_not false = refl
 
 pub realtime_comes : (old now : SeenLine) (byte b : ℕ) (answer : Stripped) → answer ≡ Realtime b → Feeds old.comment byte answer now.comment → byte ≢ 10
-    → now.kept ≡ cond (is_reset b) [] old.kept → now.resets ≡ old.resets + count_by is_reset (b ∷ []) → now.cuts ≡ old.cuts + count_by may_cut (b ∷ []) → now.holds ≡ old.holds + count_by is_hold (b ∷ [])
+    → now.kept ≡ cond (is_reset b) [] old.kept → now.resets ≡ old.resets + count_by is_reset (b ∷ []) → now.cuts ≡ old.cuts + count_by may_cut (b ∷ [])
     → (line : List ℕ) → HasCome line old → HasCome (line ++ byte ∷ []) now
-realtime_comes old now byte b answer is f inside kept resets cuts holds =
+realtime_comes old now byte b answer is f inside kept resets cuts =
     has_come old now byte (Realtime b) (subst (λ (a : Stripped). Feeds old.comment byte a now.comment) is f) inside
-    (kept ∙ ap (λ (t : Bool). cond t [] old.kept) (sym (or_not (is_reset b))) ∙ ap (λ (l : List ℕ). cond (is_reset b || false) [] l) (sym (append-nil old.kept))) resets cuts holds
+    (kept ∙ ap (λ (t : Bool). cond t [] old.kept) (sym (or_not (is_reset b))) ∙ ap (λ (l : List ℕ). cond (is_reset b || false) [] l) (sym (append-nil old.kept))) resets cuts

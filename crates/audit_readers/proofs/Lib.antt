@@ -10,3 +10,4 @@ pub mod Alike
 pub mod Taking
 pub mod Scanning
 pub mod Reading
+pub mod Holding

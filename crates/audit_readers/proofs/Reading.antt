@@ -75,14 +75,13 @@ pub record HasReadLine (old now : JobRead) (before after : SourceState) : Type 0
   pub kept : length now.line.kept < 128
   pub resets : now.line.resets ≤ length front
   pub cuts : now.line.cuts ≤ length front
-  pub holds : now.line.holds ≤ length front
   pub known : KnowsEnd now.window after
   pub room : now.place ≤ largest_job
   pub same : after.faults ≡ before.faults
 
-pub nothing_read : (old now : JobRead) (s : SourceState) → now.window ≡ old.window → now.place ≡ old.place → HasCome [] now.line → now.line.kept ≡ [] → now.line.resets ≡ 0 → now.line.cuts ≡ 0 → now.line.holds ≡ 0
+pub nothing_read : (old now : JobRead) (s : SourceState) → now.window ≡ old.window → now.place ≡ old.place → HasCome [] now.line → now.line.kept ≡ [] → now.line.resets ≡ 0 → now.line.cuts ≡ 0
     → KnowsEnd old.window s → old.place ≤ largest_job → HasReadLine old now s s
-nothing_read old now s window place come kept resets cuts holds known room = record {
+nothing_read old now s window place come kept resets cuts known room = record {
   front = [];
   come = come;
   inside = tt;
@@ -92,17 +91,16 @@ nothing_read old now s window place come kept resets cuts holds known room = rec
   kept = (let e = ap length kept in omega (arith, e));
   resets = omega (arith, resets);
   cuts = omega (arith, cuts);
-  holds = omega (arith, holds);
   known = subst (λ (w : Window). KnowsEnd w s) (sym window) known;
   room = omega (arith, place, room);
   same = refl;
 }
 
-all_push : (xs : List ℕ) (x : ℕ) → HasNoLf xs → nat_eq x 10 ≡ false → HasNoLf (xs ++ x ∷ [])
+pub all_push : (xs : List ℕ) (x : ℕ) → HasNoLf xs → nat_eq x 10 ≡ false → HasNoLf (xs ++ x ∷ [])
 all_push [] x h p = (p, tt)
 all_push (y ∷ ys) x h p = (h.0, all_push ys x h.1 p)
 
-no_lf : (byte : ℕ) → byte ≢ 10 → nat_eq byte 10 ≡ false
+pub no_lf : (byte : ℕ) → byte ≢ 10 → nat_eq byte 10 ≡ false
 no_lf byte other = grind (arith, nat_tests)
 
 -- the bytes so far and this one
@@ -111,9 +109,9 @@ text_more a b c s t u byte h one = consumed_on (ahead a.window s) (ahead b.windo
 
 pub byte_read : (a b c d : JobRead) (s t u : SourceState) (byte : ℕ) → HasReadLine a b s t → TakesByte b c t u byte → byte ≢ 10
     → d.window ≡ c.window → d.place ≡ c.place → ((line : List ℕ) → HasCome line c.line → HasCome (line ++ byte ∷ []) d.line)
-    → d.line.resets ≤ c.line.resets + 1 → d.line.cuts ≤ c.line.cuts + 1 → d.line.holds ≤ c.line.holds + 1 → nat_lt 127 (length d.line.kept) ≡ false
+    → d.line.resets ≤ c.line.resets + 1 → d.line.cuts ≤ c.line.cuts + 1 → nat_lt 127 (length d.line.kept) ≡ false
     → HasReadLine a d s u
-byte_read a b c d s t u byte h one other window place come resets cuts holds few =
+byte_read a b c d s t u byte h one other window place come resets cuts few =
     let long : length (h.front ++ byte ∷ []) ≡ length h.front + 1 = length-append h.front (byte ∷ []) in
     let here : HasCome (h.front ++ byte ∷ []) d.line = come h.front (subst (λ (v : SeenLine). HasCome h.front v) (sym one.line) h.come) in
     let before = h.place in
@@ -121,10 +119,8 @@ byte_read a b c d s t u byte h one other window place come resets cuts holds few
     let space = one.room in
     let r = ap (λ (v : SeenLine). v.resets) one.line in
     let q = ap (λ (v : SeenLine). v.cuts) one.line in
-    let o = ap (λ (v : SeenLine). v.holds) one.line in
     let hr = h.resets in
     let hq = h.cuts in
-    let ho = h.holds in
     record {
       front = h.front ++ byte ∷ [];
       come = here;
@@ -135,7 +131,6 @@ byte_read a b c d s t u byte h one other window place come resets cuts holds few
       kept = grind (arith, nat_tests, few);
       resets = omega (arith, long, resets, r, hr);
       cuts = omega (arith, long, cuts, q, hq);
-      holds = omega (arith, long, holds, o, ho);
       known = subst (λ (w : Window). KnowsEnd w u) (sym window) one.known;
       room = omega (arith, step, space, place);
       same = one.same ∙ h.same;
@@ -143,7 +138,7 @@ byte_read a b c d s t u byte h one other window place come resets cuts holds few
 
 -- ---- its end
 
-known_split : (o p : Option (List ℕ)) (bytes : List ℕ) → Consumes o p bytes → (text : List ℕ) → o ≡ Some text → (more : List ℕ) × (p ≡ Some more) × (text ≡ bytes ++ more)
+pub known_split : (o p : Option (List ℕ)) (bytes : List ℕ) → Consumes o p bytes → (text : List ℕ) → o ≡ Some text → (more : List ℕ) × (p ≡ Some more) × (text ≡ bytes ++ more)
 known_split None p bytes c text e = cc
 known_split (Some xs) None bytes c text e = absurd c
 known_split (Some xs) (Some ys) bytes c text e = (ys, refl, (let f : xs ≡ text = cc in sym f ∙ c))
@@ -307,10 +302,9 @@ pub record IsFed (c d : JobRead) (byte : ℕ) : Type 0 where
   pub come : (line : List ℕ) → HasCome line c.line → HasCome (line ++ byte ∷ []) d.line
   pub resets : d.line.resets ≤ c.line.resets + 1
   pub cuts : d.line.cuts ≤ c.line.cuts + 1
-  pub holds : d.line.holds ≤ c.line.holds + 1
 
 pub fed_read : (a b c d : JobRead) (s t u : SourceState) (byte : ℕ) → HasReadLine a b s t → TakesByte b c t u byte → byte ≢ 10 → IsFed c d byte → nat_lt 127 (length d.line.kept) ≡ false → HasReadLine a d s u
-fed_read a b c d s t u byte h one other f few = byte_read a b c d s t u byte h one other f.window f.place f.come f.resets f.cuts f.holds few
+fed_read a b c d s t u byte h one other f few = byte_read a b c d s t u byte h one other f.window f.place f.come f.resets f.cuts few
 
 pub fed_long : (a b c d : JobRead) (s t u : SourceState) (byte : ℕ) → HasReadLine a b s t → TakesByte b c t u byte → byte ≢ 10 → IsFed c d byte → nat_lt 127 (length d.line.kept) ≡ true → ReadsLast a d s u
 fed_long a b c d s t u byte h one other f many = long_read a b c d s t u byte h one other f.window f.place f.come many

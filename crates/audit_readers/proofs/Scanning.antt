@@ -11,7 +11,7 @@ use Rattle.audit_rules.specs.Scanned.{Scanned, onto_lines, up_to_long, open_line
 
 -- ---- the first line of a text
 
-line_first : (xs rest : List ℕ) → HasNoLf xs → lines_of (xs ++ 10 ∷ rest) ≡ xs ∷ lines_of rest
+pub line_first : (xs rest : List ℕ) → HasNoLf xs → lines_of (xs ++ 10 ∷ rest) ≡ xs ∷ lines_of rest
 line_first [] rest h = refl
 line_first (c ∷ cs) rest h = rw h.0 (ap (onto_first c) (line_first cs rest h.1))
 
@@ -23,7 +23,7 @@ no_whole : (xs : List ℕ) → HasNoLf xs → whole_lines xs ≡ []
 no_whole [] h = refl
 no_whole (c ∷ cs) h = rw h.0 (ap (onto_line c) (no_whole cs h.1))
 
-one_line : (c : ℕ) (cs : List ℕ) → HasNoLf (c ∷ cs) → lines_of (c ∷ cs) ≡ (c ∷ cs) ∷ []
+pub one_line : (c : ℕ) (cs : List ℕ) → HasNoLf (c ∷ cs) → lines_of (c ∷ cs) ≡ (c ∷ cs) ∷ []
 one_line c [] h = rw h.0 refl
 one_line c (d ∷ ds) h = rw h.0 (ap (onto_first c) (one_line d ds h.1))
 

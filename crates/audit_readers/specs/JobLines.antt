@@ -3,16 +3,15 @@ use Rattle.std.specs.Prelude.{◌≡◌, ℕ, List}
 use Rattle.gcode_words.specs.Comments.{comment_after}
 use Rattle.gcode_words.specs.declared.stripping.Comment.{Comment}
 use Rattle.run_texts.specs.Sent.{kept_of, resets_of}
-use Rattle.audit_rules.specs.Scanned.{cuts_by, holds_by}
+use Rattle.audit_rules.specs.Scanned.{cuts_by}
 
--- the comment that it is in, what is kept of it behind its last reset, and how many resets, bytes that may cut jogs, and
--- holds have come
+-- the comment that it is in, what is kept of it behind its last reset, and how many resets, and bytes that may cut jogs,
+-- have come
 pub record SeenLine : Type 0 where
   pub comment : Comment
   pub kept : List ℕ
   pub resets : ℕ
   pub cuts : ℕ
-  pub holds : ℕ
 
 -- these bytes have come
 pub record HasCome (line : List ℕ) (v : SeenLine) : Type 0 where
@@ -20,4 +19,3 @@ pub record HasCome (line : List ℕ) (v : SeenLine) : Type 0 where
   pub kept : v.kept ≡ kept_of line
   pub resets : v.resets ≡ resets_of line
   pub cuts : v.cuts ≡ cuts_by line
-  pub holds : v.holds ≡ holds_by line

@@ -1,12 +1,15 @@
 -- A job, read line by line.
 use Rattle.std.specs.Prelude.{◌≡◌, ◌<◌, ◌≤◌, ℕ, ◌+◌, ◌-◌, Bool, true, false, cond, List, [], ◌∷◌, take, length, nat_lt, Some}
 use Rattle.std.specs.Io.KnownBytes.{Consumes, Keeps}
+use Rattle.std.specs.List.{sum_by}
 use Rattle.outside.specs.Causes.{Rose, SourceState}
-use Rattle.run_rules.specs.Lines.{lines_of, whole_lines}
+use Rattle.gcode_words.specs.Comments.{comment_after}
+use Rattle.run_rules.specs.Lines.{CutsInto, lines_of, whole_lines}
 use Rattle.run_rules.specs.Readings.{largest_job}
-use Rattle.audit_rules.specs.Scanned.{Scanned, onto_lines, up_to_long, open_line}
+use Rattle.audit_rules.specs.Scanned.{Scanned, holds_by, onto_lines, up_to_long, open_line}
 use Rattle.audit_readers.specs.JobLines.{SeenLine, HasCome}
 use Rattle.audit_readers.specs.Windows.{Window, ahead, KnowsEnd}
+use Rattle.audit_readers.specs.declared.holds.Holds.{Holds}
 use Rattle.audit_readers.specs.declared.jobs.Next.{Next}
 use Rattle.audit_readers.specs.declared.jobs.Next.TheVariants.{Byte, End, TooLarge}
 
@@ -101,3 +104,21 @@ pub record ReadsLast (old now : JobRead) (before after : SourceState) : Type 0 w
 abbrev pub ReadsLine : JobRead → JobRead → SourceState → SourceState → Bool → Type 0
 ReadsLine old now before after true = ReadsSentLine old now before after
 ReadsLine old now before after false = ReadsLast old now before after
+
+-- ---- its holds
+
+-- these bytes have come: so many holds of their lines, and the comment that the last line is in
+pub record HaveCome (bytes : List ℕ) (h : Holds) : Type 0 where
+  pub lines : List (List ℕ)
+  pub line : List ℕ
+  pub cut : CutsInto bytes lines line
+  pub comment : h.stripper ≡ comment_after line
+  pub count : h.count ≡ sum_by holds_by lines + holds_by line
+
+-- so many holds follow, up to the largest job's end, outside the comments of lines
+pub record CountsHolds (old now : JobRead) (before after : SourceState) (count : ℕ) : Type 0 where
+  pub counted : (text : List ℕ) → ahead old.window before ≡ Some text → count ≡ sum_by holds_by (lines_behind old.place text)
+  pub line : now.line ≡ old.line
+  pub known : KnowsEnd now.window after
+  pub room : now.place ≤ largest_job
+  pub same : after.faults ≡ before.faults

@@ -4,7 +4,7 @@ ghost use Rattle.std.specs.Prelude.{◌≡◌, ◌+◌, ℕ, ◌++◌, [], cond}
 ghost use Rattle.std.specs.List.{list_any, count_by};
 ghost use Rattle.gcode_words.specs.Stripping.{kept_by, taken_by};
 ghost use Rattle.run_texts.specs.Sent.{is_reset};
-ghost use Rattle.audit_rules.specs.Scanned.{is_hold, may_cut};
+ghost use Rattle.audit_rules.specs.Scanned.{may_cut};
 
 use arrayvec::ArrayVec;
 use gcode_words::realtime_bytes::{CANCEL, HOLD, RESET};
@@ -12,14 +12,13 @@ use gcode_words::{Stripped, Stripper};
 use std::marker::Model;
 
 /// What has come of a line: what is kept of it behind its last reset, up to the byte with which that is too much; and how
-/// many resets, bytes that may cut jogs, and holds.
+/// many resets, and bytes that may cut jogs.
 #[derive(Drop)]
 pub struct JobLine {
     stripper: Stripper,
     kept: ArrayVec<u8, 128>,
     resets: u32,
     cuts: u32,
-    holds: u32,
 }
 
 impl Model for JobLine {
@@ -27,7 +26,7 @@ impl Model for JobLine {
 
     ghost Value = { SeenLine };
 
-    ghost view = { λ l. record { comment = l.stripper; kept = l.kept.items; resets = l.resets; cuts = l.cuts; holds = l.holds } };
+    ghost view = { λ l. record { comment = l.stripper; kept = l.kept.items; resets = l.resets; cuts = l.cuts } };
 }
 
 impl JobLine {
@@ -40,14 +39,12 @@ impl JobLine {
         ensures kept { result.kept ≡ [] }
         ensures resets { result.resets ≡ 0 }
         ensures cuts { result.cuts ≡ 0 }
-        ensures holds { result.holds ≡ 0 }
     {
         JobLine {
             stripper: Stripper::new(),
             kept: ArrayVec::new(),
             resets: 0,
             cuts: 0,
-            holds: 0,
         }
     }
 
@@ -57,11 +54,9 @@ impl JobLine {
         requires short { length self.old.kept < 128 }
         requires few { (self.old.resets + 1 < 2 ^ 32) }
         requires few_cuts { self.old.cuts + 1 < 2 ^ 32 }
-        requires few_holds { self.old.holds + 1 < 2 ^ 32 }
         ensures come { (line : List ℕ) → HasCome line self.old → HasCome (line ++ byte ∷ []) self.new }
         ensures resets { self.new.resets ≤ self.old.resets + 1 }
         ensures cuts { self.new.cuts ≤ self.old.cuts + 1 }
-        ensures holds { self.new.holds ≤ self.old.holds + 1 }
     {
         match self.stripper.feed(byte) {
             Stripped::Keep(kept) => self.kept.push(kept),
@@ -75,26 +70,19 @@ impl JobLine {
     fn take(&mut self, byte: u8)
         requires few { (self.old.resets + 1 < 2 ^ 32) }
         requires few_cuts { self.old.cuts + 1 < 2 ^ 32 }
-        requires few_holds { self.old.holds + 1 < 2 ^ 32 }
         ensures comment { self.new.comment ≡ self.old.comment }
         ensures kept { self.new.kept ≡ cond (is_reset byte) [] self.old.kept }
         ensures resets { self.new.resets ≡ self.old.resets + count_by is_reset (byte ∷ []) }
         ensures cuts { self.new.cuts ≡ self.old.cuts + count_by may_cut (byte ∷ []) }
-        ensures holds { self.new.holds ≡ self.old.holds + count_by is_hold (byte ∷ []) }
         ensures few_resets { self.new.resets ≤ self.old.resets + 1 }
         ensures few_taken { self.new.cuts ≤ self.old.cuts + 1 }
-        ensures few_held { self.new.holds ≤ self.old.holds + 1 }
     {
         match byte {
             RESET => {
                 self.kept.clear();
                 self.resets += 1;
             }
-            HOLD => {
-                self.cuts += 1;
-                self.holds += 1;
-            }
-            CANCEL => self.cuts += 1,
+            HOLD | CANCEL => self.cuts += 1,
             _ => {}
         }
     }
@@ -125,12 +113,5 @@ impl JobLine {
         ensures { result ≡ self.now.cuts }
     {
         self.cuts
-    }
-
-    /// How many holds have come.
-    pub fn holds(&self) -> u32
-        ensures { result ≡ self.now.holds }
-    {
-        self.holds
     }
 }

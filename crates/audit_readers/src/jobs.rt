@@ -1,5 +1,6 @@
 //! A job, line by line.
 
+use crate::holds::Holds;
 use crate::{JobLine, Window};
 use outside::{Failed, Source};
 use std::marker::Model;
@@ -37,7 +38,7 @@ impl JobReader {
     ghost use Rattle.audit_readers.specs.JobLines.{HasCome};
     ghost use Rattle.outside.specs.Causes.{Rose};
     ghost use Rattle.run_rules.specs.Readings.{largest_job};
-    ghost use Rattle.audit_readers.specs.Jobs.{GoesOnBy, FailsToGoOn, ReadsLine};
+    ghost use Rattle.audit_readers.specs.Jobs.{GoesOnBy, FailsToGoOn, ReadsLine, CountsHolds};
     ghost use Rattle.audit_readers.specs.Windows.{KnowsEnd};
 
     /// Nothing is read, and no line.
@@ -85,13 +86,11 @@ impl JobReader {
         requires short { length self.old.line.kept < 128 }
         requires few { self.old.line.resets + 1 < 2 ^ 32 }
         requires few_cuts { self.old.line.cuts + 1 < 2 ^ 32 }
-        requires few_holds { self.old.line.holds + 1 < 2 ^ 32 }
         ensures window { self.new.window ≡ self.old.window }
         ensures place { self.new.place ≡ self.old.place }
         ensures come { (line : List ℕ) → HasCome line self.old.line → HasCome (line ++ byte ∷ []) self.new.line }
         ensures resets { self.new.line.resets ≤ self.old.line.resets + 1 }
         ensures cuts { self.new.line.cuts ≤ self.old.line.cuts + 1 }
-        ensures holds { self.new.line.holds ≤ self.old.line.holds + 1 }
     {
         self.line.feed(byte);
     }
@@ -114,6 +113,21 @@ impl JobReader {
             }
             if self.line.is_long() {
                 return Ok(false);
+            }
+        }
+    }
+
+    /// Counts the holds of all that follows. No line of that is read any more.
+    pub fn count_holds<S: Source>(&mut self, source: &mut S) -> Result<u32, Failed>
+        requires known { KnowsEnd self.old.window (S.state source.old) }
+        requires room { self.old.place ≤ largest_job }
+        ensures { MatchResult result (λ count. CountsHolds self.old self.new (S.state source.old) (S.state source.new) count) (λ e. Rose (S.state source.old).faults (S.state source.new).faults) }
+    {
+        let mut holds = Holds::new();
+        loop {
+            match self.next_byte(source)? {
+                Next::Byte(byte) => holds.feed(byte),
+                Next::End | Next::TooLarge => return Ok(holds.count()),
             }
         }
     }

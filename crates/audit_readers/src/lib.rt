@@ -3,6 +3,7 @@
 
 mod console;
 mod findings;
+mod holds;
 mod job_line;
 mod jobs;
 mod laws;

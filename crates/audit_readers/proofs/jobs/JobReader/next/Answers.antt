@@ -25,7 +25,7 @@ pub returns-then-is_long : goal.returns-then-is_long
 returns-then-is_long g c =
     let one : TakesByte c.loop-byte.self c.next_byte.new.self (g.S.Source.state c.loop-byte.source) (g.S.Source.state c.next_byte.new.source) c.in-Byte.byte = search rules in
     let other : c.in-Byte.byte ≢ 10 = search rules in
-    let f : IsFed c.next_byte.new.self c.feed.new.self c.in-Byte.byte = record { window = c.feed.ensures.window; place = c.feed.ensures.place; come = c.feed.ensures.come; resets = c.feed.ensures.resets; cuts = c.feed.ensures.cuts; holds = c.feed.ensures.holds } in
+    let f : IsFed c.next_byte.new.self c.feed.new.self c.in-Byte.byte = record { window = c.feed.ensures.window; place = c.feed.ensures.place; come = c.feed.ensures.come; resets = c.feed.ensures.resets; cuts = c.feed.ensures.cuts } in
     let many : nat_lt 127 (length c.feed.new.self.line.kept) ≡ true = sym (ap (λ (r : JobRead). nat_lt 127 (length r.line.kept)) c.self-in-loop-byte.view_is) ∙ sym c.is_long.ensures ∙ c.if-is_long.true in
     fed_long c.args.self.now c.loop-byte.self c.next_byte.new.self c.feed.new.self (g.S.Source.state c.args.source.now) (g.S.Source.state c.loop-byte.source) (g.S.Source.state c.next_byte.new.source) c.in-Byte.byte
     c.loop-byte.invariant one other f many
@@ -34,7 +34,7 @@ pub loop-byte-preserved : goal.loop-byte-preserved
 loop-byte-preserved g c =
     let one : TakesByte c.loop-byte.self c.next_byte.new.self (g.S.Source.state c.loop-byte.source) (g.S.Source.state c.next_byte.new.source) c.in-Byte.byte = search rules in
     let other : c.in-Byte.byte ≢ 10 = search rules in
-    let f : IsFed c.next_byte.new.self c.feed.new.self c.in-Byte.byte = record { window = c.feed.ensures.window; place = c.feed.ensures.place; come = c.feed.ensures.come; resets = c.feed.ensures.resets; cuts = c.feed.ensures.cuts; holds = c.feed.ensures.holds } in
+    let f : IsFed c.next_byte.new.self c.feed.new.self c.in-Byte.byte = record { window = c.feed.ensures.window; place = c.feed.ensures.place; come = c.feed.ensures.come; resets = c.feed.ensures.resets; cuts = c.feed.ensures.cuts } in
     let few : nat_lt 127 (length c.feed.new.self.line.kept) ≡ false = sym (ap (λ (r : JobRead). nat_lt 127 (length r.line.kept)) c.self-in-loop-byte.view_is) ∙ sym c.is_long.ensures ∙ c.if-is_long.false in
     fed_read c.args.self.now c.loop-byte.self c.next_byte.new.self c.feed.new.self (g.S.Source.state c.args.source.now) (g.S.Source.state c.loop-byte.source) (g.S.Source.state c.next_byte.new.source) c.in-Byte.byte
     c.loop-byte.invariant one other f few
