@@ -11,3 +11,4 @@ pub mod Taking
 pub mod Scanning
 pub mod Reading
 pub mod Holding
+pub mod Sizes
