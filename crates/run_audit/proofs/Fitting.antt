@@ -1,9 +1,9 @@
 -- Texts that are read whole, and that the judge found to fit.
-use Rattle.std.proofs.Common.{◌≡◌, ◌≤◌, ◌<◌, ◌+◌, ◌-◌, ◌||◌, ℕ, zero, suc, nat_lt, Bool, true, false, cond, List, [], ◌∷◌, ◌++◌, append-nil, append_assoc, length, take, None, Some, IfSome, sym, refl, ap, ◌∙◌, subst, arith}
+use Rattle.std.proofs.Common.{◌≡◌, ◌≤◌, ◌<◌, ◌-◌, ◌||◌, ℕ, zero, suc, nat_lt, Bool, true, false, List, [], ◌∷◌, ◌++◌, append-nil, append_assoc, length, take, None, IfSome, sym, refl, ap, ◌∙◌, subst, arith}
 use Rattle.std.specs.declared.option.Option.{Option}
 use Rattle.std.proofs.lemmas.Bool.Decides.{nat_tests}
-use Rattle.std.proofs.lemmas.List.{take-append-le}
 use Rattle.std.proofs.lemmas.List.Elements.{filter-append}
+use Rattle.std.proofs.Math.Seq.{take-append_seam}
 use Rattle.flight.specs.Places.{origin}
 use Rattle.outside.specs.Causes.{SourceState}
 use Rattle.legal_heads.specs.Whole.{events_among, is_event}
@@ -17,19 +17,18 @@ use Rattle.run_rules.specs.Outcomes.{either}
 use Rattle.run_rules.specs.States.{IsOpening}
 use Rattle.run_texts.specs.Fits.{FitsTexts}
 use Rattle.run_texts.specs.Parts.{Part, parts_of}
-use Rattle.run_texts.specs.Points.{Point, opening}
+use Rattle.run_texts.specs.Points.{Point}
 use Rattle.run_texts.specs.Recorded.{AreRecorded}
 use Rattle.run_texts.specs.Sent.{Sent, kept_of}
-use Rattle.run_texts.specs.Told.{told_in, IsTold}
 use Rattle.run_texts.proofs.Leading.{onto_none}
 use Rattle.audit_rules.specs.Findings.{TextsFit, FitsWith, HasForeign, is_foreign, foreign_in}
-use Rattle.audit_rules.specs.Scanned.{scanned, sent_in, cuts_scanned, cuts_with_alarm, most_cuts}
+use Rattle.audit_rules.specs.Scanned.{sent_in, most_cuts}
 use Rattle.audit_rules.specs.StepTexts.{IsStepText, records_of}
-use Rattle.audit_course.specs.SoFar.{GoesTo, IsOver}
+use Rattle.audit_course.specs.SoFar.{IsOver}
 use Rattle.audit_course.specs.declared.judge.CourseJudge.{CourseJudge}
 use Rattle.audit_rules.proofs.Alarmed.{alarm_of}
-use Rattle.run_audit.specs.SoFar.{JobSoFar, IsLeft, IsWhole, IsAllRead, audited}
-use Rattle.run_audit.proofs.JobRead.{all_sent, front_sent, few_cuts, few_cuts_to, IsFront}
+use Rattle.run_audit.specs.SoFar.{JobSoFar, IsWhole, IsAllRead, untold_of}
+use Rattle.run_audit.proofs.JobRead.{all_sent, front_sent, cuts_are, lines_whole}
 use Rattle.run_audit.specs.declared.sending.Sending.{Sending}
 
 -- what is told of the job is all of it, or what comes up to the line that raises an alarm
@@ -39,26 +38,26 @@ record EndsJob (text : List ℕ) (sent : List Sent) (cuts : ℕ) (last : Point) 
   pub over : either last.before.alarmed (Unit {0}) (later ≡ [])
   pub few : cuts ≤ most_cuts text last
 
+few_of : (n m : ℕ) → n ≡ m → n ≤ m
+few_of n m is = omega (arith, is)
+
 ends_job : (s : Sending) (source : SourceState) (text : List ℕ) (sent more : List Sent) (last : Point) (halts : Bool) (number : ℕ) → (s.last ≡ None → more ≡ []) → JobSoFar s source text (sent ++ more)
     → last.before.alarmed ≡ halts → last.before.number ≡ number → IsAllRead s halts number → EndsJob text sent s.cuts last
 ends_job s source text sent more last true number none j alarmed is all =
     let f = front_sent s source text (sent ++ more) j in
-    let number_is = all.2 in
-    let k : last.before.number - 1 ≡ all.0 = omega (arith, is, number_is) in
-    let few : s.cuts ≤ cuts_with_alarm (last.before.number - 1) text = subst (λ (n : ℕ). s.cuts ≤ cuts_with_alarm n text) (sym k) (few_cuts_to s source text (sent ++ more) all.0 all.1 j) in
     record {
-      later = more ++ f.later;
-      split = f.split ∙ append_assoc sent more f.later;
-      over = subst (λ (b : Bool). either b (Unit {0}) (more ++ f.later ≡ [])) (sym alarmed) tt;
-      few = subst (λ (b : Bool). s.cuts ≤ cond b (cuts_with_alarm (last.before.number - 1) text) (cuts_scanned (scanned text))) (sym alarmed) few;
+      later = more ++ (untold_of s ++ f.later);
+      split = f.split ∙ append_assoc sent more (untold_of s ++ f.later);
+      over = subst (λ (b : Bool). either b (Unit {0}) (more ++ (untold_of s ++ f.later) ≡ [])) (sym alarmed) tt;
+      few = few_of s.cuts (most_cuts text last) (cuts_are s source text (sent ++ more) true number last j all alarmed is);
     }
 ends_job s source text sent more last false number none j alarmed is all =
-    let whole : sent ++ [] ≡ sent_in text = ap (λ (ss : List Sent). sent ++ ss) (sym (none all.0)) ∙ all_sent s source text (sent ++ more) all.1 all.2 all.3 j in
+    let whole : sent ++ [] ≡ sent_in text = ap (λ (ss : List Sent). sent ++ ss) (sym (none all.0)) ∙ all_sent s source text (sent ++ more) all.0 all.1 all.2 all.3 j in
     record {
       later = [];
       split = sym whole;
       over = subst (λ (b : Bool). either b (Unit {0}) (◌≡◌ {A = List Sent} [] [])) (sym alarmed) refl;
-      few = subst (λ (b : Bool). s.cuts ≤ cond b (cuts_with_alarm (last.before.number - 1) text) (cuts_scanned (scanned text))) (sym alarmed) (few_cuts s source text (sent ++ more) all.0 j);
+      few = few_of s.cuts (most_cuts text last) (cuts_are s source text (sent ++ more) false number last j all alarmed is);
     }
 
 no_event : (records : List Record) → events_among (records ++ kinds.End ∷ []) ≡ events_among records
@@ -131,7 +130,7 @@ not_in_front xs y zs zero few none is = absurd (omega (arith, few))
 not_in_front [] y zs (suc k) few none is = differ (is_foreign (kept_of y)) is (or_first (is_foreign (kept_of y)) (foreign_in (take k zs)) none)
 not_in_front (x ∷ xs) y zs (suc k) few none is = not_in_front xs y zs k (omega (arith, few)) (or_second (is_foreign (kept_of x)) (foreign_in (take k (xs ++ y ∷ zs))) none) is
 
-not_among : {A : Type 0} (xs : List (List ℕ)) (y : List ℕ) (zs : List (List ℕ)) → foreign_in (xs ++ y ∷ zs) ≡ false → is_foreign (kept_of y) ≡ true → A
+pub not_among : {A : Type 0} (xs : List (List ℕ)) (y : List ℕ) (zs : List (List ℕ)) → foreign_in (xs ++ y ∷ zs) ≡ false → is_foreign (kept_of y) ≡ true → A
 not_among [] y zs none is = differ (is_foreign (kept_of y)) is (or_first (is_foreign (kept_of y)) (foreign_in zs) none)
 not_among (x ∷ xs) y zs none is = not_among xs y zs (or_second (is_foreign (kept_of x)) (foreign_in (xs ++ y ∷ zs)) none) is
 
@@ -139,22 +138,17 @@ not_among (x ∷ xs) y zs none is = not_among xs y zs (or_second (is_foreign (ke
 pub none_foreign : {A : Type 0} (s : Sending) (source : SourceState) (job console steps : List ℕ) (told : List Sent) (events number : ℕ) (halts : Bool) → s.foreign ≡ 0 → JobSoFar s source job told → IsAllRead s halts number
     → FitFound job console steps events number halts → HasForeign job console steps → A
 none_foreign s source job console steps told events number false clean j all f h =
-    let none : j.left.lines ≡ [] = subst (λ (b : Bool). IsLeft b s.reader source j.left j.later) all.1 j.goes_on in
-    let lines : h.1.before ++ h.1.here ∷ h.1.behind ≡ j.lines = sym h.1.split ∙ j.split ∙ ap (λ (ls : List (List ℕ)). j.lines ++ ls) none ∙ append-nil j.lines in
-    let audited_are : foreign_in j.lines ≡ false = subst (λ (o : Option ℕ). foreign_in (audited o j.lines) ≡ false) all.0 (j.foreign.none clean) in
-    not_among h.1.before h.1.here h.1.behind (ap foreign_in lines ∙ audited_are) h.1.is
+    let lines : h.1.before ++ h.1.here ∷ h.1.behind ≡ j.lines = sym h.1.split ∙ lines_whole s source job told j all.0 all.1 in
+    not_among h.1.before h.1.here h.1.behind (ap foreign_in lines ∙ j.foreign.none clean) h.1.is
 none_foreign s source job console steps told events number true clean j all f h = by_place (nat_lt (length h.1.before) all.0) refl where
-  within : all.0 ≤ length j.lines
-  within = subst (λ (o : Option ℕ). IfSome o (λ n. n ≤ length j.lines)) all.1 j.within
+  at : all.0 ≡ length j.lines
+  at = subst (λ (o : Option ℕ). IfSome o (λ n. n ≡ length j.lines)) all.1 j.alarm
 
-  first : take all.0 (h.1.before ++ h.1.here ∷ h.1.behind) ≡ take all.0 j.lines
-  first = ap (take all.0) (sym h.1.split ∙ j.split) ∙ take-append-le all.0 j.lines j.left.lines within
-
-  audited_are : foreign_in (take all.0 j.lines) ≡ false
-  audited_are = subst (λ (o : Option ℕ). foreign_in (audited o j.lines) ≡ false) all.1 (j.foreign.none clean)
+  first : take all.0 (h.1.before ++ h.1.here ∷ h.1.behind) ≡ j.lines
+  first = ap (take all.0) (sym h.1.split ∙ j.split) ∙ ap (λ (n : ℕ). take n (j.lines ++ j.left.lines)) at ∙ take-append_seam j.lines j.left.lines
 
   by_place : {A : Type 0} (b : Bool) → nat_lt (length h.1.before) all.0 ≡ b → A
-  by_place true e = not_in_front h.1.before h.1.here h.1.behind all.0 (grind (arith, nat_tests, e)) (ap foreign_in first ∙ audited_are) h.1.is
+  by_place true e = not_in_front h.1.before h.1.here h.1.behind all.0 (grind (arith, nat_tests, e)) (ap foreign_in first ∙ j.foreign.none clean) h.1.is
   by_place false e =
       let later : all.0 ≤ length h.1.before = grind (arith, nat_tests, e) in
       let number_is = h.1.number in

@@ -1,5 +1,5 @@
 -- How far each of three texts was read, and what was told of it.
-use Rattle.std.specs.Prelude.{◌≡◌, ◌≤◌, ◌⊎◌, ℕ, ◌<◌, ◌^◌, ◌+◌, ◌-◌, Bool, true, false, cond, not, ◌&&◌, ◌||◌, List, [], ◌∷◌, ◌++◌, length, take, drop, replicate, IfSome, nat_eq, Some, None}
+use Rattle.std.specs.Prelude.{◌≡◌, ◌≤◌, ◌⊎◌, ℕ, ◌<◌, ◌^◌, ◌+◌, ◌-◌, Bool, true, false, cond, not, ◌&&◌, ◌||◌, List, [], ◌∷◌, ◌++◌, length, replicate, IfSome, nat_eq, Some, None}
 use Rattle.std.specs.declared.option.Option.{Option}
 use Rattle.std.specs.List.{flat_map, sum_by, AllByRecursion}
 use Rattle.outside.specs.Causes.{SourceState}
@@ -34,35 +34,29 @@ use Rattle.run_audit.specs.declared.sending.Item.TheVariants.{Line, Stop, Nothin
 abbrev pub untold_of : Sending → List Sent
 untold_of s = replicate s.stops a_stop ++ cond s.waits (a_text s.reader.line.kept ∷ []) []
 
--- what is left to scan of it: nothing, if it was read to its end
-abbrev pub IsLeft : Bool → JobRead → SourceState → Scanned → List (List ℕ) → Type 0
-IsLeft true r source left later = left.lines ≡ []
-IsLeft false r source left later = (text : List ℕ) × (ahead r.window source ≡ Some text) × (scanned_behind r.place text ≡ left) × (lines_behind r.place text ≡ later)
+-- What is left of it: lines to scan; or none, if it was read to its end. Behind an alarm no line is read.
+abbrev pub IsLeft : Option ℕ → Bool → JobRead → SourceState → Scanned → List (List ℕ) → Type 0
+IsLeft None false r source left later = (text : List ℕ) × (ahead r.window source ≡ Some text) × (scanned_behind r.place text ≡ left) × (lines_behind r.place text ≡ later)
+IsLeft None true r source left later = left.lines ≡ []
+IsLeft (Some k) true r source left later = Unit {0}
+IsLeft (Some k) false r source left later = ⊥
 
 -- the resets of what was scanned besides lines
-abbrev pub stops_of : Bool → List ℕ → List Sent
-stops_of true rest = replicate (resets_of rest) a_stop
-stops_of false rest = []
+abbrev pub stops_of : Option ℕ → Bool → List ℕ → List Sent
+stops_of None false rest = []
+stops_of None true rest = replicate (resets_of rest) a_stop
+stops_of (Some k) over rest = []
 
--- how many bytes may cut of what was scanned besides lines; none behind an alarm
-abbrev pub cuts_of_rest : Option ℕ → Bool → List ℕ → ℕ
-cuts_of_rest None over rest = cond over (cuts_by rest) 0
-cuts_of_rest (Some k) over rest = 0
+-- how many bytes may cut besides those of the lines that were read: of what was scanned besides them, or behind an alarm
+abbrev pub cuts_besides : Option ℕ → Bool → List ℕ → List (List ℕ) → ℕ
+cuts_besides None false rest later = 0
+cuts_besides None true rest later = cuts_by rest
+cuts_besides (Some k) over rest later = sum_by holds_by later
 
 -- of these lines the first that is not audited has this number; 0, if each is
 pub record IsForeignOf (lines : List (List ℕ)) (line : ℕ) : Type 0 where
   pub none : line ≡ 0 → foreign_in lines ≡ false
   pub some : (line ≡ 0 → ⊥) → IsFirstForeign lines line
-
--- of lines, those up to the one that has raised an alarm, if one has
-abbrev pub audited : Option ℕ → List (List ℕ) → List (List ℕ)
-audited None lines = lines
-audited (Some k) lines = take k lines
-
--- and those behind it
-abbrev pub behind_alarm : Option ℕ → List (List ℕ) → List (List ℕ)
-behind_alarm None lines = []
-behind_alarm (Some k) lines = drop k lines
 
 -- These lines were read of a job, and its judge was told this of them.
 pub record JobSoFar (s : Sending) (source : SourceState) (text : List ℕ) (told : List Sent) : Type 0 where
@@ -72,12 +66,13 @@ pub record JobSoFar (s : Sending) (source : SourceState) (text : List ℕ) (told
   pub rest : (scanned text).rest ≡ left.rest
   pub later : List (List ℕ)
   pub all : lines_behind 0 text ≡ lines ++ later
-  pub goes_on : IsLeft s.over s.reader source left later
-  pub told_are : told ++ untold_of s ≡ flat_map sent_by lines ++ stops_of s.over left.rest
-  pub cuts : s.cuts ≤ sum_by cuts_by (audited s.last lines) + sum_by holds_by (behind_alarm s.last lines) + cuts_of_rest s.last s.over left.rest
+  pub goes_on : IsLeft s.last s.over s.reader source left later
+  pub told_are : told ++ untold_of s ≡ flat_map sent_by lines ++ stops_of s.last s.over left.rest
+  pub cuts : s.cuts ≡ sum_by cuts_by lines + cuts_besides s.last s.over left.rest later
   pub count : s.lines ≡ length lines
-  pub within : IfSome s.last (λ k. k ≤ length lines)
-  pub foreign : IsForeignOf (audited s.last lines) s.foreign
+  pub alarm : IfSome s.last (λ k. k ≡ length lines)
+  pub waiting : s.last ≡ None → s.waits ≡ true → s.over ≡ false
+  pub foreign : IsForeignOf lines s.foreign
 
 -- A line was read, or what is no line, and is counted in.
 pub record Counts (before now : Sending) (sent : Bool) : Type 0 where
@@ -86,11 +81,19 @@ pub record Counts (before now : Sending) (sent : Bool) : Type 0 where
   pub waits : now.waits ≡ sent
   pub over : now.over ≡ not sent
   pub last : now.last ≡ before.last
-  pub cuts : before.last ≡ None → now.cuts ≤ before.cuts + before.reader.line.cuts
-  pub holds : (before.last ≡ None → ⊥) → now.cuts ≤ before.cuts + cond sent before.reader.line.holds 0
+  pub cuts : before.cuts + before.reader.line.cuts < 2 ^ 64 → now.cuts ≡ before.cuts + before.reader.line.cuts
   pub lines : before.lines + 1 < 2 ^ 32 → now.lines ≡ cond sent (before.lines + 1) before.lines
-  pub foreign : before.last ≡ None → now.foreign ≡ cond (sent && (nat_eq before.foreign 0 && is_foreign before.reader.line.kept)) now.lines before.foreign
-  pub foreign_stays : (before.last ≡ None → ⊥) → now.foreign ≡ before.foreign
+  pub foreign : now.foreign ≡ cond (sent && (nat_eq before.foreign 0 && is_foreign before.reader.line.kept)) now.lines before.foreign
+
+-- The last line that was read has raised an alarm, and all stays but the cuts.
+pub record Halts (before now : Sending) : Type 0 where
+  pub last : now.last ≡ Some before.lines
+  pub over : now.over ≡ true
+  pub stops : now.stops ≡ before.stops
+  pub waits : now.waits ≡ before.waits
+  pub line : now.reader.line ≡ before.reader.line
+  pub lines : now.lines ≡ before.lines
+  pub foreign : now.foreign ≡ before.foreign
 
 -- what comes next of it, as far as it was read
 abbrev pub IsItem : Item → Sending → Type 0

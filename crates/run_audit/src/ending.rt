@@ -1,12 +1,12 @@
 //! How an audit ends.
 
-ghost use Rattle.std.specs.Prelude.{◌≡◌, ◌≤◌, ℕ, List, Some, None, MatchResult, IfOk, IsTrue};
+ghost use Rattle.std.specs.Prelude.{◌≡◌, ◌≤◌, ℕ, List, Some, None, false, MatchResult, IfOk, IsTrue};
 ghost use Rattle.step_line.specs.declared.Record.TheVariants as kinds;
 ghost use Rattle.outside.specs.Causes.{Rose, SourceState};
 ghost use Rattle.run_audit.specs.Reading.{KnowsJob, KnowsConsole, KnowsSteps, IsSame};
 ghost use Rattle.run_audit.specs.Going.{AllKnown, AllSame, IsCaused, EndFails};
 ghost use Rattle.run_texts.specs.Sent.{Sent};
-ghost use Rattle.run_audit.specs.SoFar.{IsAllRead, IsRead};
+ghost use Rattle.run_audit.specs.SoFar.{Halts, IsAllRead, IsRead, StaysSent};
 ghost use Rattle.run_audit.specs.UnderWay.{IsUnderWay, IsDropping, IsAhead, OthersStay, JudgeStays, Finishes, FinishesSteps, MayFit, IsNext, CanBeRead, IsRight, IsSaid};
 
 use crate::auditor::{Auditor, Finding, Unread};
@@ -15,19 +15,21 @@ use outside::Source;
 use step_line::Record;
 
 impl Auditor {
-    /// Reads the job on behind a line that has raised an alarm.
+    /// Counts the holds of the job behind a line that has raised an alarm.
     #[tactic(auto, using(crate::proofs::Known::rose_on, crate::proofs::Known::all_same_on, crate::proofs::Known::caused_on))]
     pub(crate) fn read_ahead<J: Source>(&mut self, job: &mut J) -> Result<(), Unread>
         requires known { KnowsJob self.old.sending.reader (J.state job.old) }
         ensures read { MatchResult result (λ found. KnowsJob self.new.sending.reader (J.state job.new) × IsSame (J.state job.old) (J.state job.new)) (λ e. (e ≡ Unread.Job) × Rose (J.state job.old).faults (J.state job.new).faults) }
         ensures others { JudgeStays self.old self.new }
         ensures ahead { IfOk result (λ done. (console steps : SourceState) (job_text console_text steps_text : List ℕ) →
-            IsUnderWay self.old (J.state job.old) console steps job_text console_text steps_text → IsAhead self.new (J.state job.new) console steps job_text console_text steps_text) }
+            IsUnderWay self.old (J.state job.old) console steps job_text console_text steps_text → IsUnderWay self.new (J.state job.new) console steps job_text console_text steps_text) }
+        ensures sent { IfOk result (λ done. StaysSent self.old.sending self.new.sending (J.state job.old) (J.state job.new)) }
+        ensures halts { IfOk result (λ done. self.old.sending.over ≡ false → Halts self.old.sending self.new.sending) }
     {
-        if !self.sending.halt() {
-            return Ok(());
+        match self.sending.halt(job) {
+            Ok(()) => Ok(()),
+            Err(_) => Err(Unread::Job),
         }
-        self.read_on(job)
     }
 
     /// Nothing is left of the job, or a line has raised an alarm.

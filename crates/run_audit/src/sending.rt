@@ -1,12 +1,12 @@
 //! What comes to a board of a job, in order.
 
-ghost use Rattle.std.specs.Prelude.{◌≡◌, ◌+◌, ◌≤◌, ◌<◌, ◌∷◌, ◌++◌, [], ℕ, List, Some, None, true, cond, MatchResult, IfOk, IfSome, IsTrue};
+ghost use Rattle.std.specs.Prelude.{◌≡◌, ◌+◌, ◌≤◌, ◌<◌, ◌∷◌, ◌++◌, [], ℕ, List, Some, None, true, false, MatchResult, IfOk, IfSome, IsTrue};
 ghost use Rattle.outside.specs.Causes.{Rose, SourceState};
 ghost use Rattle.line_interpreter.specs.Keeping.{IsKept};
 ghost use Rattle.run_texts.specs.Sent.{Sent};
 ghost use Rattle.run_texts.specs.Sent.Sent.{a_text, a_stop};
 ghost use Rattle.run_audit.specs.Reading.{KnowsJob, IsSame};
-ghost use Rattle.run_audit.specs.SoFar.{JobSoFar, Counts, IsItem, IsAllRead, StaysSent};
+ghost use Rattle.run_audit.specs.SoFar.{JobSoFar, Counts, Halts, IsItem, IsAllRead, StaysSent, untold_of};
 ghost use Rattle.audit_rules.specs.Scanned.{scanned};
 ghost use Rattle.run_audit.specs.Auditing.{IsFirstForeign};
 
@@ -31,12 +31,13 @@ pub(crate) struct Sending {
     stops: u32,
     /// A line was read that is not taken.
     waits: bool,
+    /// No line is read any more.
     over: bool,
     lines: u32,
     cuts: u64,
     /// The first line that is not audited; 0 if none was read.
     foreign: u32,
-    /// The line that has raised an alarm, if one has: of those behind it holds alone may cut, and each is audited.
+    /// The line that has raised an alarm, if one has. No line behind it is read, and holds alone may cut there.
     last: Option<u32>,
 }
 
@@ -44,6 +45,7 @@ impl Sending {
     pub(crate) fn new() -> Sending
         ensures known { (s : SourceState) → KnowsJob result.reader s }
         ensures opens { (source : SourceState) (text : List ℕ) → source.left ≡ Some text → JobSoFar result source text [] }
+        ensures last { result.last ≡ None }
     {
         Sending {
             reader: JobReader::new(),
@@ -71,30 +73,14 @@ impl Sending {
         }
     }
 
-    /// How many bytes of the line that was read may cut.
-    fn may_cut(&self, is_sent: bool) -> u32
-        ensures none { self.now.last ≡ None → result ≡ self.now.reader.line.cuts }
-        ensures behind { (self.now.last ≡ None → ⊥) → result ≡ cond is_sent self.now.reader.line.holds 0 }
-    {
-        let line = self.reader.line();
-        if self.last.is_none() {
-            return line.cuts();
-        }
-        if is_sent { line.holds() } else { 0 }
-    }
-
     /// The line that was read counts.
     fn count(&mut self, is_sent: bool)
         ensures { Counts self.old self.new is_sent }
     {
-        let cuts = self.may_cut(is_sent);
         let line = self.reader.line();
         self.stops = line.resets();
-        self.cuts = self.cuts.saturating_add(u64::from(cuts));
-        let foreign = is_sent
-            && self.last.is_none()
-            && self.foreign == 0
-            && is_foreign(line.kept());
+        self.cuts = self.cuts.saturating_add(u64::from(line.cuts()));
+        let foreign = is_sent && self.foreign == 0 && is_foreign(line.kept());
         self.waits = is_sent;
         self.over = !is_sent;
         if is_sent {
@@ -113,6 +99,8 @@ impl Sending {
         ensures item { IfOk result (λ item. IsItem item self.new) }
         ensures so_far { IfOk result (λ item. StaysSent self.old self.new (S.state source.old) (S.state source.new)) }
         ensures last { self.new.last ≡ self.old.last }
+        ensures over { IfOk result (λ item. item ≡ Item.Nothing → self.new.over ≡ true) }
+        ensures same { self.old.over ≡ true → self.new ≡ self.old }
     {
         if self.over || self.stops > 0 || self.waits {
             return Ok(self.waiting());
@@ -135,6 +123,8 @@ impl Sending {
     pub(crate) fn take_line(&mut self)
         ensures reader { self.new.reader ≡ self.old.reader }
         ensures last { self.new.last ≡ self.old.last }
+        ensures over { self.new.over ≡ self.old.over }
+        ensures untold { self.old.stops ≡ 0 → untold_of self.new ≡ [] }
         ensures told { self.old.stops ≡ 0 → self.old.waits ≡ true → (source : SourceState) (text : List ℕ) (told : List Sent) → JobSoFar self.old source text told → JobSoFar self.new source text (told ++ a_text self.old.reader.line.kept ∷ []) }
     {
         self.waits = false;
@@ -159,22 +149,27 @@ impl Sending {
         self.cuts
     }
 
-    /// The last line that was read has raised an alarm, unless the job was read to its end: whether it may have.
-    pub(crate) fn halt(&mut self) -> bool
-        ensures reader { self.new.reader ≡ self.old.reader }
-        ensures last { IsTrue result → self.new.last ≡ None → ⊥ }
-        ensures so_far { (source : SourceState) → StaysSent self.old self.new source source }
+    /// The last line that was read has raised an alarm, unless the job was read to its end: the holds behind it are counted.
+    pub(crate) fn halt<S: Source>(&mut self, source: &mut S) -> Result<(), Failed>
+        requires known { KnowsJob self.old.reader (S.state source.old) }
+        ensures known { MatchResult result (λ done. KnowsJob self.new.reader (S.state source.new) × IsSame (S.state source.old) (S.state source.new)) (λ e. Rose (S.state source.old).faults (S.state source.new).faults) }
+        ensures so_far { IfOk result (λ done. StaysSent self.old self.new (S.state source.old) (S.state source.new)) }
+        ensures halts { IfOk result (λ done. self.old.over ≡ false → Halts self.old self.new) }
     {
-        if self.over || self.last.is_some() {
-            return false;
+        if self.over {
+            return Ok(());
         }
+        let holds = self.reader.count_holds(source)?;
+        self.cuts = self.cuts.saturating_add(u64::from(holds));
         self.last = Some(self.lines);
-        true
+        self.over = true;
+        Ok(())
     }
 
     /// Whether all that is sent is told, up to an alarm of the line before the one with this number, if one was raised.
     pub(crate) fn is_all_told(&self, halted: bool, number: u32) -> bool
-        ensures { IsTrue result → IsAllRead self.now halted number }
+        ensures yes { IsTrue result → IsAllRead self.now halted number }
+        ensures no { result ≡ false → IsAllRead self.now halted number → ⊥ }
     {
         match self.last {
             Some(line) => halted && number > 0 && line == number - 1,
@@ -186,6 +181,7 @@ impl Sending {
     pub(crate) fn foreign(&self) -> Option<u32>
         ensures first { IfSome result (λ line. (source : SourceState) (text : List ℕ) (told : List Sent) → JobSoFar self.now source text told → IsFirstForeign (scanned text).lines line) }
         ensures none { result ≡ None → self.now.foreign ≡ 0 }
+        ensures zero { self.now.foreign ≡ 0 → result ≡ None }
     {
         if self.foreign == 0 {
             return None;

@@ -159,6 +159,22 @@ fn holds_behind_an_alarm_may_cut(rt: HostRuntime) -> Result<(), Fail> {
     Ok(())
 }
 
+/// A line that is too long, of which nothing is sent: a hold behind it may cut all the same.
+#[test]
+fn holds_behind_a_long_line_may_cut(rt: HostRuntime) -> Result<(), Fail> {
+    let console =
+        b"\r\nGrbl 1.1h ['$' for help]\r\nok\r\nok\r\nALARM:2\r\n[MSG:Reset to continue]\r\n";
+    let steps = CUT_BEHIND_AN_ALARM.as_bytes();
+    let job = b"$20=1\n$J=G91X-0.2F500\nG53G0X1\n\
+        XXXXXXXXXXXXXXXXXXXXXXXXXXXXXXXXXXXXXXXXXXXXXXXXXXXXXXXXXXXXXXXX\
+        XXXXXXXXXXXXXXXXXXXXXXXXXXXXXXXXXXXXXXXXXXXXXXXXXXXXXXXXXXXXXXXX\n!\n";
+    assert_eq!(rt;
+        found(&rt, job, console, steps)?,
+        Audit::Fits { events: 14 }
+    );
+    Ok(())
+}
+
 /// A jog that waits is cut, and a reset keeps it from its answer.
 #[test]
 fn waiting_jogs_are_cut_unanswered(rt: HostRuntime) -> Result<(), Fail> {
