@@ -5,5 +5,6 @@ pub mod ConsoleRead
 pub mod StepsRead
 pub mod Printed
 pub mod Fitting
+pub mod JobTold
 pub mod Telling
 pub mod Under

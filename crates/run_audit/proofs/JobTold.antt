@@ -1,0 +1,119 @@
+-- What is told of a job goes on, where texts fit.
+use Rattle.std.proofs.Common.{◌≡◌, ◌≤◌, ◌<◌, ◌+◌, ℕ, zero, suc, Bool, true, false, cond, nat_eq, ◌||◌, List, [], ◌∷◌, ◌++◌, append_assoc, append-nil, length, replicate, None, Some, sym, refl, ap, ◌∙◌, subst, arith}
+use Rattle.std.specs.declared.option.Option.{Option}
+use Rattle.std.specs.List.{flat_map}
+use Rattle.std.proofs.lemmas.Bool.Decides.{nat_tests}
+use Rattle.std.proofs.lemmas.List.{append_cancel_left}
+use Rattle.outside.specs.Causes.{SourceState}
+use Rattle.run_rules.specs.Readings.{largest_job}
+use Rattle.run_texts.specs.Sent.{Sent, kept_of, resets_of, sent_by}
+use Rattle.run_texts.specs.Sent.Sent.{a_text, a_stop}
+use Rattle.audit_rules.specs.Findings.{foreign_in}
+use Rattle.audit_rules.specs.Scanned.{scanned, sent_in}
+use Rattle.audit_course.specs.SoFar.{texts_among}
+use Rattle.run_audit.specs.Along.{AllAudited}
+use Rattle.run_audit.specs.SoFar.{JobSoFar, IsItem, stops_of, untold_of}
+use Rattle.run_audit.specs.declared.sending.Item.{Item}
+use Rattle.run_audit.specs.declared.sending.Item.TheVariants.{Line, Stop, Nothing}
+use Rattle.run_audit.specs.declared.sending.Sending.{Sending}
+use Rattle.run_audit.proofs.Fitting.{not_among}
+use Rattle.audit_readers.proofs.Sizes.{scanned_few}
+use Rattle.run_audit.proofs.JobRead.{IsFront, few_lines, front_sent}
+
+-- ---- what comes next
+
+-- of what is sent and not told
+abbrev pub ComesNext : Item → Sending → List Sent → Type 0
+ComesNext Line s more = (behind : List Sent) × (more ≡ a_text s.reader.line.kept ∷ behind)
+ComesNext Stop s more = (behind : List Sent) × (more ≡ a_stop ∷ behind)
+ComesNext Nothing s more = more ≡ []
+
+one_stop : (n : ℕ) (more : List Sent) → 0 < n → (behind : List Sent) × (replicate n a_stop ++ more ≡ a_stop ∷ behind)
+one_stop zero more some = absurd (omega (arith, some))
+one_stop (suc n) more some = (replicate n a_stop ++ more, refl)
+
+pub next_sent : (s : Sending) (item : Item) (source : SourceState) (text : List ℕ) (told more : List Sent) → s.last ≡ None → JobSoFar s source text told → sent_in text ≡ told ++ more → IsItem item s → (item ≡ Nothing → s.over ≡ true)
+    → ComesNext item s more
+next_sent s item source text told more calm j split is over = by_item item is over where
+  f : IsFront s text told
+  f = front_sent s source text told j
+
+  next : more ≡ untold_of s ++ f.later
+  next = append_cancel_left told more (untold_of s ++ f.later) (sym split ∙ f.split)
+
+  by_item : (i : Item) → IsItem i s → (i ≡ Nothing → s.over ≡ true) → ComesNext i s more
+  by_item Line e o = (f.later, next ∙ ap (λ (n : ℕ). (replicate n a_stop ++ cond s.waits (a_text s.reader.line.kept ∷ []) []) ++ f.later) e.0 ∙ ap (λ (b : Bool). cond b (a_text s.reader.line.kept ∷ []) [] ++ f.later) e.1)
+  by_item Stop e o =
+      let one = one_stop s.stops (cond s.waits (a_text s.reader.line.kept ∷ []) [] ++ f.later) e in
+      (one.0, next ∙ append_assoc (replicate s.stops a_stop) (cond s.waits (a_text s.reader.line.kept ∷ []) []) f.later ∙ one.1)
+  by_item Nothing e o =
+      next ∙ ap (λ (n : ℕ). (replicate n a_stop ++ cond s.waits (a_text s.reader.line.kept ∷ []) []) ++ f.later) e.0 ∙ ap (λ (b : Bool). cond b (a_text s.reader.line.kept ∷ []) [] ++ f.later) e.1
+      ∙ f.none calm (o refl)
+
+-- ---- how many lines are told
+
+no_text : (n : ℕ) (more : List Sent) → texts_among (replicate n a_stop ++ more) ≡ texts_among more
+no_text zero more = refl
+no_text (suc n) more = no_text n more
+
+texts_of : (lines : List (List ℕ)) (more : List Sent) → texts_among (flat_map sent_by lines ++ more) ≡ length lines + texts_among more
+texts_of [] more = omega arith
+texts_of (l ∷ ls) more =
+    let first : texts_among (flat_map sent_by (l ∷ ls) ++ more) ≡ texts_among (flat_map sent_by ls ++ more) + 1 =
+    ap texts_among (append_assoc (sent_by l) (flat_map sent_by ls) more ∙ append_assoc (replicate (resets_of l) a_stop) (a_text (kept_of l) ∷ []) (flat_map sent_by ls ++ more))
+    ∙ no_text (resets_of l) (a_text (kept_of l) ∷ (flat_map sent_by ls ++ more)) in
+    let rest = texts_of ls more in
+    omega (arith, first, rest)
+
+-- resets alone
+stops_alone : (n : ℕ) → texts_among (replicate n a_stop) ≡ 0
+stops_alone n = ap texts_among (sym (append-nil (replicate n a_stop))) ∙ no_text n []
+
+no_texts : (last : Option ℕ) (over : Bool) (rest : List ℕ) → texts_among (stops_of last over rest) ≡ 0
+no_texts None false rest = refl
+no_texts None true rest = stops_alone (resets_of rest)
+no_texts (Some k) over rest = refl
+
+-- the lines that were read are those that are told, and the one that waits
+pub lines_are : (s : Sending) (source : SourceState) (text : List ℕ) (told : List Sent) → JobSoFar s source text told → texts_among (told ++ untold_of s) ≡ s.lines
+lines_are s source text told j =
+    let all : texts_among (told ++ untold_of s) ≡ length j.lines + texts_among (stops_of s.last s.over j.left.rest) = ap texts_among j.told_are ∙ texts_of j.lines (stops_of s.last s.over j.left.rest) in
+    let none = no_texts s.last s.over j.left.rest in
+    let count = j.count in
+    omega (arith, all, none, count)
+
+pub few_texts : (s : Sending) (source : SourceState) (text : List ℕ) (told : List Sent) → JobSoFar s source text told → texts_among (told ++ untold_of s) ≤ largest_job
+few_texts s source text told j = let all = lines_are s source text told j in let few = few_lines s source text told j in omega (arith, all, few)
+
+-- each line that is sent has a byte
+pub sent_few_texts : (text : List ℕ) → texts_among (sent_in text) ≤ largest_job
+sent_few_texts text =
+    let all = texts_of (scanned text).lines (replicate (resets_of (scanned text).rest) a_stop) in
+    let none = stops_alone (resets_of (scanned text).rest) in
+    let few = scanned_few text in
+    omega (arith, all, none, few)
+
+-- ---- each line that is told is audited
+
+no_line : (n : ℕ) (more : List Sent) → AllAudited (replicate n a_stop ++ more) → AllAudited more
+no_line zero more all = all
+no_line (suc n) more all = no_line n more all
+
+none_of : (lines : List (List ℕ)) (more : List Sent) → AllAudited (flat_map sent_by lines ++ more) → foreign_in lines ≡ false
+none_of [] more all = refl
+none_of (l ∷ ls) more all =
+    let first = no_line (resets_of l) (a_text (kept_of l) ∷ (flat_map sent_by ls ++ more)) (subst AllAudited
+    (append_assoc (sent_by l) (flat_map sent_by ls) more ∙ append_assoc (replicate (resets_of l) a_stop) (a_text (kept_of l) ∷ []) (flat_map sent_by ls ++ more)) all) in
+    let rest = none_of ls more first.1 in
+    ap (λ (b : Bool). b || foreign_in ls) first.0 ∙ rest
+
+pub none_foreign_told : (s : Sending) (source : SourceState) (text : List ℕ) (told : List Sent) → JobSoFar s source text told → untold_of s ≡ [] → AllAudited told → s.foreign ≡ 0
+none_foreign_told s source text told j none all = by_number (nat_eq s.foreign 0) refl where
+  clean : foreign_in j.lines ≡ false
+  clean = none_of j.lines (stops_of s.last s.over j.left.rest) (subst AllAudited (sym (append-nil told) ∙ ap (λ (ss : List Sent). told ++ ss) (sym none) ∙ j.told_are) all)
+
+  by_number : (b : Bool) → nat_eq s.foreign 0 ≡ b → s.foreign ≡ 0
+  by_number true e = grind (arith, nat_tests, e)
+  by_number false e =
+      let f = j.foreign.some (grind (arith, nat_tests, e)) in
+      not_among f.before f.here f.behind (ap foreign_in (sym f.split) ∙ clean) f.is
