@@ -56,7 +56,7 @@ abbrev h11 : State → State → PlannedMove → Segment → Journal
 h11 first last m s = became on_limit motions.Alarm ∷ began (beyond first last m) ∷ h10 first last m s
 
 a11 : (first last : State) (m : PlannedMove) (s : Segment) → IsBeyondBehind first last m s → Conducted (first_opening most_blocks first) (h11 first last m s)
-a11 first last m s p = ((refl, record { alarmed = refl; next = refl; unlimited = refl }), (record { calm = refl; free = refl; going = refl; whole = refl; becomes = p.beyond; begins = refl; flags = refl; obeyed = refl; unowed = refl; load = refl; idle = λ d. refl; starts = λ w. refl; tried = refl }, a10 first last m s p))
+a11 first last m s p = ((refl, record { alarmed = refl; next = refl; unlimited = refl }), (record { calm = refl; free = refl; going = refl; whole = refl; becomes = p.beyond; begins = refl; flags = refl; obeyed = refl; unowed = refl; load = refl; idle = λ d. refl; starts = λ w. refl; tried = refl; few = omega arith }, a10 first last m s p))
 
 abbrev h12 : State → State → PlannedMove → Segment → Journal
 h12 first last m s = turned Did ∷ at_port (answered (Alarm 2)) ∷ halted ∷ h11 first last m s
@@ -74,7 +74,7 @@ abbrev h14 : State → State → PlannedMove → Segment → Journal
 h14 first last m s = turned Did ∷ at_port (published pieces.End) ∷ made_end ∷ h13 first last m s
 
 a14 : (first last : State) (m : PlannedMove) (s : Segment) → IsBeyondBehind first last m s → Conducted (first_opening most_blocks first) (h14 first last m s)
-a14 first last m s p = (ends _ _ (λ w. elsewhere _ w.stands refl) refl refl refl refl refl refl, ((refl, tt), (record { next = refl; drained = record { plan = record { blocks = refl; speed = refl }; hand = refl; done = refl }; stands = refl; closes = λ e. absurd cc }, a13 first last m s p)))
+a14 first last m s p = (ends _ _ (λ w. elsewhere _ w.stands refl) refl refl refl refl refl refl, ((refl, tt, λ owed. absurd cc), (record { next = refl; drained = record { plan = record { blocks = refl; speed = refl }; hand = refl; done = refl }; stands = refl; closes = λ e. absurd cc }, a13 first last m s p)))
 
 abbrev h15 : State → State → PlannedMove → Segment → Journal
 h15 first last m s = turned Did ∷ at_port (answered Bye) ∷ h14 first last m s

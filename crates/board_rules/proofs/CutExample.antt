@@ -1,7 +1,7 @@
 -- A board to which two jogs come, `$J=X.004F9` and `$J=X.008F9`. The first runs by one segment; the second is begun, and waits
 -- to be added, while a cancel comes: it is cut, and answered, and the machine stands where the first has brought it. The rules
 -- allow it.
-use Rattle.std.proofs.Common.{pos, ◌≡◌, ℕ, suc, ◌+◌, ◌-◌, ◌≤◌, ◌<◌, Bool, cond, nat_lt, [], ◌∷◌, true, false, refl, sym, arith}
+use Rattle.std.proofs.Common.{pos, ◌≡◌, ℕ, suc, ◌+◌, ◌≤◌, ◌<◌, Bool, cond, nat_lt, [], ◌∷◌, true, false, refl, sym, arith}
 use Rattle.code_table.specs.declared.flags.Exec.{Exec}
 use Rattle.code_table.specs.Flags.{raised_by}
 use Rattle.feed_hold.specs.declared.Motion.TheVariants as motions
@@ -90,7 +90,7 @@ abbrev k8 : State → State → PlannedMove → PlannedMove → Segment → Jour
 k8 next last m n s = turned Did ∷ at_port (published (pieces.Segment s)) ∷ did (Take Go) (pieces.Segment s ∷ []) ∷ j7 next m s
 
 d8 : (first next last : State) (m n : PlannedMove) (s : Segment) → AreTwoJogs first next last m n s → Conducted (first_opening most_blocks first) (k8 next last m n s)
-d8 first next last m n s p = (ends _ _ (λ w. elsewhere _ w.stands refl) refl refl refl refl refl refl, ((refl, refl), ((record { goes = refl; empty = refl; obeyed = refl }, (p.one.taken, refl)), c7 first next m s p.one)))
+d8 first next last m n s p = (ends _ _ (λ w. elsewhere _ w.stands refl) refl refl refl refl refl refl, ((refl, refl, λ owed. absurd cc), ((record { goes = refl; empty = refl; obeyed = refl }, (p.one.taken, refl)), c7 first next m s p.one)))
 
 abbrev k9 : State → State → PlannedMove → PlannedMove → Segment → Journal
 k9 next last m n s = line_taken (36 ∷ 74 ∷ 61 ∷ 88 ∷ 46 ∷ 48 ∷ 48 ∷ 56 ∷ 70 ∷ 57 ∷ []) (k8 next last m n s)
@@ -114,7 +114,7 @@ abbrev k12 : State → State → PlannedMove → PlannedMove → Segment → Jou
 k12 next last m n s = began (jog n last) ∷ k11 next last m n s
 
 d12 : (first next last : State) (m n : PlannedMove) (s : Segment) → AreTwoJogs first next last m n s → Conducted (first_opening most_blocks first) (k12 next last m n s)
-d12 first next last m n s p = (record { calm = refl; free = refl; going = refl; whole = refl; becomes = p.becomes; begins = refl; flags = refl; obeyed = refl; unowed = refl; load = refl; idle = λ d. absurd (let e = d.done in let some = p.some in omega (arith, e, some)); starts = λ w. elsewhere _ w.stands refl; tried = refl }, d11 first next last m n s p)
+d12 first next last m n s p = (record { calm = refl; free = refl; going = refl; whole = refl; becomes = p.becomes; begins = refl; flags = refl; obeyed = refl; unowed = refl; load = refl; idle = λ d. absurd (let e = d.done in let some = p.some in omega (arith, e, some)); starts = λ w. elsewhere _ w.stands refl; tried = refl; few = omega arith }, d11 first next last m n s p)
 
 abbrev k13 : State → State → PlannedMove → PlannedMove → Segment → Journal
 k13 next last m n s = at_port (took_exec cancel) ∷ k12 next last m n s
@@ -150,7 +150,7 @@ abbrev k18 : State → State → PlannedMove → PlannedMove → Segment → Jou
 k18 next last m n s = turned Did ∷ at_port (published (pieces.Mark (marks.Cut 2))) ∷ at_port (loaded (all_ticks s)) ∷ k17 next last m n s
 
 d18 : (first next last : State) (m n : PlannedMove) (s : Segment) → AreTwoJogs first next last m n s → Conducted (first_opening most_blocks first) (k18 next last m n s)
-d18 first next last m n s p = (ends _ _ (λ w. elsewhere _ w.stands refl) refl refl refl refl refl refl, ((refl, (refl, refl)), (record { later = omega arith; below = omega arith; few = one_unfinished _ }, d17 first next last m n s p)))
+d18 first next last m n s p = (ends _ _ (λ w. elsewhere _ w.stands refl) refl refl refl refl refl refl, ((refl, (refl, refl), λ owed. absurd cc), (record { later = omega arith; below = omega arith; few = one_unfinished _ }, d17 first next last m n s p)))
 
 abbrev k19 : State → State → PlannedMove → PlannedMove → Segment → Journal
 k19 next last m n s = turned Did ∷ at_port (answered Ok) ∷ k18 next last m n s

@@ -174,7 +174,7 @@ abbrev j8 : Settings → Journal
 j8 s = began (flood (next_state s)) ∷ j7 s
 
 c8 : (s : Settings) → Conducted (first_opening most_blocks (first_state s)) (j8 s)
-c8 s = (record { calm = refl; free = refl; going = refl; whole = refl; becomes = is_flood s; begins = refl; flags = refl; obeyed = refl; unowed = refl; load = refl; idle = λ drained. refl; starts = λ w. untrue w.blocks; tried = refl }, c7 s)
+c8 s = (record { calm = refl; free = refl; going = refl; whole = refl; becomes = is_flood s; begins = refl; flags = refl; obeyed = refl; unowed = refl; load = refl; idle = λ drained. refl; starts = λ w. untrue w.blocks; tried = refl; few = omega arith }, c7 s)
 
 abbrev j9 : Settings → Journal
 j9 s = did Rest [] ∷ j8 s
@@ -186,7 +186,7 @@ abbrev j10 : Settings → Journal
 j10 s = turned Did ∷ at_port (published (pieces.Mark (marks.Coolant true))) ∷ did (Mark (marks.Coolant true)) (pieces.Mark (marks.Coolant true) ∷ []) ∷ j9 s
 
 c10 : (s : Settings) → Conducted (first_opening most_blocks (first_state s)) (j10 s)
-c10 s = (ends _ _ (λ w. untrue w.blocks) refl refl refl refl refl refl, ((refl, tt), ((record { next = refl; empty = refl }, (refl, tt, record { blocks = refl; speed = refl }, refl)), c9 s)))
+c10 s = (ends _ _ (λ w. untrue w.blocks) refl refl refl refl refl refl, ((refl, tt, λ owed. absurd cc), ((record { next = refl; empty = refl }, (refl, tt, record { blocks = refl; speed = refl }, refl)), c9 s)))
 
 abbrev j11 : Settings → Journal
 j11 s = at_port (loaded 0) ∷ j10 s
@@ -246,7 +246,7 @@ abbrev j20 : Settings → Journal
 j20 s = turned Did ∷ at_port (published pieces.End) ∷ made_end ∷ j19 s
 
 c20 : (s : Settings) → Conducted (first_opening most_blocks (first_state s)) (j20 s)
-c20 s = (ends _ _ (λ w. untrue w.blocks) refl refl refl refl refl refl, ((refl, tt), (record { next = refl; drained = record { plan = record { blocks = refl; speed = refl }; hand = refl; done = refl }; stands = refl; closes = λ e. absurd cc }, c19 s)))
+c20 s = (ends _ _ (λ w. untrue w.blocks) refl refl refl refl refl refl, ((refl, tt, λ owed. absurd cc), (record { next = refl; drained = record { plan = record { blocks = refl; speed = refl }; hand = refl; done = refl }; stands = refl; closes = λ e. absurd cc }, c19 s)))
 
 abbrev j21 : Settings → Journal
 j21 s = turned Did ∷ at_port (answered Bye) ∷ j20 s

@@ -1,5 +1,5 @@
 -- What holds of every journal that the rules allow, and of one between two turns.
-use Rattle.std.proofs.Common.{◌≡◌, ◌⊎◌, inl, inr, Bool, true, false, ◌&&◌, ◌||◌, not, List, [], ◌∷◌, drop, refl, sym, ap, ◌∙◌}
+use Rattle.std.proofs.Common.{◌≡◌, ◌⊎◌, inl, inr, Bool, true, false, ◌&&◌, not, List, [], ◌∷◌, drop, refl, sym, ap, ◌∙◌}
 use Rattle.status_report.specs.declared.Reply.{Reply}
 use Rattle.status_report.specs.declared.Reply.TheVariants.{Bye}
 use Rattle.step_line.specs.Asking.{Asked}
@@ -14,9 +14,11 @@ use Rattle.board_rules.specs.Ports.PortStep.{took, answered}
 use Rattle.board_rules.specs.Steps.{Journal, left_of, left_by, without_asks, whole_of, closed_tells, motion_of}
 use Rattle.board_rules.specs.Steps.Step.{at_port, began, did, made_end, evened, paused, cut, halted, closing, turned}
 use Rattle.board_rules.specs.Turns.{this_turn, missed_of, is_due, is_halting, is_counted, counts_tries, owes_report, is_reply_back, is_report_back, awaits_motion, needs_motion}
+use Rattle.board_rules.specs.Within.{tells_none}
 use Rattle.board_rules.specs.Conduct.{Conducted, IsNextTask, MayDo}
 use Rattle.board_rules.proofs.Closing.{At, going, to_finish, to_tell, over, phase_is}
 pub use Rattle.board_rules.proofs.Lines.{number_is}
+use Rattle.board_rules.proofs.Tries.{none_counts}
 use Rattle.board_rules.proofs.Tasks.{none_next, none_first, head_is}
 
 -- ---- a line that waits to be begun
@@ -69,24 +71,33 @@ and_false false b is = refl
 
 -- no try to publish is counted while a report that was handed back is owed
 pub uncounted_owing : (first : Opening) (h : Journal) → owes_report h ≡ true → is_report_back h ≡ true → is_counted first h ≡ false
-uncounted_owing first h owed back = by_both (owes_report h) (is_report_back h) owed back
+uncounted_owing first h owed back = by_both (owes_report h) (is_report_back h) (not (is_halting (motion_of first h) && whole_of h) && counts_tries (left_of first h) (not (owes_report h) && is_reply_back h)) owed back
   where
-    by_both : (a b : Bool) → a ≡ true → b ≡ true → (not (a && b) && (not (is_halting (motion_of first h) && whole_of h) && counts_tries (left_of first h) (is_reply_back h))) ≡ false
-    by_both true true e f = refl
-    by_both true false e f = absurd cc
-    by_both false b e f = absurd cc
+    by_both : (a b c : Bool) → a ≡ true → b ≡ true → (not (a && b) && c) ≡ false
+    by_both true true c e f = refl
+    by_both true false c e f = absurd cc
+    by_both false b c e f = absurd cc
 
--- nor is one by what is left to do
-pub uncounted : (first : Opening) (h : Journal) → counts_tries (left_of first h) (is_reply_back h) ≡ false → is_counted first h ≡ false
+-- nor is one by what is left to do, where no report is owed
+pub uncounted_behind : (first : Opening) (h : Journal) → owes_report h ≡ false → counts_tries (left_of first h) (is_reply_back h) ≡ false → is_counted first h ≡ false
+uncounted_behind first h unowed none =
+    and_false (not (owes_report h && is_report_back h)) (not (is_halting (motion_of first h) && whole_of h) && counts_tries (left_of first h) (not (owes_report h) && is_reply_back h))
+    (and_false (not (is_halting (motion_of first h) && whole_of h)) (counts_tries (left_of first h) (not (owes_report h) && is_reply_back h))
+    (ap (λ o. counts_tries (left_of first h) (not o && is_reply_back h)) unowed ∙ none))
+
+-- nor where no reply of a line is next, but something else
+pub uncounted : (first : Opening) (h : Journal) → counts_tries (left_of first h) false ≡ false → is_counted first h ≡ false
 uncounted first h none =
-    and_false (not (owes_report h && is_report_back h)) (not (is_halting (motion_of first h) && whole_of h) && counts_tries (left_of first h) (is_reply_back h))
-    (and_false (not (is_halting (motion_of first h) && whole_of h)) (counts_tries (left_of first h) (is_reply_back h)) none)
+    let back = not (owes_report h) && is_reply_back h in
+    and_false (not (owes_report h && is_report_back h)) (not (is_halting (motion_of first h) && whole_of h) && counts_tries (left_of first h) back)
+    (and_false (not (is_halting (motion_of first h) && whole_of h)) (counts_tries (left_of first h) back) (none_counts (left_of first h) back none))
 
 -- nor is one while a line waits for a machine that is held, or slows down for that
 pub uncounted_line : (first : Opening) (h : Journal) → is_halting (motion_of first h) ≡ true → whole_of h ≡ true → is_counted first h ≡ false
 uncounted_line first h halts whole =
-    and_false (not (owes_report h && is_report_back h)) (not (is_halting (motion_of first h) && whole_of h) && counts_tries (left_of first h) (is_reply_back h))
-    (none (is_halting (motion_of first h)) (whole_of h) (counts_tries (left_of first h) (is_reply_back h)) halts whole)
+    let back = not (owes_report h) && is_reply_back h in
+    and_false (not (owes_report h && is_report_back h)) (not (is_halting (motion_of first h) && whole_of h) && counts_tries (left_of first h) back)
+    (none (is_halting (motion_of first h)) (whole_of h) (counts_tries (left_of first h) back) halts whole)
   where
     none : (a b c : Bool) → a ≡ true → b ≡ true → (not (a && b) && c) ≡ false
     none true true c e f = refl
@@ -94,45 +105,40 @@ uncounted_line first h halts whole =
     none false b c e f = absurd cc
 
 -- what waits for the motion is no reply, nor is what is asked for
-pub none_awaited : (ts : List Task) (back : Bool) → awaits_motion ts ≡ true → counts_tries ts back ≡ false
-none_awaited [] back awaits = absurd cc
-none_awaited (tell r ∷ ts) back awaits = absurd cc
-none_awaited (ask a ∷ ts) back awaits = refl
-none_awaited (pause ∷ ts) back awaits = refl
-none_awaited (normal ∷ ts) back awaits = refl
-none_awaited (finish ∷ ts) back awaits = refl
-none_awaited (halt ∷ ts) back awaits = refl
+pub none_awaited : (ts : List Task) → awaits_motion ts ≡ true → counts_tries ts false ≡ false
+none_awaited [] awaits = absurd cc
+none_awaited (tell r ∷ ts) awaits = absurd cc
+none_awaited (ask a ∷ ts) awaits = refl
+none_awaited (pause ∷ ts) awaits = refl
+none_awaited (normal ∷ ts) awaits = refl
+none_awaited (finish ∷ ts) awaits = refl
+none_awaited (halt ∷ ts) awaits = refl
 
-pub none_asked : (ts : List Task) (a : Asked) (back : Bool) → ts ≡ ask a ∷ drop 1 ts → counts_tries ts back ≡ false
-none_asked ts a back next = ap (λ (us : List Task). counts_tries us back) next
+pub none_asked : (ts : List Task) (a : Asked) → ts ≡ ask a ∷ drop 1 ts → counts_tries ts false ≡ false
+none_asked ts a next = ap (λ (us : List Task). counts_tries us false) next
 
-pub none_by_bye : (ts : List Task) (r : Reply) (back : Bool) → r ≡ Bye → ts ≡ tell r ∷ drop 1 ts → counts_tries ts back ≡ false
-none_by_bye ts r back bye next =
-    ap (λ (us : List Task). counts_tries us back) next ∙ ap (λ q. counts_tries (tell q ∷ drop 1 ts) back) bye ∙ by_rest (drop 1 ts) back
-  where
-    by_bye : (b : Bool) → not (b || true) ≡ false
-    by_bye true = refl
-    by_bye false = refl
-
-    by_rest : (us : List Task) (b : Bool) → counts_tries (tell Bye ∷ us) b ≡ false
-    by_rest [] b = by_bye b
-    by_rest (tell q ∷ []) b = by_bye b
-    by_rest (tell q ∷ t ∷ us) b = refl
-    by_rest (ask a ∷ us) b = refl
-    by_rest (pause ∷ us) b = refl
-    by_rest (normal ∷ us) b = refl
-    by_rest (finish ∷ us) b = refl
-    by_rest (halt ∷ us) b = refl
+pub none_by_bye : (ts : List Task) (r : Reply) → r ≡ Bye → ts ≡ tell r ∷ drop 1 ts → counts_tries ts false ≡ false
+none_by_bye ts r bye next = ap (λ (us : List Task). counts_tries us false) next ∙ ap (λ q. counts_tries (tell q ∷ drop 1 ts) false) bye
 
 -- where what is next is held up, and no line waits to be begun, it is none
-pub none_held_up : (ts : List Task) (whole full back : Bool) → needs_motion ts whole full ≡ true → whole ≡ false → counts_tries ts back ≡ false
-none_held_up [] whole full back up partial = absurd (let e = sym up ∙ partial in cc)
-none_held_up (tell r ∷ ts) whole full back up partial = absurd cc
-none_held_up (ask a ∷ ts) whole full back up partial = refl
-none_held_up (pause ∷ ts) whole full back up partial = refl
-none_held_up (normal ∷ ts) whole full back up partial = refl
-none_held_up (finish ∷ ts) whole full back up partial = refl
-none_held_up (halt ∷ ts) whole full back up partial = refl
+pub none_held_up : (ts : List Task) (whole full : Bool) → needs_motion ts whole full ≡ true → whole ≡ false → counts_tries ts false ≡ false
+none_held_up [] whole full up partial = absurd (let e = sym up ∙ partial in cc)
+none_held_up (tell r ∷ ts) whole full up partial = absurd cc
+none_held_up (ask a ∷ ts) whole full up partial = refl
+none_held_up (pause ∷ ts) whole full up partial = refl
+none_held_up (normal ∷ ts) whole full up partial = refl
+none_held_up (finish ∷ ts) whole full up partial = refl
+none_held_up (halt ∷ ts) whole full up partial = refl
+
+-- and no reply of a line is next
+pub unspoken_held_up : (ts : List Task) (whole full : Bool) → needs_motion ts whole full ≡ true → tells_none ts ≡ true
+unspoken_held_up [] whole full up = refl
+unspoken_held_up (tell r ∷ ts) whole full up = absurd cc
+unspoken_held_up (ask a ∷ ts) whole full up = refl
+unspoken_held_up (pause ∷ ts) whole full up = refl
+unspoken_held_up (normal ∷ ts) whole full up = refl
+unspoken_held_up (finish ∷ ts) whole full up = refl
+unspoken_held_up (halt ∷ ts) whole full up = refl
 
 -- ---- a run that is being closed
 

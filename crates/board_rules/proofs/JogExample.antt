@@ -1,6 +1,6 @@
 -- A whole run of a board to which one jog comes, `$J=X.004F9`, which starts at once and moves the machine by one segment: the
 -- rules allow it.
-use Rattle.std.proofs.Common.{pos, ◌≡◌, ℕ, ◌≤◌, Bool, cond, nat_lt, [], ◌∷◌, inl, true, false, refl, sym, ap, ◌∙◌, arith}
+use Rattle.std.proofs.Common.{pos, ◌≡◌, ℕ, ◌≤◌, Bool, cond, [], ◌∷◌, inl, true, false, refl, sym, ap, ◌∙◌, arith}
 use Rattle.feed_hold.specs.declared.Motion.TheVariants as motions
 use Rattle.feed_hold.specs.Motions.Call.{on_start, on_drained}
 use Rattle.outside.specs.declared.On.TheVariants as on
@@ -39,7 +39,7 @@ use Rattle.step_line.specs.Asking.Asked.{a_move}
 use Rattle.step_line.specs.declared.Piece.TheVariants as pieces
 use Rattle.step_line.specs.declared.Segment.{Segment}
 use Rattle.step_line.specs.declared.planned_move.PlannedMove.{PlannedMove}
-use Rattle.step_line.specs.Finishing.{tick_count, ticks_together}
+use Rattle.step_line.specs.Finishing.{ticks_together}
 use Rattle.board_rules.specs.Openings.{first_opening}
 use Rattle.board_rules.specs.Ports.PortStep.{found_empty, found_closed, answered, published, loaded}
 use Rattle.board_rules.specs.Steps.{Journal}
@@ -133,7 +133,7 @@ abbrev j5 : State → PlannedMove → Segment → Journal
 j5 last m s = began (jog m last) ∷ j4 last m s
 
 c5 : (first last : State) (m : PlannedMove) (s : Segment) → IsOneJog first last m s → Conducted (first_opening most_blocks first) (j5 last m s)
-c5 first last m s p = (record { calm = refl; free = refl; going = refl; whole = refl; becomes = p.becomes; begins = refl; flags = refl; obeyed = refl; unowed = refl; load = refl; idle = λ d. refl; starts = λ w. untrue w.blocks; tried = refl }, c4 first last m s p)
+c5 first last m s p = (record { calm = refl; free = refl; going = refl; whole = refl; becomes = p.becomes; begins = refl; flags = refl; obeyed = refl; unowed = refl; load = refl; idle = λ d. refl; starts = λ w. untrue w.blocks; tried = refl; few = omega arith }, c4 first last m s p)
 
 abbrev j6 : State → PlannedMove → Segment → Journal
 j6 last m s = turned Did ∷ became (on_start true) motions.Jog ∷ did (Add m) [] ∷ j5 last m s
@@ -151,7 +151,7 @@ abbrev j8 : State → PlannedMove → Segment → Journal
 j8 last m s = turned Did ∷ at_port (published (pieces.Segment s)) ∷ did (Take Go) (pieces.Segment s ∷ []) ∷ j7 last m s
 
 c8 : (first last : State) (m : PlannedMove) (s : Segment) → IsOneJog first last m s → Conducted (first_opening most_blocks first) (j8 last m s)
-c8 first last m s p = (ends _ _ (λ w. elsewhere _ w.stands refl) refl refl refl refl refl refl, ((refl, refl), ((record { goes = refl; empty = refl; obeyed = refl }, (p.taken, refl)), c7 first last m s p)))
+c8 first last m s p = (ends _ _ (λ w. elsewhere _ w.stands refl) refl refl refl refl refl refl, ((refl, refl, λ owed. absurd cc), ((record { goes = refl; empty = refl; obeyed = refl }, (p.taken, refl)), c7 first last m s p)))
 
 abbrev j9 : State → PlannedMove → Segment → Journal
 j9 last m s = at_port found_empty ∷ j8 last m s
@@ -187,7 +187,7 @@ abbrev j14 : State → PlannedMove → Segment → Journal
 j14 last m s = turned Did ∷ at_port (published pieces.End) ∷ made_end ∷ j13 last m s
 
 c14 : (first last : State) (m : PlannedMove) (s : Segment) → IsOneJog first last m s → Conducted (first_opening most_blocks first) (j14 last m s)
-c14 first last m s p = (ends _ _ (λ w. absurd (no_blocks m s p.rests w.blocks)) refl refl refl refl refl refl, ((refl, tt), (record { next = refl; drained = record { plan = p.rests; hand = refl; done = refl }; stands = refl; closes = λ e. absurd cc }, c13 first last m s p)))
+c14 first last m s p = (ends _ _ (λ w. absurd (no_blocks m s p.rests w.blocks)) refl refl refl refl refl refl, ((refl, tt, λ owed. absurd cc), (record { next = refl; drained = record { plan = p.rests; hand = refl; done = refl }; stands = refl; closes = λ e. absurd cc }, c13 first last m s p)))
 
 abbrev j15 : State → PlannedMove → Segment → Journal
 j15 last m s = turned Did ∷ at_port (answered Bye) ∷ j14 last m s

@@ -26,6 +26,7 @@ use Rattle.board_rules.specs.Openings.{Opening}
 use Rattle.board_rules.specs.Ports.PortStep.{answered}
 use Rattle.board_rules.specs.Steps.{Journal, open_of, left_of, left_by, without_asks, plan_after, plan_of}
 use Rattle.board_rules.specs.Steps.Step.{at_port, began, did, made_end, evened, paused, cut, halted, closing}
+use Rattle.board_rules.specs.Turns.{counts_tries}
 use Rattle.board_rules.proofs.Beginning.{caused, of_begun}
 use Rattle.board_rules.specs.Conduct.{Conducted, Gives, MayDo, IsNextTask}
 use Rattle.board_rules.proofs.Tasks.{none_taken}
@@ -33,12 +34,17 @@ use Rattle.run_rules.proofs.Each.{HoldsOfEach, holds_of_each}
 
 -- ---- where marks stand
 
--- Each mark stands behind a rest or another mark; or first, where nothing is left to run.
+-- something is asked of the machine next
+abbrev pub asks_next : List Task → Bool
+asks_next (ask a ∷ ts) = true
+asks_next _ = false
+
+-- Each mark stands behind a rest or another mark; or first, where nothing is left to run. Behind it stands a rest or another mark, too.
 abbrev pub MarksRest : Bool → List Task → Type 0
 MarksRest rests [] = Unit {0}
 MarksRest rests (ask a_rest ∷ ts) = MarksRest true ts
 MarksRest rests (ask (a_move m) ∷ ts) = MarksRest false ts
-MarksRest rests (ask (a_mark m) ∷ ts) = (rests ≡ true) × MarksRest rests ts
+MarksRest rests (ask (a_mark m) ∷ ts) = (rests ≡ true) × (asks_next ts ≡ true) × MarksRest rests ts
 MarksRest rests (_ ∷ ts) = MarksRest rests ts
 
 at_rest_too : (ts : List Task) → MarksRest false ts → MarksRest true ts
@@ -59,13 +65,13 @@ item_marks line s spindle flood (items.Move mv rate) ts rest = by_events (events
     by_events true is = rw is rest
     by_events false is = rw is rest
 item_marks line s spindle flood items.Pause ts rest = at_rest_too ts rest
-item_marks line s Off true items.ProgramEnd ts rest = (refl, at_rest_too ts rest)
+item_marks line s Off true items.ProgramEnd ts rest = (refl, refl, at_rest_too ts rest)
 item_marks line s Off false items.ProgramEnd ts rest = at_rest_too ts rest
-item_marks line s Cw true items.ProgramEnd ts rest = (refl, (refl, at_rest_too ts rest))
-item_marks line s Cw false items.ProgramEnd ts rest = (refl, at_rest_too ts rest)
-item_marks line s Ccw true items.ProgramEnd ts rest = (refl, (refl, at_rest_too ts rest))
-item_marks line s Ccw false items.ProgramEnd ts rest = (refl, at_rest_too ts rest)
-item_marks line s spindle flood _ ts rest = (refl, at_rest_too ts rest)
+item_marks line s Cw true items.ProgramEnd ts rest = (refl, refl, (refl, refl, at_rest_too ts rest))
+item_marks line s Cw false items.ProgramEnd ts rest = (refl, refl, at_rest_too ts rest)
+item_marks line s Ccw true items.ProgramEnd ts rest = (refl, refl, (refl, refl, at_rest_too ts rest))
+item_marks line s Ccw false items.ProgramEnd ts rest = (refl, refl, at_rest_too ts rest)
+item_marks line s spindle flood _ ts rest = (refl, refl, at_rest_too ts rest)
 
 work_marks : (line : ℕ) (s : Settings) (spindle : SpindleMode) (flood : Bool) (all : List Item) → MarksRest false (work_of line s spindle flood all ++ answer)
 work_marks line s spindle flood [] = tt
@@ -96,6 +102,10 @@ line_marks runs b kept o is =
     holds_of_each runs b (λ (o : Outcome). MarksRest false o.work) each kept o is
 
 -- ---- what a board has left to do
+
+-- what holds where a mark is next
+abbrev NextMark : Bool → List Task → Type 0
+NextMark rests ts = (rests ≡ true) × (asks_next ts ≡ true) × MarksRest rests ts
 
 abbrev Marked : List Task → Planned → Type 0
 Marked left plan = MarksRest false left ⊎ (IsAtRest plan × MarksRest true left)
@@ -132,9 +142,9 @@ on_did : (first : Opening) (h : Journal) (a : Action) (ps : List Piece) → MayD
 on_did first h (Add m) ps may gives (inl rest) = inl (subst (λ (ts : List Task). MarksRest false ts) may rest)
 on_did first h (Add m) ps may gives (inr (stands, rest)) = inl (subst (λ (ts : List Task). MarksRest true ts) may rest)
 on_did first h (Mark m) ps may gives (inl rest) =
-    absurd (let r : (false ≡ true) × MarksRest false (drop 1 (left_of first h)) = subst (λ (ts : List Task). MarksRest false ts) may.next rest in let e = r.0 in cc)
+    absurd (let r : NextMark false (drop 1 (left_of first h)) = subst (λ (ts : List Task). MarksRest false ts) may.next rest in let e = r.0 in cc)
 on_did first h (Mark m) ps may gives (inr (stands, rest)) =
-    let r : (true ≡ true) × MarksRest true (drop 1 (left_of first h)) = subst (λ (ts : List Task). MarksRest true ts) may.next rest in inr (stands, r.1)
+    let r : NextMark true (drop 1 (left_of first h)) = subst (λ (ts : List Task). MarksRest true ts) may.next rest in inr (stands, r.2)
 on_did first h Rest ps may gives (inl rest) = inr (may.drained.plan, subst (λ (ts : List Task). MarksRest false ts) may.next rest)
 on_did first h Rest ps may gives (inr (stands, rest)) = inr (may.drained.plan, subst (λ (ts : List Task). MarksRest true ts) may.next rest)
 on_did first h (Take Go) ps may gives (inl rest) = inl rest
@@ -173,5 +183,22 @@ pub mark_at_rest : (first : Opening) (h : Journal) (m : AnyMark) → Conducted f
 mark_at_rest first h m c next = by_marked (marked first h c)
   where
     by_marked : Marked (left_of first h) (plan_of h) → IsAtRest (plan_of h)
-    by_marked (inl rest) = absurd (let r : (false ≡ true) × MarksRest false (drop 1 (left_of first h)) = subst (λ (ts : List Task). MarksRest false ts) next rest in let e = r.0 in cc)
+    by_marked (inl rest) = absurd (let r : NextMark false (drop 1 (left_of first h)) = subst (λ (ts : List Task). MarksRest false ts) next rest in let e = r.0 in cc)
     by_marked (inr (stands, rest)) = stands
+
+-- and no reply comes at once behind it
+pub none_behind_mark : (first : Opening) (h : Journal) (m : AnyMark) → Conducted first h → IsNextTask first (ask (a_mark m)) h → counts_tries (drop 1 (left_of first h)) false ≡ false
+none_behind_mark first h m c next = by_marked (marked first h c)
+  where
+    none_of : (ts : List Task) → asks_next ts ≡ true → counts_tries ts false ≡ false
+    none_of [] asks = absurd cc
+    none_of (ask a ∷ ts) asks = refl
+    none_of (tell r ∷ ts) asks = absurd cc
+    none_of (pause ∷ ts) asks = absurd cc
+    none_of (normal ∷ ts) asks = absurd cc
+    none_of (finish ∷ ts) asks = absurd cc
+    none_of (halt ∷ ts) asks = absurd cc
+
+    by_marked : Marked (left_of first h) (plan_of h) → counts_tries (drop 1 (left_of first h)) false ≡ false
+    by_marked (inl rest) = let r : NextMark false (drop 1 (left_of first h)) = subst (λ (ts : List Task). MarksRest false ts) next rest in none_of (drop 1 (left_of first h)) r.1
+    by_marked (inr (stands, rest)) = let r : NextMark true (drop 1 (left_of first h)) = subst (λ (ts : List Task). MarksRest true ts) next rest in none_of (drop 1 (left_of first h)) r.1

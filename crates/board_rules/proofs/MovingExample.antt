@@ -1,6 +1,6 @@
 -- A whole run of a board to which one line comes that moves the machine by one segment, as `G0X.004` does by one step: the
 -- rules allow it.
-use Rattle.std.proofs.Common.{◌≡◌, ℕ, ◌≤◌, Bool, cond, nat_lt, [], ◌∷◌, inl, true, false, refl, sym, ap, ◌∙◌, arith}
+use Rattle.std.proofs.Common.{◌≡◌, ℕ, ◌≤◌, Bool, cond, [], ◌∷◌, inl, true, false, refl, sym, ap, ◌∙◌, arith}
 use Rattle.std.specs.List.{Contains}
 use Rattle.feed_hold.specs.declared.Motion.TheVariants as motions
 use Rattle.feed_hold.specs.Motions.Call.{on_start, on_drained}
@@ -24,7 +24,7 @@ use Rattle.step_line.specs.Asking.Asked.{a_move}
 use Rattle.step_line.specs.declared.Piece.TheVariants as pieces
 use Rattle.step_line.specs.declared.Segment.{Segment}
 use Rattle.step_line.specs.declared.planned_move.PlannedMove.{PlannedMove}
-use Rattle.step_line.specs.Finishing.{tick_count, ticks_together}
+use Rattle.step_line.specs.Finishing.{ticks_together}
 use Rattle.board_rules.specs.Openings.{first_opening}
 use Rattle.board_rules.specs.Ports.PortStep.{found_empty, found_closed, answered, published, loaded}
 use Rattle.board_rules.specs.Steps.{Journal}
@@ -89,7 +89,7 @@ abbrev j5 : State → PlannedMove → Segment → Journal
 j5 last m s = began (moved m last) ∷ j4 last m s
 
 c5 : (first last : State) (m : PlannedMove) (s : Segment) → IsOneSegment first last m s → Conducted (first_opening most_blocks first) (j5 last m s)
-c5 first last m s p = (record { calm = refl; free = refl; going = refl; whole = refl; becomes = p.becomes; begins = refl; flags = refl; obeyed = refl; unowed = refl; load = refl; idle = λ d. refl; starts = λ w. untrue w.blocks; tried = refl }, c4 first last m s p)
+c5 first last m s p = (record { calm = refl; free = refl; going = refl; whole = refl; becomes = p.becomes; begins = refl; flags = refl; obeyed = refl; unowed = refl; load = refl; idle = λ d. refl; starts = λ w. untrue w.blocks; tried = refl; few = omega arith }, c4 first last m s p)
 
 abbrev j6 : State → PlannedMove → Segment → Journal
 j6 last m s = turned Did ∷ did (Add m) [] ∷ j5 last m s
@@ -125,7 +125,7 @@ abbrev j11 : State → PlannedMove → Segment → Journal
 j11 last m s = turned Did ∷ at_port (published (pieces.Segment s)) ∷ did (Take Go) (pieces.Segment s ∷ []) ∷ j10 last m s
 
 c11 : (first last : State) (m : PlannedMove) (s : Segment) → IsOneSegment first last m s → Conducted (first_opening most_blocks first) (j11 last m s)
-c11 first last m s p = (ends _ _ (λ w. elsewhere _ w.stands refl) refl refl refl refl refl refl, ((refl, refl), ((record { goes = refl; empty = refl; obeyed = refl }, (p.taken, refl)), c10 first last m s p)))
+c11 first last m s p = (ends _ _ (λ w. elsewhere _ w.stands refl) refl refl refl refl refl refl, ((refl, refl, λ owed. absurd cc), ((record { goes = refl; empty = refl; obeyed = refl }, (p.taken, refl)), c10 first last m s p)))
 
 abbrev j12 : State → PlannedMove → Segment → Journal
 j12 last m s = at_port found_empty ∷ j11 last m s
@@ -161,7 +161,7 @@ abbrev j17 : State → PlannedMove → Segment → Journal
 j17 last m s = turned Did ∷ at_port (published pieces.End) ∷ made_end ∷ j16 last m s
 
 c17 : (first last : State) (m : PlannedMove) (s : Segment) → IsOneSegment first last m s → Conducted (first_opening most_blocks first) (j17 last m s)
-c17 first last m s p = (ends _ _ (λ w. absurd (no_blocks m s p.rests w.blocks)) refl refl refl refl refl refl, ((refl, tt), (record { next = refl; drained = record { plan = p.rests; hand = refl; done = refl }; stands = refl; closes = λ e. absurd cc }, c16 first last m s p)))
+c17 first last m s p = (ends _ _ (λ w. absurd (no_blocks m s p.rests w.blocks)) refl refl refl refl refl refl, ((refl, tt, λ owed. absurd cc), (record { next = refl; drained = record { plan = p.rests; hand = refl; done = refl }; stands = refl; closes = λ e. absurd cc }, c16 first last m s p)))
 
 abbrev j18 : State → PlannedMove → Segment → Journal
 j18 last m s = turned Did ∷ at_port (answered Bye) ∷ j17 last m s

@@ -1,5 +1,5 @@
 -- What a step adds to a turn: what nothing passes with, and what was tried to be published.
-use Rattle.std.proofs.Common.{◌≡◌, ℕ, ◌+◌, ◌≤◌, inl, inr, Bool, List, [], ◌∷◌, ◌++◌, ◌&&◌, ◌||◌, cond, drop, true, false, not, refl, sym, ap, ◌∙◌, subst, arith, append_assoc}
+use Rattle.std.proofs.Common.{◌≡◌, ℕ, ◌+◌, ◌≤◌, inl, inr, Bool, List, [], ◌∷◌, ◌++◌, ◌-◌, ◌&&◌, ◌||◌, cond, nat_lt, drop, true, false, not, refl, sym, ap, ◌∙◌, subst, arith, append_assoc}
 use Rattle.std.specs.List.{list_any, count_by}
 use Rattle.std.proofs.lemmas.List.Folds.{list_any-append}
 use Rattle.std.proofs.lemmas.List.Sums.{sum_by-cons}
@@ -15,7 +15,6 @@ use Rattle.status_report.specs.Answering.{is_bye}
 use Rattle.step_line.specs.declared.Piece.{Piece}
 use Rattle.step_line.specs.declared.Piece.TheVariants as pieces
 use Rattle.step_line.specs.declared.Segment.{Segment}
-use Rattle.plan_rules.specs.Blocks as blocks
 use Rattle.plan_rules.specs.Plans.{Planned}
 use Rattle.plan_rules.specs.Segments.{advanced}
 use Rattle.plan_rules.specs.declared.Mode.{Mode}
@@ -27,11 +26,11 @@ use Rattle.board_rules.specs.Steps.{Step, Journal, left_of, whole_of, left_by, w
 use Rattle.board_rules.specs.Steps.Step.{at_port, began, did, made_end, evened, became, cut, halted, closing, turned}
 use Rattle.board_rules.specs.Cuts.{has_cut, is_cancelling}
 use Rattle.board_rules.proofs.Dropping.{pauses_kept}
-use Rattle.board_rules.specs.Turns.{this_turn, publishing, moving, ends_turn, obeys, unobeyed_by, unobeyed_of, owes_report, takes_changes, replans, is_full, has_segment, is_due, is_halting, is_counted, counts_tries, is_reply_back, is_report_back, tries_of}
+use Rattle.board_rules.specs.Turns.{this_turn, publishing, moving, ends_turn, obeys, unobeyed_by, unobeyed_of, owes_report, takes_changes, replans, is_full, has_segment, is_due, is_halting, is_counted, only_replies, counts_tries, is_reply_back, is_report_back, tries_of}
 use Rattle.board_rules.specs.Conduct.{AreWaiting}
 use Rattle.units.specs.Truths.{one_if}
-use Rattle.board_rules.specs.Within.{changes_left, work_ahead, ahead, tries_ahead, AreWorked, PassesNothing, DidAlone, MayHaveLooked, Tried, HasTried}
-use Rattle.board_rules.proofs.Truths.{either_right}
+use Rattle.board_rules.specs.Within.{changes_left, tells_none, last_three, work_ahead, ahead, tries_ahead, AreWorked, PassesNothing, DidAlone, MayHaveLooked, Tried, HasTried}
+use Rattle.board_rules.proofs.Truths.{either_right, both_left, both_right}
 use Rattle.plan_rules.proofs.Reached.{length-moved}
 
 -- ---- one step of a turn
@@ -84,29 +83,18 @@ pauses_by _ ts = no_more (pauses ts)
 
 -- ---- what comes before the next poll
 
-two_most : (b : Bool) → 1 + one_if b ≤ 3
-two_most true = omega arith
-two_most false = omega arith
-
-some_most : (b : Bool) → one_if b ≤ 3
-some_most true = omega arith
-some_most false = omega arith
+pub three_at_most : (ts : List Task) → last_three ts ≤ 3
+three_at_most [] = omega arith
+three_at_most (t ∷ []) = omega arith
+three_at_most (t ∷ u ∷ []) = omega arith
+three_at_most (t ∷ u ∷ v ∷ ts) = omega arith
 
 pub three_most : (ts : List Task) (back : Bool) → work_ahead ts back ≤ 3
-three_most [] back = omega arith
-three_most (tell r ∷ []) back = some_most (not back)
-three_most (tell r ∷ tell q ∷ []) back = two_most (not back)
-three_most (tell r ∷ tell q ∷ t ∷ ts) back = omega arith
-three_most (tell r ∷ ask a ∷ ts) back = omega arith
-three_most (tell r ∷ pause ∷ ts) back = omega arith
-three_most (tell r ∷ normal ∷ ts) back = omega arith
-three_most (tell r ∷ finish ∷ ts) back = omega arith
-three_most (tell r ∷ halt ∷ ts) back = omega arith
-three_most (ask a ∷ ts) back = omega arith
-three_most (pause ∷ ts) back = omega arith
-three_most (normal ∷ ts) back = omega arith
-three_most (finish ∷ ts) back = omega arith
-three_most (halt ∷ ts) back = omega arith
+three_most ts back = by_replies (only_replies ts)
+  where
+    by_replies : (only : Bool) → cond only (last_three ts - one_if back) 3 ≤ 3
+    by_replies true = let few = three_at_most ts in omega (arith, few)
+    by_replies false = omega arith
 
 -- behind the first task no more comes, and where a try is counted so is one then
 record Shrinks (ts us : List Task) : Type 0 where
@@ -116,46 +104,56 @@ record Shrinks (ts us : List Task) : Type 0 where
 shrinks_same : (ts : List Task) → Shrinks ts ts
 shrinks_same ts = record { ahead = λ back. no_more (work_ahead ts back); counts = λ back e. e }
 
-last_ahead : (b : Bool) → one_if b ≤ 1 + one_if b
-last_ahead true = omega arith
-last_ahead false = omega arith
+fewer_last : (ts : List Task) → last_three (drop 1 ts) ≤ last_three ts
+fewer_last [] = omega arith
+fewer_last (t ∷ []) = omega arith
+fewer_last (t ∷ u ∷ []) = omega arith
+fewer_last (t ∷ u ∷ v ∷ ts) = three_at_most (u ∷ v ∷ ts)
 
-last_counts : (back one other : Bool) → not (back || (one || other)) ≡ true → not (back || other) ≡ true
-last_counts true one other e = absurd cc
-last_counts false true other e = absurd cc
-last_counts false false other e = e
+pub replies_behind : (ts : List Task) → only_replies ts ≡ true → only_replies (drop 1 ts) ≡ true
+replies_behind [] only = refl
+replies_behind (tell r ∷ ts) only = both_right (not (is_bye r)) (only_replies ts) only
+replies_behind (ask a ∷ ts) only = absurd cc
+replies_behind (pause ∷ ts) only = absurd cc
+replies_behind (normal ∷ ts) only = absurd cc
+replies_behind (finish ∷ ts) only = absurd cc
+replies_behind (halt ∷ ts) only = absurd cc
+
+-- where replies alone are left, replies alone of fewer tasks come, no more
+fewer_ahead : (now was : Bool) (m n : ℕ) (back : Bool) → (was ≡ true → (now ≡ true) × (m ≤ n)) → n ≤ 3 → m ≤ 3 → cond now (m - one_if back) 3 ≤ cond was (n - one_if back) 3
+fewer_ahead true true m n back fewer most few = let f = fewer refl in let less = f.1 in omega (arith, less)
+fewer_ahead false true m n back fewer most few = absurd (let f = fewer refl in let e = f.0 in cc)
+fewer_ahead true false m n back fewer most few = omega (arith, few)
+fewer_ahead false false m n back fewer most few = omega arith
+
+-- a try that is counted is so behind them
+counted_behind : (ts us : List Task) (back : Bool) → (only_replies ts ≡ true → only_replies us ≡ true) → (ts ≡ [] → us ≡ []) → counts_tries ts back ≡ true → counts_tries us back ≡ true
+counted_behind ts [] back only none counts = refl
+counted_behind [] (u ∷ us) back only none counts = absurd (let e = none refl in cc)
+counted_behind (t ∷ ts) (u ∷ us) back only none counts = ap (λ (b : Bool). b && only_replies (u ∷ us)) (both_left (not back) (only_replies (t ∷ ts)) counts) ∙ only (both_right (not back) (only_replies (t ∷ ts)) counts)
 
 shrinks_first : (ts : List Task) → Shrinks ts (drop 1 ts)
-shrinks_first [] = shrinks_same []
-shrinks_first (tell r ∷ []) = record { ahead = λ back. omega arith; counts = λ back e. refl }
-shrinks_first (tell r ∷ tell q ∷ []) = record { ahead = λ back. last_ahead (not back); counts = λ back e. last_counts back (is_bye r) (is_bye q) e }
-shrinks_first (tell r ∷ tell q ∷ t ∷ ts) = record { ahead = λ back. three_most (tell q ∷ t ∷ ts) back; counts = λ back e. absurd cc }
-shrinks_first (tell r ∷ ask a ∷ ts) = record { ahead = λ back. three_most (ask a ∷ ts) back; counts = λ back e. absurd cc }
-shrinks_first (tell r ∷ pause ∷ ts) = record { ahead = λ back. three_most (pause ∷ ts) back; counts = λ back e. absurd cc }
-shrinks_first (tell r ∷ normal ∷ ts) = record { ahead = λ back. three_most (normal ∷ ts) back; counts = λ back e. absurd cc }
-shrinks_first (tell r ∷ finish ∷ ts) = record { ahead = λ back. three_most (finish ∷ ts) back; counts = λ back e. absurd cc }
-shrinks_first (tell r ∷ halt ∷ ts) = record { ahead = λ back. three_most (halt ∷ ts) back; counts = λ back e. absurd cc }
-shrinks_first (ask a ∷ ts) = record { ahead = λ back. three_most ts back; counts = λ back e. absurd cc }
-shrinks_first (pause ∷ ts) = record { ahead = λ back. three_most ts back; counts = λ back e. absurd cc }
-shrinks_first (normal ∷ ts) = record { ahead = λ back. three_most ts back; counts = λ back e. absurd cc }
-shrinks_first (finish ∷ ts) = record { ahead = λ back. three_most ts back; counts = λ back e. absurd cc }
-shrinks_first (halt ∷ ts) = record { ahead = λ back. three_most ts back; counts = λ back e. absurd cc }
+shrinks_first ts = record {
+  ahead = λ back. fewer_ahead (only_replies (drop 1 ts)) (only_replies ts) (last_three (drop 1 ts)) (last_three ts) back (λ only. (replies_behind ts only, fewer_last ts)) (three_at_most ts) (three_at_most (drop 1 ts));
+  counts = λ back. counted_behind ts (drop 1 ts) back (replies_behind ts) (λ none. ap (λ (us : List Task). drop 1 us) none);
+}
+
+-- a cut leaves replies as they are
+replies_kept : (ts : List Task) → only_replies ts ≡ true → without_asks ts ≡ ts
+replies_kept [] only = refl
+replies_kept (tell r ∷ ts) only = ap (λ (us : List Task). tell r ∷ us) (replies_kept ts (both_right (not (is_bye r)) (only_replies ts) only))
+replies_kept (ask a ∷ ts) only = absurd cc
+replies_kept (pause ∷ ts) only = absurd cc
+replies_kept (normal ∷ ts) only = absurd cc
+replies_kept (finish ∷ ts) only = absurd cc
+replies_kept (halt ∷ ts) only = absurd cc
 
 shrinks_cut : (ts : List Task) → Shrinks ts (without_asks ts)
-shrinks_cut [] = shrinks_same []
-shrinks_cut (tell r ∷ []) = shrinks_same (tell r ∷ [])
-shrinks_cut (tell r ∷ tell q ∷ []) = shrinks_same (tell r ∷ tell q ∷ [])
-shrinks_cut (tell r ∷ tell q ∷ t ∷ ts) = record { ahead = λ back. three_most (without_asks (tell r ∷ tell q ∷ t ∷ ts)) back; counts = λ back e. absurd cc }
-shrinks_cut (tell r ∷ ask a ∷ ts) = record { ahead = λ back. three_most (without_asks (tell r ∷ ask a ∷ ts)) back; counts = λ back e. absurd cc }
-shrinks_cut (tell r ∷ pause ∷ ts) = record { ahead = λ back. three_most (without_asks (tell r ∷ pause ∷ ts)) back; counts = λ back e. absurd cc }
-shrinks_cut (tell r ∷ normal ∷ ts) = record { ahead = λ back. three_most (without_asks (tell r ∷ normal ∷ ts)) back; counts = λ back e. absurd cc }
-shrinks_cut (tell r ∷ finish ∷ ts) = record { ahead = λ back. three_most (without_asks (tell r ∷ finish ∷ ts)) back; counts = λ back e. absurd cc }
-shrinks_cut (tell r ∷ halt ∷ ts) = record { ahead = λ back. three_most (without_asks (tell r ∷ halt ∷ ts)) back; counts = λ back e. absurd cc }
-shrinks_cut (ask a ∷ ts) = record { ahead = λ back. three_most (without_asks (ask a ∷ ts)) back; counts = λ back e. absurd cc }
-shrinks_cut (pause ∷ ts) = record { ahead = λ back. three_most (without_asks (pause ∷ ts)) back; counts = λ back e. absurd cc }
-shrinks_cut (normal ∷ ts) = record { ahead = λ back. three_most (without_asks (normal ∷ ts)) back; counts = λ back e. absurd cc }
-shrinks_cut (finish ∷ ts) = record { ahead = λ back. three_most (without_asks (finish ∷ ts)) back; counts = λ back e. absurd cc }
-shrinks_cut (halt ∷ ts) = record { ahead = λ back. three_most (without_asks (halt ∷ ts)) back; counts = λ back e. absurd cc }
+shrinks_cut ts = record {
+  ahead = λ back. fewer_ahead (only_replies (without_asks ts)) (only_replies ts) (last_three (without_asks ts)) (last_three ts) back
+      (λ only. let same = replies_kept ts only in (ap only_replies same ∙ only, subst (λ (us : List Task). last_three us ≤ last_three ts) (sym same) (no_more (last_three ts)))) (three_at_most ts) (three_at_most (without_asks ts));
+  counts = λ back. counted_behind ts (without_asks ts) back (λ only. ap only_replies (replies_kept ts only) ∙ only) (λ none. ap without_asks none);
+}
 
 shrinks_by : (a : Action) (ts : List Task) → Shrinks ts (left_by a ts)
 shrinks_by (Add m) ts = shrinks_first ts
@@ -182,30 +180,33 @@ shrinks_ahead ts us false back s = s.ahead back
 pub ahead_behind : (ts : List Task) (whole back : Bool) → ahead (drop 1 ts) whole back ≤ ahead ts whole back
 ahead_behind ts whole back = shrinks_ahead ts (drop 1 ts) whole back (shrinks_first ts)
 
--- where a try is counted, the last two replies alone come
-pub ahead_counted : (ts : List Task) (back : Bool) → counts_tries ts back ≡ true → work_ahead ts back ≤ 2
-ahead_counted [] back counts = omega arith
-ahead_counted (tell r ∷ []) back counts = one_at_most (not back)
+-- what comes is one less, or the same, where a reply that is next was handed back, and the same where none is next
+less_ahead : (ts : List Task) (back : Bool) → work_ahead ts false ≤ work_ahead ts back + 1
+less_ahead ts back = by_replies (only_replies ts) back
   where
-    one_at_most : (b : Bool) → one_if b ≤ 2
-    one_at_most true = omega arith
-    one_at_most false = omega arith
-ahead_counted (tell r ∷ tell q ∷ []) back counts = two_at_most (not back)
+    by_replies : (only b : Bool) → cond only (last_three ts - 0) 3 ≤ cond only (last_three ts - one_if b) 3 + 1
+    by_replies true true = omega arith
+    by_replies true false = omega arith
+    by_replies false b = omega arith
+
+pub ahead_back : (ts : List Task) (whole back : Bool) → ahead ts whole false ≤ ahead ts whole back + 1
+ahead_back ts true back = omega arith
+ahead_back ts false back = less_ahead ts back
+
+none_ahead : (ts : List Task) (a b : Bool) → tells_none ts ≡ true → work_ahead ts a ≡ work_ahead ts b
+none_ahead [] a b none = by_backs a b
   where
-    two_at_most : (b : Bool) → 1 + one_if b ≤ 2
-    two_at_most true = omega arith
-    two_at_most false = omega arith
-ahead_counted (tell r ∷ tell q ∷ t ∷ ts) back counts = absurd cc
-ahead_counted (tell r ∷ ask a ∷ ts) back counts = absurd cc
-ahead_counted (tell r ∷ pause ∷ ts) back counts = absurd cc
-ahead_counted (tell r ∷ normal ∷ ts) back counts = absurd cc
-ahead_counted (tell r ∷ finish ∷ ts) back counts = absurd cc
-ahead_counted (tell r ∷ halt ∷ ts) back counts = absurd cc
-ahead_counted (ask a ∷ ts) back counts = absurd cc
-ahead_counted (pause ∷ ts) back counts = absurd cc
-ahead_counted (normal ∷ ts) back counts = absurd cc
-ahead_counted (finish ∷ ts) back counts = absurd cc
-ahead_counted (halt ∷ ts) back counts = absurd cc
+    by_backs : (x y : Bool) → 0 - one_if x ≡ 0 - one_if y
+    by_backs x y = omega arith
+none_ahead (t ∷ ts) a b none = by_replies (only_replies (t ∷ ts)) none
+  where
+    by_replies : (only : Bool) → not only ≡ true → cond only (last_three (t ∷ ts) - one_if a) 3 ≡ cond only (last_three (t ∷ ts) - one_if b) 3
+    by_replies true e = absurd cc
+    by_replies false e = refl
+
+pub ahead_unspoken : (ts : List Task) (whole a b : Bool) → tells_none ts ≡ true → ahead ts whole a ≡ ahead ts whole b
+ahead_unspoken ts true a b none = refl
+ahead_unspoken ts false a b none = none_ahead ts a b none
 
 -- a machine that is not held, nor slows down to a stop, still is not
 changes_some : (m : Motion) (has : Bool) → is_halting m ≡ true → 1 ≤ changes_left m has
@@ -283,9 +284,8 @@ passes_step first s h quiet words same pauses changes less shrinks = record {
   less = less;
   ahead = shrinks_ahead (left_of first h) (left_of first (s ∷ h)) (whole_of h) (is_reply_back h) shrinks;
   counted =
-      still_counted (owes_report h && is_report_back h) (is_halting (motion_of first (s ∷ h))) (is_halting (motion_of first h)) (whole_of h) (left_of first h) (left_of first (s ∷ h)) (is_reply_back h) shrinks
+      still_counted (owes_report h && is_report_back h) (is_halting (motion_of first (s ∷ h))) (is_halting (motion_of first h)) (whole_of h) (left_of first h) (left_of first (s ∷ h)) (not (owes_report h) && is_reply_back h) shrinks
       (halted_before (motion_of first h) (motion_of first (s ∷ h)) (has_cut h) (has_cut (s ∷ h)) changes);
-  backs = refl;
 }
 
 -- something is done to the plan that is not made anew
@@ -352,7 +352,6 @@ passes_load first done h = record {
   less = λ some. some;
   ahead = no_more (tries_ahead first h);
   counted = λ e. e;
-  backs = refl;
 }
 
 -- ---- no step, and some after others
@@ -389,7 +388,6 @@ passes_none first h = record {
   less = λ some. some;
   ahead = no_more (tries_ahead first h);
   counted = λ e. e;
-  backs = refl;
 }
 
 pub are_both : (h mid next : Journal) (some more : List Step) → mid ≡ some ++ h → next ≡ more ++ mid → next ≡ (more ++ some) ++ h
@@ -426,7 +424,6 @@ passes_on first h mid next a b = record {
   less = λ some. a.less (b.less some);
   ahead = at_most _ _ _ a.ahead b.ahead;
   counted = λ e. a.counted (b.counted e);
-  backs = b.backs ∙ a.backs;
 }
 
 pub alone_on : (first : Opening) (h mid next : Journal) → DidAlone first h mid → DidAlone first mid next → DidAlone first h next
@@ -452,6 +449,44 @@ counts_same : (counted : Bool) (n : ℕ) → counted ≡ false → cond counted 
 counts_same true n e = absurd cc
 counts_same false n e = refl
 
+-- a reply that is told takes one try back at most, and where more than one was counted it does, if it is none of the last three
+pub takes_back : (taken : Bool) (n : ℕ) → cond taken (n - 1) n ≤ n
+takes_back true n = omega arith
+takes_back false n = omega arith
+
+pub takes_one : (n : ℕ) → n ≤ 2 → cond (nat_lt 1 n) (n - 1) n ≤ 1
+takes_one n few = grind (arith, nat_tests, few)
+
+-- where no try is counted by what is left to do, no reply of a line is next, and none is counted if one was handed back
+pub none_spoken : (ts : List Task) → counts_tries ts false ≡ false → tells_none ts ≡ true
+none_spoken [] none = absurd cc
+none_spoken (t ∷ ts) none = ap not none
+
+pub none_counts : (ts : List Task) (back : Bool) → counts_tries ts false ≡ false → counts_tries ts back ≡ false
+none_counts [] back none = absurd cc
+none_counts (t ∷ ts) true none = refl
+none_counts (t ∷ ts) false none = none
+
+-- a try that is counted leaves as much to come, and one behind a reply that was handed back is not, and leaves one more
+sum_tried : (owes reported held whole back : Bool) (ts : List Task) (n : ℕ)
+    → cond (not (owes && reported) && (not held && counts_tries ts (not owes && back))) (n + 1) n + ahead ts whole (owes && back) ≤ n + ahead ts whole back + 1
+sum_tried true reported held whole back ts n = let m = counts_more (not reported && (not held && counts_tries ts false)) n in omega (arith, m)
+sum_tried false reported held whole false ts n = let m = counts_more (not held && counts_tries ts false) n in omega (arith, m)
+sum_tried false reported held true true ts n = let m = counts_more (not held && counts_tries ts true) n in omega (arith, m)
+sum_tried false reported held false true [] n = let m = counts_more (not held && true) n in omega (arith, m)
+sum_tried false reported true false true (t ∷ ts) n = let m = less_ahead (t ∷ ts) true in omega (arith, m)
+sum_tried false reported false false true (t ∷ ts) n = let m = less_ahead (t ∷ ts) true in omega (arith, m)
+
+-- where none would be counted behind it, as much comes as before
+behind_tried : (owes reported halts whole back : Bool) (ts : List Task) (n : ℕ) → (not (owes && false) && (not (halts && whole) && counts_tries ts (not owes && (owes && back)))) ≡ false
+    → cond (not (owes && reported) && (not (halts && whole) && counts_tries ts (not owes && back))) (n + 1) n + ahead ts whole (owes && back) ≤ n + ahead ts whole back
+behind_tried true true halts whole back ts n none = omega arith
+behind_tried true false halts whole back ts n none = let same = counts_same (not (halts && whole) && counts_tries ts false) n none in omega (arith, same)
+behind_tried false reported true true back ts n none = omega arith
+behind_tried false reported false true back ts n none = let same = counts_same (counts_tries ts back) n (none_counts ts back none) in omega (arith, same)
+behind_tried false reported true false back ts n none = let same = counts_same (counts_tries ts back) n (none_counts ts back none) in let as_much = none_ahead ts false back (none_spoken ts none) in omega (arith, same, as_much)
+behind_tried false reported false false back ts n none = let same = counts_same (counts_tries ts back) n (none_counts ts back none) in let as_much = none_ahead ts false back (none_spoken ts none) in omega (arith, same, as_much)
+
 -- the piece in hand is published
 pub tried_sent : (first : Opening) (p : Piece) (h : Journal) → drop 1 (hand_of h) ≡ [] → HasTried first true h (at_port (published p) ∷ h)
 tried_sent first p h one = record {
@@ -469,9 +504,10 @@ tried_sent first p h one = record {
   jogged = refl;
   once = counts_more (is_counted first h) (tries_of first h);
   later = λ none. counts_same (is_counted first h) (tries_of first h) none;
-  ahead = refl;
-  counted = refl;
-  backs = refl;
+  sum = sum_tried (owes_report h) (is_report_back h) (is_halting (motion_of first h) && whole_of h) (whole_of h) (is_reply_back h) (left_of first h) (tries_of first h);
+  behind = behind_tried (owes_report h) (is_report_back h) (is_halting (motion_of first h)) (whole_of h) (is_reply_back h) (left_of first h) (tries_of first h);
+  owing = λ owed. ap (λ o. ahead (left_of first h) (whole_of h) (o && is_reply_back h)) owed;
+  unspoken = ahead_unspoken (left_of first h) (whole_of h) (owes_report h && is_reply_back h) (is_reply_back h);
   left = refl;
   whole = refl;
   motion = refl;
@@ -503,9 +539,10 @@ tried_kept first done h = record {
   jogged = refl;
   once = counts_more (is_counted first h) (tries_of first h);
   later = λ none. counts_same (is_counted first h) (tries_of first h) none;
-  ahead = refl;
-  counted = refl;
-  backs = refl;
+  sum = sum_tried (owes_report h) (is_report_back h) (is_halting (motion_of first h) && whole_of h) (whole_of h) (is_reply_back h) (left_of first h) (tries_of first h);
+  behind = behind_tried (owes_report h) (is_report_back h) (is_halting (motion_of first h)) (whole_of h) (is_reply_back h) (left_of first h) (tries_of first h);
+  owing = λ owed. ap (λ o. ahead (left_of first h) (whole_of h) (o && is_reply_back h)) owed;
+  unspoken = ahead_unspoken (left_of first h) (whole_of h) (owes_report h && is_reply_back h) (is_reply_back h);
   left = refl;
   whole = refl;
   motion = refl;
@@ -538,9 +575,10 @@ tried_on first sent h mid next p counted ahead left motion cuts waiting full t =
   jogged = t.jogged ∙ p.jogged;
   once = (let same = p.tries in let one = t.once in omega (arith, same, one));
   later = λ none. t.later (counted ∙ none) ∙ p.tries;
-  ahead = t.ahead ∙ ahead;
-  counted = t.counted ∙ counted;
-  backs = t.backs ∙ p.backs;
+  sum = (let same = p.tries in let more = t.sum in omega (arith, same, ahead, more));
+  behind = λ none. (let same = p.tries in let more = t.behind none in omega (arith, same, ahead, more));
+  owing = λ owed. t.owing (p.owed ∙ owed) ∙ ahead;
+  unspoken = λ none. t.unspoken (ap tells_none left ∙ none) ∙ ahead;
   left = t.left ∙ left;
   whole = t.whole ∙ p.whole;
   motion = t.motion ∙ motion;

@@ -51,6 +51,7 @@ use Rattle.board_rules.specs.Turns.{
   is_greeted,
   unobeyed_of,
   owes_report,
+  is_report_back,
   takes_changes,
   replans,
   asks_no_start,
@@ -152,9 +153,14 @@ pub record MayTakeRequests (word : Exec) (h : Journal) : Type 0 where
 abbrev pub MayTakeChanges : Journal → Type 0
 MayTakeChanges h = is_greeted h ≡ true
 
--- a piece is handed back if the port has no room, as it promises
+-- A report that is owed was tried to be told, and handed back, since a piece was last tried to be published.
+abbrev pub ReportsFirst : Journal → Type 0
+ReportsFirst h = owes_report h ≡ true → is_report_back h ≡ true
+
+-- A piece is handed back if the port has no room, as it promises. It is tried to be published only behind a report that is owed.
 pub record MayKeep (done : ℕ) (h : Journal) : Type 0 where
   pub some : (hand_of h ≡ []) → ⊥
+  pub reported : ReportsFirst h
   pub full : LacksPieceRoom done (port_log h)
 
 -- ---- the plan
@@ -367,7 +373,7 @@ MayAtPort first (reported r) h = IsReportAt first r h
 MayAtPort first no_reply_room h = ((tells_next (left_of first h) || owes_report h) ≡ true) × AsksForRoom h
 MayAtPort first (took_exec word) h = MayTakeRequests word h
 MayAtPort first (took_ovr word) h = MayTakeChanges h
-MayAtPort first (published p) h = IsInHand p h × IsTimely p h
+MayAtPort first (published p) h = IsInHand p h × IsTimely p h × ReportsFirst h
 MayAtPort first (no_piece_room done) h = MayKeep done h
 MayAtPort first (loaded done) h = MayBeDone done (port_log h)
 MayAtPort first (found_mark number bytes) h = ⊥
@@ -381,7 +387,7 @@ MayAtPort first _ h = Unit {0}
 -- A line that was taken whole is begun, once both words of flags were taken after it, obeyed, and reported. In its turn
 -- the done ticks were loaded, and the cycle is over if nothing is left to run and each is done. It becomes what it does
 -- with the machine as it is found (`Found`). No line has raised an alarm; and if a segment was due since the line
--- before, one was tried to be published.
+-- before, one was tried to be published. One try to publish at most was counted since the last poll.
 pub record MayBegin (first : Opening) (o : Outcome) (h : Journal) : Type 0 where
   pub calm : has_limited h ≡ false
   pub free : left_of first h ≡ []
@@ -396,6 +402,7 @@ pub record MayBegin (first : Opening) (o : Outcome) (h : Journal) : Type 0 where
   pub idle : IsDrained h → is_going (motion_of first h) ≡ false
   pub starts : AreWaiting first h → starts_before_line first h ≡ false
   pub tried : (missed_of first h && is_due first h) ≡ false
+  pub few : tries_of first h ≤ 1
 
 -- The run is closed if the link was found closed, and each line that was taken whole is begun and answered; or if one
 -- has raised an alarm, and the alarm is sent.

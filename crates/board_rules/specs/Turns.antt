@@ -1,5 +1,5 @@
 -- The turns of a board: what it has done in this one, and what it owes its port from turn to turn.
-use Rattle.std.specs.Prelude.{ℕ, ◌+◌, Bool, true, false, ◌&&◌, ◌||◌, not, cond, nat_eq, List, [], ◌∷◌, ◌++◌, drop}
+use Rattle.std.specs.Prelude.{ℕ, ◌+◌, ◌-◌, Bool, true, false, ◌&&◌, ◌||◌, not, cond, nat_eq, nat_lt, List, [], ◌∷◌, ◌++◌, drop}
 use Rattle.std.specs.List.{list_any}
 use Rattle.feed_hold.specs.declared.Motion.{Motion}
 use Rattle.feed_hold.specs.declared.Motion.TheVariants.{Idle, Run, Jog, Alarm}
@@ -304,10 +304,12 @@ is_held_up first h = needs_motion (left_of first h) (whole_of h) (is_full first.
 abbrev pub reply_back_at : PortStep → (owes : Bool) → Bool → Bool
 reply_back_at (answered r) owes back = false
 reply_back_at no_reply_room owes back = not owes || back
+reply_back_at (published p) owes back = owes && back
+reply_back_at (no_piece_room done) owes back = owes && back
 reply_back_at e owes back = back
 
--- A reply that is no report was handed back, and none was told since: the one that is next waits for room. While a report is owed it is
--- the report that is handed back.
+-- A reply that is no report was handed back, and since then none was told, and no piece was tried to be published: the one that is next
+-- waits for room. While a report is owed it is the report that is handed back, and that a piece is tried behind.
 abbrev pub is_reply_back : Journal → Bool
 is_reply_back [] = false
 is_reply_back (at_port e ∷ h) = reply_back_at e (owes_report h) (is_reply_back h)
@@ -316,40 +318,54 @@ is_reply_back (_ ∷ h) = is_reply_back h
 abbrev pub report_back_at : PortStep → (owes : Bool) → Bool → Bool
 report_back_at (reported r) owes back = false
 report_back_at no_reply_room owes back = owes || back
+report_back_at (published p) owes back = false
+report_back_at (no_piece_room done) owes back = false
 report_back_at e owes back = back
 
--- a report was handed back, and none was told since: the one that is owed waits for room
+-- a report was handed back, and since then none was told, and no piece was tried to be published: the one that is owed waits for room
 abbrev pub is_report_back : Journal → Bool
 is_report_back [] = false
 is_report_back (at_port e ∷ h) = report_back_at e (owes_report h) (is_report_back h)
 is_report_back (_ ∷ h) = is_report_back h
 
--- A try to publish a piece is counted by what is left to do: nothing is, or one of the last two replies of a line, which was not handed
--- back. Bye is none of a line.
+-- replies alone are left of a line, or nothing; Bye is none of a line
+abbrev pub only_replies : List Task → Bool
+only_replies [] = true
+only_replies (tell r ∷ tasks) = not (is_bye r) && only_replies tasks
+only_replies _ = false
+
+-- A try to publish a piece is counted by what is left to do: nothing is, or replies of a line, of which the next was not handed back.
 abbrev pub counts_tries : List Task → (back : Bool) → Bool
 counts_tries [] back = true
-counts_tries (tell r ∷ []) back = not (back || is_bye r)
-counts_tries (tell r ∷ tell q ∷ []) back = not (back || (is_bye r || is_bye q))
-counts_tries tasks back = false
+counts_tries tasks back = not back && only_replies tasks
 
--- A try to publish a piece is counted, unless the board waits: for room, behind a report or a reply that was handed back; for a machine
--- that is held, or slows down for that, with a line that is to be begun; or with what else is left to do of a line, or to close the run.
+-- A try to publish a piece is counted, unless the board waits: for room, behind a report or a reply that was handed back, once each time;
+-- for a machine that is held, or slows down for that, with a line that is to be begun; or with what else is left to do of a line than
+-- replies, or to close the run.
 abbrev pub is_counted : Opening → Journal → Bool
 is_counted first h =
-    not (owes_report h && is_report_back h) && (not (is_halting (motion_of first h) && whole_of h) && counts_tries (left_of first h) (is_reply_back h))
+    not (owes_report h && is_report_back h) && (not (is_halting (motion_of first h) && whole_of h) && counts_tries (left_of first h) (not (owes_report h) && is_reply_back h))
 
-abbrev pub tries_at : PortStep → (counted : Bool) → ℕ → ℕ
-tries_at (took b) counted n = 0
-tries_at found_empty counted n = 0
-tries_at found_closed counted n = 0
-tries_at (published p) counted n = cond counted (n + 1) n
-tries_at (no_piece_room done) counted n = cond counted (n + 1) n
-tries_at e counted n = n
+-- more than three tasks are left
+abbrev pub are_many : List Task → Bool
+are_many (s ∷ t ∷ u ∷ v ∷ tasks) = true
+are_many _ = false
 
--- how many tries to publish a piece were counted since the last poll for a byte
+-- A reply that is none of a line's last three takes a try back once it is told, where more than one was counted.
+abbrev pub tries_at : PortStep → (left : List Task) → (counted : Bool) → ℕ → ℕ
+tries_at (took b) left counted n = 0
+tries_at found_empty left counted n = 0
+tries_at found_closed left counted n = 0
+tries_at (answered r) left counted n = cond (are_many left && nat_lt 1 n) (n - 1) n
+tries_at (published p) left counted n = cond counted (n + 1) n
+tries_at (no_piece_room done) left counted n = cond counted (n + 1) n
+tries_at e left counted n = n
+
+-- How many tries to publish a piece were counted since the last poll for a byte, less one for each reply that was told since and is none of
+-- a line's last three; but one is left.
 abbrev pub tries_of : Opening → Journal → ℕ
 tries_of first [] = 0
-tries_of first (at_port e ∷ h) = tries_at e (is_counted first h) (tries_of first h)
+tries_of first (at_port e ∷ h) = tries_at e (left_of first h) (is_counted first h) (tries_of first h)
 tries_of first (_ ∷ h) = tries_of first h
 
 -- so many tries at most come between two polls

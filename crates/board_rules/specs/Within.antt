@@ -1,10 +1,9 @@
 -- What is done within a turn of a board, part by part.
-use Rattle.std.specs.Prelude.{◌≡◌, ◌⊎◌, ℕ, ◌+◌, ◌≤◌, Bool, true, false, not, cond, List, [], ◌∷◌, ◌++◌}
+use Rattle.std.specs.Prelude.{◌≡◌, ◌⊎◌, ℕ, ◌+◌, ◌-◌, ◌≤◌, Bool, true, false, not, cond, List, [], ◌∷◌, ◌++◌}
 use Rattle.std.specs.List.{list_any, count_by}
 use Rattle.feed_hold.specs.declared.Motion.{Motion}
 use Rattle.feed_hold.specs.declared.Motion.TheVariants.{Holding, Cancelling, Held}
 use Rattle.run_rules.specs.Work.{Task, pauses}
-use Rattle.run_rules.specs.Work.Task.{tell}
 use Rattle.step_line.specs.declared.Piece.{Piece}
 use Rattle.units.specs.Truths.{one_if}
 use Rattle.board_rules.specs.Openings.{Opening}
@@ -27,7 +26,7 @@ use Rattle.board_rules.specs.Turns.{
   stands_still,
   is_counted,
   is_reply_back,
-  is_report_back,
+  only_replies,
   flags_taken,
   unobeyed_of,
   owes_report,
@@ -58,17 +57,26 @@ pub record MayFinish (first : Opening) (h : Journal) : Type 0 where
   pub drained : IsDrained h
   pub stands : stands_still (motion_of first h) ≡ true
 
+-- no reply of a line is next: nothing is left, or what is left are not replies alone
+abbrev pub tells_none : List Task → Bool
+tells_none [] = true
+tells_none tasks = not (only_replies tasks)
+
+-- of so many replies, three at most
+abbrev pub last_three : List Task → ℕ
+last_three [] = 0
+last_three (t ∷ []) = 1
+last_three (t ∷ u ∷ []) = 2
+last_three _ = 3
+
 abbrev pub work_ahead : List Task → (back : Bool) → ℕ
-work_ahead [] back = 0
-work_ahead (tell r ∷ []) back = one_if (not back)
-work_ahead (tell r ∷ tell q ∷ []) back = 1 + one_if (not back)
-work_ahead tasks back = 3
+work_ahead tasks back = cond (only_replies tasks) (last_three tasks - one_if back) 3
 
 abbrev pub ahead : List Task → (whole back : Bool) → ℕ
 ahead tasks whole back = cond whole 4 (work_ahead tasks back)
 
 -- What comes before the next poll, and before each of which one try to publish is counted at most: a line that was taken whole is
--- begun; what is to be done of it is, up to its last two replies; and each of these is told, or handed back.
+-- begun, and each of its last three replies is told, or handed back.
 abbrev pub tries_ahead : Opening → Journal → ℕ
 tries_ahead first h = ahead (left_of first h) (whole_of h) (is_reply_back h)
 
@@ -100,7 +108,6 @@ pub record PassesNothing (first : Opening) (h next : Journal) : Type 0 where
   pub less : (left_of first next ≡ [] → ⊥) → left_of first h ≡ [] → ⊥
   pub ahead : tries_ahead first next ≤ tries_ahead first h
   pub counted : is_counted first next ≡ false → is_counted first h ≡ false
-  pub backs : is_report_back next ≡ is_report_back h
 
 -- what a board did by itself: its port knows nothing of it
 pub record DidAlone (first : Opening) (h next : Journal) : Type 0 where
@@ -132,9 +139,10 @@ pub record HasTried (first : Opening) (published : Bool) (h next : Journal) : Ty
   pub jogged : has_jogged next ≡ has_jogged h
   pub once : tries_of first next ≤ tries_of first h + 1
   pub later : is_counted first h ≡ false → tries_of first next ≡ tries_of first h
-  pub ahead : tries_ahead first next ≡ tries_ahead first h
-  pub counted : is_counted first next ≡ is_counted first h
-  pub backs : is_report_back next ≡ is_report_back h
+  pub sum : tries_of first next + tries_ahead first next ≤ tries_of first h + tries_ahead first h + 1
+  pub behind : is_counted first next ≡ false → tries_of first next + tries_ahead first next ≤ tries_of first h + tries_ahead first h
+  pub owing : owes_report h ≡ true → tries_ahead first next ≡ tries_ahead first h
+  pub unspoken : tells_none (left_of first h) ≡ true → tries_ahead first next ≡ tries_ahead first h
   pub left : left_of first next ≡ left_of first h
   pub whole : whole_of next ≡ whole_of h
   pub motion : motion_of first next ≡ motion_of first h

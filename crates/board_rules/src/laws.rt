@@ -62,7 +62,7 @@ ghost use Rattle.board_rules.specs.Cuts.{
 ghost use Rattle.board_rules.specs.Ports.{MayAnswer, MayPublish, MayBeDone, asks_reset, sent_in, unstopped, has_held_in, has_slowed_in, has_changed_in, reports_in};
 ghost use Rattle.board_rules.specs.Whole.{course_of};
 ghost use Rattle.run_rules.specs.Reports.{Reported};
-ghost use Rattle.board_rules.specs.Ports.PortStep.{answered, took_exec, took_ovr, reported, published};
+ghost use Rattle.board_rules.specs.Ports.PortStep.{answered, took_exec, took_ovr, reported, published, no_piece_room};
 ghost use Rattle.status_report.specs.declared.reports.Report.{Report as AnyReport};
 ghost use Rattle.board_rules.specs.Steps.{
   Step,
@@ -100,6 +100,7 @@ ghost use Rattle.board_rules.specs.Turns.{
   obeys,
   unobeyed_of,
   owes_report,
+  is_report_back,
   takes_changes,
   replans,
   asks_no_start,
@@ -248,13 +249,19 @@ pub fn boards_refuse_only_while_they_move()
 {}
 
 /// A board publishes one thing a turn at most, also in one that ends in a wait, and between two turns no more than five tries to publish come after
-/// its last poll, not counting those in a wait: for room, behind a report or a reply that was handed back; for a machine that is held, or
-/// slows down for that; or with what else is left to do of a line than its last two replies. Each word of requests that was taken, and asks for no reset, is obeyed once, in order, or is the
+/// its last poll, of which one at most comes before a line is begun, not counting those in a wait: one for room behind each time that a report
+/// or a reply was handed back; those for a machine that is held, or slows down for that; and those with what else is left to do of a line than
+/// replies. A reply that is none of a line's last three takes a try back once it is told, where more than one was counted.
+/// While a report is owed a piece is tried to be published only once behind each time that it was handed back.
+/// Each word of requests that was taken, and asks for no reset, is obeyed once, in order, or is the
 /// last one: between two turns it waits only for a report that is owed. One that asks for a reset is not obeyed. For each word that changes overrides the plan is made anew, once.
 pub fn boards_take_turns()
     ensures once { (first : Opening) (h : Journal) → Conducted first h → this_turn h ≡ [] → count_by publishing h ≤ count_by ends_turn h }
     ensures each { (first : Opening) (h : Journal) (t : AnyTurn) → Conducted first (turned t ∷ h) → count_by publishing (this_turn h) ≤ 1 }
     ensures tries { (first : Opening) (h : Journal) → Conducted first h → this_turn h ≡ [] → tries_of first h ≤ most_tries }
+    ensures begun { (first : Opening) (h : Journal) (o : Outcome) → Conducted first (began o ∷ h) → tries_of first h ≤ 1 }
+    ensures owed { (first : Opening) (h : Journal) (p : AnyPiece) → Conducted first (at_port (published p) ∷ h) → owes_report h ≡ true → is_report_back h ≡ true }
+    ensures owed_back { (first : Opening) (h : Journal) (done : ℕ) → Conducted first (at_port (no_piece_room done) ∷ h) → owes_report h ≡ true → is_report_back h ≡ true }
     ensures obeyed { (first : Opening) (h : Journal) → Conducted first h → count_by obeys h + length (unobeyed_of h) ≡ count_by takes_requests h }
     ensures one { (first : Opening) (h : Journal) → Conducted first h → length (unobeyed_of h) ≤ 1 }
     ensures waits { (first : Opening) (h : Journal) → Conducted first h → this_turn h ≡ [] → owes_report h ≡ false → unobeyed_of h ≡ [] }

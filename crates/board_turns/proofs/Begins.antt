@@ -1,5 +1,5 @@
 -- A line that was taken whole is begun.
-use Rattle.std.proofs.Common.{◌≡◌, ℕ, ◌+◌, ◌≤◌, ◌⊎◌, inl, inr, Bool, true, false, not, ◌&&◌, ◌||◌, Some, List, [], ◌∷◌, ◌++◌, sym, refl, ap, ◌∙◌, subst, arith, append_assoc}
+use Rattle.std.proofs.Common.{◌≡◌, ℕ, ◌+◌, ◌≤◌, ◌⊎◌, inl, inr, Bool, true, false, not, nat_lt, ◌&&◌, ◌||◌, Some, List, [], ◌∷◌, ◌++◌, sym, refl, ap, ◌∙◌, subst, arith, append_assoc}
 use Rattle.std.specs.List.{list_any, count_by}
 use Rattle.feed_hold.specs.declared.Motion.{Motion as AnyMotion}
 use Rattle.feed_hold.specs.declared.Motion.TheVariants as motions
@@ -20,7 +20,7 @@ use Rattle.board_rules.specs.Steps.{Step}
 use Rattle.board_rules.specs.Steps.Step.{at_port, began, became}
 use Rattle.board_rules.specs.Cuts.{has_cut, is_cancelling}
 use Rattle.board_rules.proofs.Beginning.{caused, of_begun}
-use Rattle.board_rules.specs.Turns.{this_turn, publishing, moving, ends_turn, owes_report, unobeyed_of, flags_taken, found_none, has_blocks, has_jogged, machine_in, tries_of, missed_of, is_due, is_full, awaits_motion, halts_next, is_alarm, is_limited, is_locked, awaits_unlock, begins_in, starts_cycle, is_reply_back}
+use Rattle.board_rules.specs.Turns.{this_turn, publishing, moving, ends_turn, owes_report, unobeyed_of, flags_taken, found_none, has_blocks, has_jogged, machine_in, tries_of, missed_of, is_due, is_full, awaits_motion, halts_next, is_alarm, is_limited, is_locked, awaits_unlock, begins_in, starts_cycle, is_reply_back, are_many}
 use Rattle.board_rules.specs.Conduct.{MayBegin, MayStart, AsksForRoom}
 use Rattle.board_turns.specs.declared.board.Board.{Board}
 use Rattle.board_machine.specs.declared.machine.Machine.{Machine}
@@ -34,7 +34,7 @@ use Rattle.board_rules.specs.Within.{AreWorked, tries_ahead, ahead}
 use Rattle.board_turns.proofs.Starting.{starts_off, starts_to_begin}
 use Rattle.board_turns.proofs.Standing.{blocks_undrained}
 use Rattle.board_rules.proofs.Polling.{none_told}
-use Rattle.board_rules.proofs.Tries.{IsNoWord, none_ends, worked_behind, publishes_one, publishes_none, ahead_less}
+use Rattle.board_rules.proofs.Tries.{IsNoWord, none_ends, worked_behind, publishes_one, publishes_none, ahead_less, takes_back}
 use Rattle.board_rules.proofs.Uncut.{uncut_else}
 use Rattle.board_rules.proofs.HaltWorks.{HaltsOrNot, line_halts, none_halts_next}
 use Rattle.board_rules.proofs.Alarms.{still_locked}
@@ -72,6 +72,7 @@ may_begin first h o may calm found = record {
   idle = may.looked.idle;
   starts = λ waiting. or_none (list_any found_none (this_turn h)) (is_full first.blocks (plan_of h) || (awaits_motion (left_of first h) || has_jogged h)) (whole_of h) (begins_with_dollar (open_of h)) may.looked.unpolled (may.looked.none_waits waiting) (may.starts waiting);
   tried = and_none (missed_of first h) (is_due first h) may.looked.unmissed;
+  few = may.looked.tries;
 }
 
 -- a line is begun
@@ -381,7 +382,7 @@ pub record IsBegun (first : Opening) (k : ℕ) (o : Outcome) (mid h : Journal) :
   pub worked : AreWorked mid → AreWorked h
   pub once : count_by publishing (this_turn h) ≤ count_by publishing (this_turn mid) + k
   pub unpolled : list_any found_none (this_turn h) ≡ list_any found_none (this_turn mid)
-  pub tries : tries_of first h ≡ tries_of first mid
+  pub tries : tries_of first h ≤ tries_of first mid
   pub partial : whole_of h ≡ false
   pub free : IsFree mid → IsFree h
   pub moved : list_any moving (this_turn h) ≡ true
@@ -398,7 +399,7 @@ line_begun first o mid = record {
   worked = worked_behind (began o) mid (began o ∷ mid) refl (record { no_changes = refl; none_planned = refl }) refl refl;
   once = (let c = publishes_none (began o) (this_turn mid) refl in omega (arith, c));
   unpolled = refl;
-  tries = refl;
+  tries = omega arith;
   partial = refl;
   free = λ f. record { flags = f.flags; obeyed = f.obeyed; unowed = f.unowed };
   moved = refl;
@@ -447,7 +448,7 @@ has_begun first o mid line (inr (inr is)) = subst (λ (j : Journal). IsBegun fir
 
 -- a step at the port behind it that takes no byte, tries no piece and takes no word of flags
 begun_on : (first : Opening) (o : Outcome) (mid h next : Journal) (s : Step) → next ≡ s ∷ h → IsBegun first 0 o mid h → IsNoWord s → owes_report next ≡ owes_report h → unobeyed_of next ≡ unobeyed_of h → flags_taken next ≡ flags_taken h
-    → this_turn next ≡ s ∷ this_turn h → found_none s ≡ false → ends_turn s ≡ false → tries_of first next ≡ tries_of first h → whole_of next ≡ whole_of h → IsBegun first 1 o mid next
+    → this_turn next ≡ s ∷ this_turn h → found_none s ≡ false → ends_turn s ≡ false → tries_of first next ≤ tries_of first h → whole_of next ≡ whole_of h → IsBegun first 1 o mid next
 begun_on first o mid h next s is b plain owed words flags turn none inner tries whole = record {
   front = s ∷ b.front;
   are = is ∙ ap (λ (j : Journal). s ∷ j) b.are;
@@ -455,7 +456,7 @@ begun_on first o mid h next s is b plain owed words flags turn none inner tries 
   worked = λ w. worked_behind s h next turn plain owed words (b.worked w);
   once = (let c = ap (λ ss. count_by publishing ss) turn in let one = at_most_one s (this_turn h) in let had = b.once in omega (arith, c, one, had));
   unpolled = ap (λ ss. list_any found_none ss) turn ∙ ap (λ t. t || list_any found_none (this_turn h)) none ∙ b.unpolled;
-  tries = tries ∙ b.tries;
+  tries = (let had = b.tries in omega (arith, tries, had));
   partial = whole ∙ b.partial;
   free = λ f. let free = b.free f in record { flags = flags ∙ free.flags; obeyed = words ∙ free.obeyed; unowed = owed ∙ free.unowed };
   moved = ap (λ ss. list_any moving ss) turn ∙ or_true (moving s) (list_any moving (this_turn h)) b.moved;
@@ -475,10 +476,10 @@ has_spoken first o mid line next begun (untold is) =
     subst (λ (j : Journal). IsBegun first 1 o mid j) (sym is) (record { front = b.front; are = b.are; inner = b.inner; worked = b.worked; once = (let c = b.once in omega (arith, c)); unpolled = b.unpolled; tries = b.tries; partial = b.partial; free = b.free; moved = b.moved })
 has_spoken first o mid line next begun (handed_back is) =
     subst (λ (j : Journal). IsBegun first 1 o mid j) (sym is)
-    (begun_on first o mid line (at_port no_reply_room ∷ line) (at_port no_reply_room) refl (has_begun first o mid line begun) (record { no_changes = refl; none_planned = refl }) refl refl refl refl refl refl refl refl)
+    (begun_on first o mid line (at_port no_reply_room ∷ line) (at_port no_reply_room) refl (has_begun first o mid line begun) (record { no_changes = refl; none_planned = refl }) refl refl refl refl refl refl (omega arith) refl)
 has_spoken first o mid line next begun (was_told r is) =
     subst (λ (j : Journal). IsBegun first 1 o mid j) (sym is)
-    (begun_on first o mid line (at_port (answered r) ∷ line) (at_port (answered r)) refl (has_begun first o mid line begun) (record { no_changes = refl; none_planned = refl }) refl refl refl refl refl refl refl refl)
+    (begun_on first o mid line (at_port (answered r) ∷ line) (at_port (answered r)) refl (has_begun first o mid line begun) (record { no_changes = refl; none_planned = refl }) refl refl refl refl refl refl (takes_back (are_many (left_of first line) && nat_lt 1 (tries_of first line)) (tries_of first line)) refl)
 
 -- no report is owed behind a line that was begun
 pub begun_unowed : (first : Opening) (o : Outcome) (mid line : Journal) → MayJudge first mid → HasBegun first o mid line → owes_report line ≡ false

@@ -14,7 +14,7 @@ use Rattle.step_line.specs.Asking.Asked.{a_move, a_mark, a_rest}
 use Rattle.board_rules.specs.Ports.{BoardLog}
 use Rattle.board_rules.specs.Steps.{Step, Journal, left_of, plan_of, motion_of, closed_tells}
 use Rattle.board_rules.specs.Cuts.{has_cut}
-use Rattle.board_rules.specs.Turns.{this_turn, publishing, passing, moving, ends_turn, found_none, lacks_reply_room, unobeyed_of, owes_report, takes_changes, replans, flags_taken, awaits_motion, has_jogged, is_full, begins_in, halts_next, is_halting, is_limited, is_counted, has_blocks, has_segment, is_due, starts_cycle, tries_of, missed_of, waits_of, counts_tries, is_reply_back}
+use Rattle.board_rules.specs.Turns.{this_turn, publishing, passing, moving, ends_turn, found_none, lacks_reply_room, unobeyed_of, owes_report, takes_changes, replans, flags_taken, awaits_motion, has_jogged, is_full, begins_in, halts_next, is_halting, is_limited, is_counted, has_blocks, has_segment, is_due, starts_cycle, tries_of, missed_of, waits_of, counts_tries}
 use Rattle.board_rules.specs.Conduct.{AreWaiting, IsNextTask}
 use Rattle.units.specs.Truths.{one_if}
 use Rattle.board_turns.specs.declared.board.Board.{Board}
@@ -24,7 +24,7 @@ use Rattle.board_turns.specs.Boards.{Keeps, Rounds, NoneWaits, GoingBetween, IsF
 use Rattle.board_turns.specs.Turning.{IsNextMove, AreWorked, IsQuiet, IsReady, MayRun, MayAwait, HasStopped, NeedsNoWait, GoesOn, PassesNothing, HasFilled, HasTried, BoardWorked, WorksOn}
 pub use Rattle.board_turns.proofs.Freeing.{free_of, takes_none, no_word_left, free_passed, free_tried}
 use Rattle.board_rules.proofs.Facts.{none_awaited, uncounted}
-use Rattle.board_rules.proofs.Tries.{none_ends}
+use Rattle.board_rules.proofs.Tries.{none_ends, none_spoken}
 use Rattle.board_turns.proofs.Steps.{other_published, halts_by, none_halts}
 
 -- ---- what follows
@@ -139,19 +139,26 @@ few_tries : (first : Opening) (h mid next : Journal) (p : Bool) → MayTry first
 few_tries first h mid next p may tried filled =
     let t = filled.alone.passes.tries in
     let a = filled.alone.passes.ahead in
-    let w = tried.ahead in
-    let f = tried.once in
+    let s = tried.sum in
     let m = may.tries in
-    omega (arith, t, a, w, f, m)
+    omega (arith, t, a, s, m)
 
--- where none was counted they are as few as before
-few_uncounted : (first : Opening) (h mid next : Journal) (p : Bool) → HasTried first p h mid → PassesNothing first mid next → is_counted first h ≡ false → tries_of first h + tries_ahead first h ≤ 4 → tries_of first next + tries_ahead first next ≤ 4
-few_uncounted first h mid next p tried passes none few =
+-- where none was counted they are as few as before, if as much comes
+few_uncounted : (first : Opening) (h mid next : Journal) (p : Bool) → HasTried first p h mid → PassesNothing first mid next → is_counted first h ≡ false → tries_ahead first mid ≡ tries_ahead first h → tries_of first h + tries_ahead first h ≤ 4
+    → tries_of first next + tries_ahead first next ≤ 4
+few_uncounted first h mid next p tried passes none as_much few =
     let t = passes.tries in
     let a = passes.ahead in
-    let w = tried.ahead in
     let f = tried.later none in
-    omega (arith, t, a, w, f, few)
+    omega (arith, t, a, as_much, f, few)
+
+-- and where none would be counted behind them
+few_behind : (first : Opening) (h mid next : Journal) (p : Bool) → HasTried first p h mid → PassesNothing first mid next → is_counted first next ≡ false → tries_of first h + tries_ahead first h ≤ 4 → tries_of first next + tries_ahead first next ≤ 4
+few_behind first h mid next p tried passes none few =
+    let t = passes.tries in
+    let a = passes.ahead in
+    let f = tried.behind (passes.counted none) in
+    omega (arith, t, a, f, few)
 
 -- ---- a piece that is published
 
@@ -169,8 +176,8 @@ sent_by first was board h mid next may tried filled keeps no_word takes =
         sent = λ e. filled.hand ∙ tried.sent refl;
         none_waits = filled.none_waits;
         tries = omega arith;
-        few = λ none. few_uncounted first h mid next true tried a (sym tried.counted ∙ a.counted none) may.tries;
-        owed = λ owed. few_uncounted first h mid next true tried a (may.owing (sym (a.owed ∙ tried.owed) ∙ owed)) may.tries;
+        few = λ none. few_behind first h mid next true tried a none may.tries;
+        owed = λ owed. let was = sym (a.owed ∙ tried.owed) ∙ owed in few_uncounted first h mid next true tried a (may.owing was) (tried.owing was) may.tries;
       };
       flags = takes;
       still = λ e. no_word;
@@ -216,11 +223,11 @@ pub handed_back : {N : ℕ} (first : Opening) (was : Flags) (board : Board N) (h
 handed_back first was board h mid next may tried filled keeps unpublished no_word =
     let a = filled.alone.passes in
     let try = may_try first h may in
-    let w = tried.ahead in
+    let w = tried.unspoken may.unspoken in
     let b = a.ahead in
     let t = a.tries in
     let few : tries_of first next + tries_ahead first next ≤ 4 =
-    by_counted (is_counted first h) (λ e. let f = tried.once in let m = may.once e in omega (arith, w, b, t, f, m)) (λ e. (few_uncounted first h mid next false tried a e (may.few e))) in
+    by_counted (is_counted first h) (λ e. let f = tried.once in let m = may.once e in omega (arith, w, b, t, f, m)) (λ e. (few_uncounted first h mid next false tried a e w (may.few e))) in
     let worked = a.worked (tried.worked may.quiet.worked) in
     let free = free_passed first mid next a (free_tried first false h mid tried (free_of h may.quiet)) in
     record {
@@ -296,7 +303,6 @@ still_none_waits first h next p tried none waiting =
 -- what was tried first was handed back
 pub ready_tried : (first : Opening) (h next : Journal) → Rounds first false h → GoingBetween h → IsFree h → HasTried first false h next → IsReady first next
 ready_tried first h next r between free tried =
-    let w = tried.ahead in
     let rt = r.tries in
     record {
       quiet = record {
@@ -311,8 +317,8 @@ ready_tried first h next r between free tried =
       tried = λ due. tried.waits;
       unmissed = tried.missed;
       none_waits = still_none_waits first h next false tried r.none_waits;
-      tries = (let f = tried.once in omega (arith, f, w, rt));
-      few = λ none. (let f = tried.later (sym tried.counted ∙ none) in omega (arith, f, w, rt));
+      tries = (let f = tried.sum in omega (arith, f, rt));
+      few = λ none. (let f = tried.behind none in omega (arith, f, rt));
     }
 
 -- the last turn published
@@ -341,16 +347,17 @@ ready_idle first h r between taken idle unmissed = record {
 
 -- ---- the motion is waited for
 
-pub may_run : (first : Opening) (h : Journal) → IsReady first h → counts_tries (left_of first h) (is_reply_back h) ≡ false → MayRun first h
+pub may_run : (first : Opening) (h : Journal) → IsReady first h → counts_tries (left_of first h) false ≡ false → MayRun first h
 may_run first h ready none = record {
   quiet = ready.quiet;
   polled = λ e. absurd (let n = ready.unpolled in cc);
   once = λ e. absurd (let n = sym e ∙ uncounted first h none in cc);
   few = ready.few;
+  unspoken = none_spoken (left_of first h) none;
 }
 
 pub may_await : (first : Opening) (h : Journal) → IsReady first h → begins_in (motion_of first h) ≡ true → awaits_motion (left_of first h) ≡ true → MayAwait first h
-may_await first h ready going awaits = record { run = may_run first h ready (none_awaited (left_of first h) (is_reply_back h) awaits); going = going; awaits = awaits; none_waits = ready.none_waits }
+may_await first h ready going awaits = record { run = may_run first h ready (none_awaited (left_of first h) awaits); going = going; awaits = awaits; none_waits = ready.none_waits }
 
 -- a machine that stands with nothing left to run waits for no start, and has no segment due
 pub no_blocks : (first : Opening) (h : Journal) → HasStopped first h → has_blocks (plan_of h).blocks ≡ false

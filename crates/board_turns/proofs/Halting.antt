@@ -27,7 +27,7 @@ use Rattle.board_rules.specs.Ports.PortStep.{took_exec}
 use Rattle.board_rules.specs.Steps.{Step, Journal, left_of, whole_of, closed_tells, hand_of, plan_of, motion_of}
 use Rattle.board_rules.specs.Steps.Step.{at_port, became}
 use Rattle.board_rules.specs.Cuts.{has_cut}
-use Rattle.board_rules.specs.Turns.{this_turn, ends_turn, is_going, publishing, passing, unobeyed_of, owes_report, takes_changes, replans, asks_no_start, flags_taken, has_blocks, has_jogged, has_jog_to_start, waits_to_jog, has_segment, is_full, is_due, is_halting, is_limited, halts_next, is_counted, is_held_up, needs_motion, awaits_motion, tells_next, starts_cycle, tries_of, most_tries, is_reply_back}
+use Rattle.board_rules.specs.Turns.{this_turn, ends_turn, is_going, publishing, passing, unobeyed_of, owes_report, takes_changes, replans, asks_no_start, flags_taken, has_blocks, has_jogged, has_jog_to_start, waits_to_jog, has_segment, is_full, is_due, is_halting, is_limited, halts_next, is_counted, is_held_up, needs_motion, awaits_motion, tells_next, starts_cycle, tries_of, most_tries}
 use Rattle.board_rules.specs.Conduct.{Conducted, EndsTurn, IsNextTask, AreWaiting, HasSlowedDown}
 use Rattle.board_rules.proofs.Staying.{both_taken, stays_held}
 use Rattle.board_rules.proofs.Given.{known_within}
@@ -39,7 +39,7 @@ use Rattle.board_turns.specs.declared.board.Flags.TheVariants as words
 use Rattle.board_turns.specs.Boards.{Keeps, Rounds, NoneWaits, IsFree, IsAsked, AwaitsWords, TakesFlags, takes_no_word, words_left, changes_left, number_of}
 use Rattle.board_turns.specs.Turning.{HasPiece, IsHeldUp, MayRun, PassesNothing, StaysSo, IsCutNow, HasSettled, AreWorked, BoardWorked, obeyed, obeying, to_obey}
 use Rattle.board_turns.specs.Reporting.{IsBehind}
-use Rattle.board_rules.proofs.Facts.{none_held_up, uncounted, uncounted_line}
+use Rattle.board_rules.proofs.Facts.{none_held_up, unspoken_held_up, uncounted, uncounted_line}
 use Rattle.board_rules.proofs.Tries.{counts_none, counts_one}
 use Rattle.board_turns.proofs.Steps.{at_rest, halts_by}
 use Rattle.board_turns.proofs.Standing.{all_published}
@@ -70,7 +70,7 @@ uncounted_halted first h halted = by_whole (whole_of h) refl
   where
     by_whole : (w : Bool) → whole_of h ≡ w → is_counted first h ≡ false
     by_whole true e = uncounted_line first h halted.halts e
-    by_whole false e = uncounted first h (none_held_up (left_of first h) (whole_of h) (is_full first.blocks (plan_of h)) (is_reply_back h) halted.held_up e)
+    by_whole false e = uncounted first h (none_held_up (left_of first h) (whole_of h) (is_full first.blocks (plan_of h)) halted.held_up e)
 
 -- and few stand behind the last poll
 pub few_halted : (first : Opening) (h : Journal) → IsHeldUp first h → tries_of first h + tries_ahead first h ≤ 4
@@ -83,6 +83,7 @@ may_run_halted first h halted = record {
   polled = λ e. absurd (let f = sym halted.ready.unpolled ∙ e in cc);
   once = λ counted. absurd (let f = sym (uncounted_halted first h halted) ∙ counted in cc);
   few = λ e. (few_halted first) h halted;
+  unspoken = unspoken_held_up (left_of first h) (whole_of h) (is_full first.blocks (plan_of h)) halted.held_up;
 }
 
 -- a move that is held up has no room

@@ -24,7 +24,7 @@ use Rattle.board_rules.specs.Ports.{MayPublish}
 use Rattle.epoch_ports.specs.Serving.{MayTellNow, MayPublishNow}
 use Rattle.board_rules.specs.Ports.PortStep.{answered}
 use Rattle.board_rules.specs.Steps.{Journal, port_log, has_limited, whole_of, left_of, hand_of, plan_of, motion_of, planned_of, actions_of}
-use Rattle.board_rules.specs.Turns.{is_due, has_segment, is_going, begins_in, halts_next, is_counted, is_reply_back, is_halting, is_limited, tries_of}
+use Rattle.board_rules.specs.Turns.{is_due, has_segment, is_going, begins_in, halts_next, is_counted, is_halting, is_limited, tries_of}
 use Rattle.board_rules.specs.Conduct.{IsNextTask, IsInHand}
 use Rattle.board_rules.proofs.Keeping.{run_is}
 use Rattle.board_rules.proofs.Limits.{few_given, may_publish_next}
@@ -122,7 +122,7 @@ calm_whole first c h k whole = by_alarm (has_limited h) refl
 -- behind an alarm no try to publish is counted
 pub few_tried : {N : ℕ} (first : Opening) (c : Board N) (h : Journal) → Keeps first c h → (hand_of h ≡ [] → ⊥) → has_limited h ≡ true → cond (is_counted first h) (tries_of first h + 1) (tries_of first h) ≤ 1
 few_tried first c h k some one =
-    let e = ap (λ b. cond b (tries_of first h + 1) (tries_of first h)) (uncounted first h (none_alarmed first h (is_reply_back h) k.conducted one some)) in
+    let e = ap (λ b. cond b (tries_of first h + 1) (tries_of first h)) (uncounted first h (none_alarmed first h k.conducted one some)) in
     let t = k.tries one in
     omega (arith, e, t)
 

@@ -1,6 +1,6 @@
 -- What is next is done: what the rules ask of it, and how the turn ends by it.
-use Rattle.std.proofs.Common.{◌-◌, ◌≡◌, ℕ, ◌+◌, ◌≤◌, ◌<◌, inl, inr, Bool, true, false, ◌||◌, ◌⊎◌, List, [], ◌∷◌, ◌++◌, length, drop, nat_eq, sym, refl, ap, ◌∙◌, subst, arith, not}
-use Rattle.board_rules.specs.Within.{tries_ahead, ahead, work_ahead}
+use Rattle.std.proofs.Common.{◌-◌, ◌≡◌, ℕ, ◌+◌, ◌≤◌, ◌<◌, inl, inr, Bool, true, false, cond, nat_lt, ◌&&◌, ◌||◌, ◌⊎◌, List, [], ◌∷◌, ◌++◌, length, drop, nat_eq, sym, refl, ap, ◌∙◌, subst, arith, not}
+use Rattle.board_rules.specs.Within.{tells_none, last_three, tries_ahead, ahead, work_ahead}
 use Rattle.std.specs.List.{list_any}
 use Rattle.outside.specs.declared.On.TheVariants.{Byte, ReplyRoom}
 use Rattle.outside.specs.declared.Turn.TheVariants.{Did, Wait}
@@ -22,7 +22,7 @@ use Rattle.line_interpreter.specs.declared.tasks.Todo.TheVariants as todo
 use Rattle.board_rules.specs.Ports.PortStep.{took, found_empty, found_closed, no_reply_room, answered}
 use Rattle.board_rules.specs.Steps.{Journal, has_limited, left_of, plan_of, motion_of, whole_of, has_closed}
 use Rattle.board_rules.specs.Steps.Step.{at_port, did, made_end, closing}
-use Rattle.board_rules.specs.Turns.{this_turn, found_none, found_nothing, tells_next, awaits_motion, begins_in, halts_next, needs_motion, is_held_up, is_halting, is_limited, is_locked, stands_still, is_full, has_blocks, has_segment, has_jogged, is_due, tries_of, counts_tries, is_reply_back, is_counted}
+use Rattle.board_rules.specs.Turns.{this_turn, found_none, found_nothing, tells_next, awaits_motion, begins_in, halts_next, needs_motion, is_held_up, is_halting, is_limited, is_locked, stands_still, is_full, has_blocks, has_segment, has_jogged, is_due, tries_of, only_replies, counts_tries, are_many, is_reply_back}
 use Rattle.board_rules.specs.Conduct.{Conducted, IsLocked, AreWaiting, IsNextTask, MayPoll, MayStart, MayClose}
 use Rattle.board_rules.proofs.Tasks.{none_next, head_is}
 use Rattle.units.specs.Truths.{one_if}
@@ -35,9 +35,10 @@ use Rattle.board_rules.proofs.Alarms.{limited_alarmed}
 use Rattle.board_turns.proofs.Begins.{still_is}
 use Rattle.board_turns.proofs.Steps.{is_next, begins_by, calm_now, halts_by}
 use Rattle.board_turns.proofs.PortSteps.{not_told}
-use Rattle.board_rules.proofs.Facts.{not_whole, uncounted, unmissed, none_awaited, none_asked, none_by_bye}
+use Rattle.board_rules.proofs.Facts.{and_false, not_whole, uncounted, uncounted_behind, unmissed, none_awaited, none_asked, none_by_bye}
+use Rattle.board_rules.proofs.Marks.{none_behind_mark}
 use Rattle.board_rules.proofs.Polling.{none_polled, none_told}
-use Rattle.board_rules.proofs.Tries.{publishes_none, publishes_one, worked_behind, passes_did, passes_end, passes_motion, ahead_most, ahead_less, ahead_partial, ahead_counted, three_most}
+use Rattle.board_rules.proofs.Tries.{publishes_none, publishes_one, worked_behind, passes_did, passes_end, passes_motion, ahead_most, ahead_less, ahead_partial, replies_behind, takes_back, takes_one, three_at_most, none_spoken}
 use Rattle.board_turns.proofs.Standing.{full_is_queued, goes_or_stands}
 use Rattle.board_turns.proofs.Starting.{none_left_to_change, starts_off, full_is}
 use Rattle.board_rules.proofs.Lasts.{IsClosing}
@@ -65,19 +66,29 @@ some_next first h t next none = none_next (left_of first h) t none next
 -- ---- a reply that is next
 
 -- few tries stand behind the last poll where it was told, and where it was handed back
+few_of_replies : (r : Reply) (us : List Task) (back : Bool) (tries : ℕ) → tries + (last_three (tell r ∷ us) - one_if back) ≤ 5 → (back ≡ true → tries + (last_three (tell r ∷ us) - one_if back) ≤ 4)
+    → (cond (are_many (tell r ∷ us) && nat_lt 1 tries) (tries - 1) tries + (last_three us - 0) ≤ 4) × (tries + (last_three (tell r ∷ us) - 1) ≤ 4)
+few_of_replies r [] true tries most few = let less = few refl in (omega (arith, less), omega (arith, less))
+few_of_replies r [] false tries most few = (omega (arith, most), omega (arith, most))
+few_of_replies r (q ∷ []) true tries most few = let less = few refl in (omega (arith, less), omega (arith, less))
+few_of_replies r (q ∷ []) false tries most few = (omega (arith, most), omega (arith, most))
+few_of_replies r (q ∷ p ∷ []) true tries most few = let less = few refl in (omega (arith, less), omega (arith, less))
+few_of_replies r (q ∷ p ∷ []) false tries most few = (omega (arith, most), omega (arith, most))
+few_of_replies r (q ∷ p ∷ o ∷ us) true tries most few = let less = few refl in let one = takes_one tries (omega (arith, less)) in (omega (arith, one), omega (arith, less))
+few_of_replies r (q ∷ p ∷ o ∷ us) false tries most few = let one = takes_one tries (omega (arith, most)) in (omega (arith, one), omega (arith, most))
+
+few_by_rest : (r : Reply) (us : List Task) (only now back : Bool) (tries : ℕ) → (only ≡ true → now ≡ true) → tries + cond only (last_three (tell r ∷ us) - one_if back) 3 ≤ 5
+    → ((not back && only) ≡ false → tries + cond only (last_three (tell r ∷ us) - one_if back) 3 ≤ 4)
+    → (cond (are_many (tell r ∷ us) && nat_lt 1 tries) (tries - 1) tries + cond now (last_three us - 0) 3 ≤ 4) × (tries + cond only (last_three (tell r ∷ us) - 1) 3 ≤ 4)
+few_by_rest r us true true back tries then most few = few_of_replies r us back tries most (λ e. few (ap (λ b. not b && true) e))
+few_by_rest r us true false back tries then most few = absurd (let e = then refl in cc)
+few_by_rest r us false true back tries then most few = let less = few (and_false (not back) false refl) in let fewer = takes_back (are_many (tell r ∷ us) && nat_lt 1 tries) tries in let three = three_at_most us in (omega (arith, less, fewer, three), omega (arith, less))
+few_by_rest r us false false back tries then most few = let less = few (and_false (not back) false refl) in let fewer = takes_back (are_many (tell r ∷ us) && nat_lt 1 tries) tries in (omega (arith, less, fewer), omega (arith, less))
+
 few_by_reply : (ts : List Task) (back : Bool) (tries : ℕ) → tells_next ts ≡ true → tries + work_ahead ts back ≤ 5 → (counts_tries ts back ≡ false → tries + work_ahead ts back ≤ 4)
-    → (tries + work_ahead (drop 1 ts) false ≤ 4) × (tries + work_ahead ts true ≤ 4)
+    → (cond (are_many ts && nat_lt 1 tries) (tries - 1) tries + work_ahead (drop 1 ts) false ≤ 4) × (tries + work_ahead ts true ≤ 4)
 few_by_reply [] back tries tells most few = absurd cc
-few_by_reply (tell r ∷ []) true tries tells most few = let none = few refl in (omega (arith, none), omega (arith, none))
-few_by_reply (tell r ∷ []) false tries tells most few = (omega (arith, most), omega (arith, most))
-few_by_reply (tell r ∷ tell q ∷ []) true tries tells most few = let none = few refl in (omega (arith, none), omega (arith, none))
-few_by_reply (tell r ∷ tell q ∷ []) false tries tells most few = (omega (arith, most), omega (arith, most))
-few_by_reply (tell r ∷ tell q ∷ t ∷ ts) back tries tells most few = let none = few refl in let three = three_most (tell q ∷ t ∷ ts) false in (omega (arith, none, three), omega (arith, none))
-few_by_reply (tell r ∷ ask a ∷ ts) back tries tells most few = let none = few refl in let three = three_most (ask a ∷ ts) false in (omega (arith, none, three), omega (arith, none))
-few_by_reply (tell r ∷ pause ∷ ts) back tries tells most few = let none = few refl in let three = three_most (pause ∷ ts) false in (omega (arith, none, three), omega (arith, none))
-few_by_reply (tell r ∷ normal ∷ ts) back tries tells most few = let none = few refl in let three = three_most (normal ∷ ts) false in (omega (arith, none, three), omega (arith, none))
-few_by_reply (tell r ∷ finish ∷ ts) back tries tells most few = let none = few refl in let three = three_most (finish ∷ ts) false in (omega (arith, none, three), omega (arith, none))
-few_by_reply (tell r ∷ halt ∷ ts) back tries tells most few = let none = few refl in let three = three_most (halt ∷ ts) false in (omega (arith, none, three), omega (arith, none))
+few_by_reply (tell r ∷ ts) back tries tells most few = few_by_rest r ts (only_replies (tell r ∷ ts)) (only_replies ts) back tries (replies_behind (tell r ∷ ts)) most few
 few_by_reply (ask a ∷ ts) back tries tells most few = absurd cc
 few_by_reply (pause ∷ ts) back tries tells most few = absurd cc
 few_by_reply (normal ∷ ts) back tries tells most few = absurd cc
@@ -86,7 +97,7 @@ few_by_reply (halt ∷ ts) back tries tells most few = absurd cc
 
 record FewBehind (first : Opening) (h : Journal) : Type 0 where
   partial : whole_of h ≡ false
-  both : (tries_of first h + work_ahead (drop 1 (left_of first h)) false ≤ 4) × (tries_of first h + work_ahead (left_of first h) true ≤ 4)
+  both : (cond (are_many (left_of first h) && nat_lt 1 (tries_of first h)) (tries_of first h - 1) (tries_of first h) + work_ahead (drop 1 (left_of first h)) false ≤ 4) × (tries_of first h + work_ahead (left_of first h) true ≤ 4)
 
 few_behind : (first : Opening) (h : Journal) (r : Reply) → Conducted first h → IsReady first h → IsNextTask first (tell r) h → FewBehind first h
 few_behind first h r c ready next =
@@ -97,7 +108,7 @@ few_behind first h r c ready next =
       partial = partial;
       both =
           few_by_reply (left_of first h) (is_reply_back h) (tries_of first h) (ap tells_next next) (omega (arith, most, same))
-          (λ none. let few = ready.few (uncounted first h none) in omega (arith, few, same));
+          (λ none. let few = ready.few (uncounted_behind first h ready.quiet.unowed none) in omega (arith, few, same));
     }
 
 pub few_told : (first : Opening) (h : Journal) (r q : Reply) → Conducted first h → IsReady first h → IsNextTask first (tell r) h → tries_of first (at_port (answered q) ∷ h) + tries_ahead first (at_port (answered q) ∷ h) ≤ 4
@@ -262,41 +273,26 @@ quiet_on first h next quiet passes = record {
   untold = passes.replies ∙ quiet.untold;
 }
 
--- where the last replies come behind a mark, a try is counted, and less comes before the next poll
-once_marked : (first : Opening) (h : Journal) (m : AnyMark) (ps : List Piece) → Conducted first h → IsNextTask first (ask (a_mark m)) h → tries_of first h + tries_ahead first h ≤ 4
-    → is_counted first (did (Mark m) ps ∷ h) ≡ true → tries_of first (did (Mark m) ps ∷ h) + tries_ahead first (did (Mark m) ps ∷ h) ≤ 3
-once_marked first h m ps c next few counted = by_count (counts_tries (drop 1 (left_of first h)) (is_reply_back h)) refl
-  where
-    partial : whole_of h ≡ false
-    partial = not_whole first h c (some_next first h (ask (a_mark m)) next)
-
-    by_count : (b : Bool) → counts_tries (drop 1 (left_of first h)) (is_reply_back h) ≡ b → tries_of first (did (Mark m) ps ∷ h) + tries_ahead first (did (Mark m) ps ∷ h) ≤ 3
-    by_count false none = absurd (let e = sym counted ∙ uncounted first (did (Mark m) ps ∷ h) none in cc)
-    by_count true counts =
-        let least = ahead_counted (drop 1 (left_of first h)) (is_reply_back h) counts in
-        let was = ahead_partial (left_of first h) (whole_of h) (is_reply_back h) partial in
-        let is = ahead_partial (drop 1 (left_of first h)) (whole_of h) (is_reply_back h) partial in
-        let three = ap (λ (ts : List Task). work_ahead ts (is_reply_back h)) next in
-        omega (arith, few, least, was, is, three)
-
 pub may_run_marked : (first : Opening) (h : Journal) (m : AnyMark) (ps : List Piece) → Conducted first h → IsReady first h → IsNextTask first (ask (a_mark m)) h → MayRun first (did (Mark m) ps ∷ h)
 may_run_marked first h m ps c ready next =
     let passes = passes_did first (Mark m) ps h refl in
-    let few = ready.few (uncounted first h (none_asked (left_of first h) (a_mark m) (is_reply_back h) next)) in
+    let none = none_behind_mark first h m c next in
+    let few = ready.few (uncounted first h (none_asked (left_of first h) (a_mark m) next)) in
     let more = passes.ahead in
     let same = passes.tries in
     record {
       quiet = quiet_on first h (did (Mark m) ps ∷ h) ready.quiet passes;
       polled = λ e. absurd (let f = sym e ∙ passes.polled ∙ ready.unpolled in cc);
-      once = once_marked first h m ps c next few;
+      once = λ e. absurd (let f = sym e ∙ uncounted first (did (Mark m) ps ∷ h) none in cc);
       few = λ e. omega (arith, few, more, same);
+      unspoken = none_spoken (drop 1 (left_of first h)) none;
     }
 
 pub may_run_ended : (first : Opening) (h : Journal) → MayRun first h → MayFinish first h → IsNextTask first finish h → IsClosing first h → MayRun first (made_end ∷ h)
 may_run_ended first h may stopped next is =
     let passes = passes_end first h in
-    let bye = none_by_bye (drop 1 (left_of first h)) Bye (is_reply_back h) refl (is.later ∙ ap (λ (ts : List Task). tell Bye ∷ drop 1 ts) (sym is.later)) in
-    let few = may.few (uncounted first h (none_awaited (left_of first h) (is_reply_back h) (ap awaits_motion next))) in
+    let bye = none_by_bye (drop 1 (left_of first h)) Bye refl (is.later ∙ ap (λ (ts : List Task). tell Bye ∷ drop 1 ts) (sym is.later)) in
+    let few = may.few (uncounted first h (none_awaited (left_of first h) (ap awaits_motion next))) in
     let more = passes.ahead in
     let same = passes.tries in
     record {
@@ -307,6 +303,7 @@ may_run_ended first h may stopped next is =
       );
       once = λ e. absurd (let n = sym e ∙ uncounted first (made_end ∷ h) bye in cc);
       few = λ e. omega (arith, few, more, same);
+      unspoken = none_spoken (drop 1 (left_of first h)) bye;
     }
 
 -- ---- replies
@@ -480,6 +477,7 @@ may_run_started first jog h polled =
       polled = λ e. (λ waiting. starts_off jog waiting.stands, λ m. none_next (left_of first h) (ask (a_move m.0)) polled.free m.1);
       once = λ e. omega (arith, t, w);
       few = λ e. omega (arith, t, w);
+      unspoken = ap tells_none polled.free;
     }
 
 -- a segment is due behind a start

@@ -221,11 +221,40 @@ reports first Rest old new rest (Err e) c word buffer r h mid next t o a k told 
 
 -- ---- where there is no room for it
 
+-- It was not told in this turn for want of room, and is owed. What is owed stays so where a piece was tried to be published since.
+record IsOwed (first : Opening) (h : Journal) : Type 0 where
+  still : list_any passing (this_turn h) ≡ false
+  quiet : count_by publishing (this_turn h) ≡ 0
+  lacks : list_any lacks_reply_room (this_turn h) ≡ true
+  owed : owes_report h ≡ true
+  words : unobeyed_of h ≡ []
+  flags : flags_taken h ≡ true
+  changed : count_by replans (this_turn h) ≡ count_by takes_changes (this_turn h)
+  unpolled : list_any found_none (this_turn h) ≡ false
+  none_waits : NoneWaits first h
+  adds : NoneFits first h
+  tries : tries_of first h + tries_ahead first h ≤ 4
+
+owed_where : (first : Opening) (h : Journal) → LacksRoom first h → IsOwed first h
+owed_where first h l = record {
+  still = l.still;
+  quiet = l.quiet;
+  lacks = l.lacks;
+  owed = l.owed;
+  words = l.words;
+  flags = l.flags;
+  changed = l.changed;
+  unpolled = l.unpolled;
+  none_waits = l.none_waits;
+  adds = l.adds;
+  tries = l.tries;
+}
+
 none_published : {N : ℕ} (board : Board N) → board.published ≡ false → board.published ≡ true → ⊥
 none_published board unpublished e = absurd (let s = sym unpublished ∙ e in cc)
 
 -- the room is waited for
-waits_for_room : {N : ℕ} (first : Opening) (board : Board N) (was : Flags) (h next : Journal) (steps : List Step) → next ≡ steps ++ h → list_any ends_turn steps ≡ false → Keeps first board next → LacksRoom first next → (is_due first next ≡ true → waits_of next ≡ []) → board.published ≡ false
+waits_for_room : {N : ℕ} (first : Opening) (board : Board N) (was : Flags) (h next : Journal) (steps : List Step) → next ≡ steps ++ h → list_any ends_turn steps ≡ false → Keeps first board next → IsOwed first next → (is_due first next ≡ true → waits_of next ≡ []) → board.published ≡ false
     → board.flags ≡ words.Both → BoardWorked first (Wait ReplyRoom) was board h next
 waits_for_room first board was h next steps are inner keeps l tried unpublished both = record {
   keeps = keeps;
@@ -259,7 +288,7 @@ waits_for_room first board was h next steps are inner keeps l tried unpublished 
 -- nothing is in hand, nor due
 pub waits_idle : {N : ℕ} (first : Opening) (board : Board N) (was : Flags) (h : Journal) → Keeps first board h → LacksRoom first h → (HasPiece first h → ⊥) → board.published ≡ false → BoardWorked first (Wait ReplyRoom) was (record board { flags = words.Both }) h h
 waits_idle first board was h k l none unpublished =
-    waits_for_room first (record board { flags = words.Both }) was h h [] refl refl (other_flags first board words.Both h k) l (λ due. absurd (none (inr due))) unpublished refl
+    waits_for_room first (record board { flags = words.Both }) was h h [] refl refl (other_flags first board words.Both h k) (owed_where first h l) (λ due. absurd (none (inr due))) unpublished refl
 
 -- a piece was handed back
 pub waits_handed : {N : ℕ} (first : Opening) (board : Board N) (was : Flags) (h mid next : Journal) → Keeps first board next → LacksRoom first h → HasTried first false h mid → HasFilled first mid next → board.published ≡ false → board.flags ≡ words.Both
@@ -272,14 +301,13 @@ waits_handed first board was h mid next k l tried filled unpublished both =
       quiet = (let q = tried.quiet in let r = a.quiet in let s = l.quiet in omega arith);
       lacks = a.replies ∙ tried.replies ∙ l.lacks;
       owed = a.owed ∙ tried.owed ∙ l.owed;
-      back = a.backs ∙ tried.backs ∙ l.back;
       words = a.words ∙ tried.words ∙ l.words;
       flags = a.flags ∙ tried.flags ∙ l.flags;
       changed = (a.worked (tried.worked (record { obeyed = λ e. l.words; changed = l.changed }))).changed;
       unpolled = a.polled ∙ tried.polled ∙ l.unpolled;
       none_waits = filled.none_waits;
       adds = filled.adds;
-      tries = (let f = tried.later (uncounted_owing first h l.owed l.back) in let t = a.tries in let w = a.ahead in let v = tried.ahead in let m = l.tries in omega (arith, f, t, w, v, m));
+      tries = (let f = tried.later (uncounted_owing first h l.owed l.back) in let t = a.tries in let w = a.ahead in let v = tried.owing l.owed in let m = l.tries in omega (arith, f, t, w, v, m));
     }) (λ due. a.waits ∙ tried.waits) unpublished both
 
 -- a piece was published, and the report is still told next

@@ -33,7 +33,7 @@ pub paused_filled : {N : ℕ} (first : Opening) (board was : Board N) (h next : 
     → BoardWorked first Did flags.None board h next
 paused_filled first board was h next k ready task filled keeps unpublished no_word =
     let a = filled.alone.passes in
-    let few = ready.few (uncounted first h (none_awaited (left_of first h) (is_reply_back h) (ap awaits_motion task))) in
+    let few = ready.few (uncounted first h (none_awaited (left_of first h) (ap awaits_motion task))) in
     let behind = ahead_behind (left_of first h) (whole_of h) (is_reply_back h) in
     let free = free_of h ready.quiet in
     let t = a.tries in

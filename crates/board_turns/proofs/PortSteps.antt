@@ -1,5 +1,5 @@
 -- One lemma a step at the port: a board keeps on what its fields say of what it has done.
-use Rattle.std.proofs.Common.{◌≡◌, ℕ, List, [], ◌∷◌, ◌++◌, drop, Bool, true, false, cond, ◌||◌, sym, refl, ap, ◌∙◌, subst, arith}
+use Rattle.std.proofs.Common.{◌≡◌, ℕ, inl, inr, List, [], ◌∷◌, ◌++◌, drop, Bool, true, false, cond, nat_lt, ◌&&◌, ◌||◌, sym, refl, ap, ◌∙◌, subst, arith}
 use Rattle.board_rules.specs.Openings.{Opening}
 use Rattle.run_rules.specs.declared.State.{State}
 use Rattle.run_rules.specs.Work.{Task}
@@ -15,23 +15,34 @@ use Rattle.board_rules.specs.Ports.{MayBeDone, LacksPieceRoom}
 use Rattle.board_rules.specs.Ports.PortStep.{found_empty, found_closed, answered, reported, no_reply_room, published, no_piece_room, loaded}
 use Rattle.board_rules.specs.Steps.{Journal, port_log, published_of, before_of, left_of, given_of, hand_of, plan_of, motion_of}
 use Rattle.board_rules.specs.Steps.Step.{at_port}
-use Rattle.board_rules.specs.Turns.{owes_report, tells_next}
-use Rattle.board_rules.specs.Conduct.{IsNextTask, AsksForRoom, IsTimely, MayPoll, IsReportAt}
+use Rattle.board_rules.specs.Turns.{owes_report, tells_next, are_many, tries_of}
+use Rattle.board_rules.specs.Conduct.{IsNextTask, AsksForRoom, IsTimely, ReportsFirst, MayPoll, IsReportAt}
+use Rattle.board_rules.specs.Within.{MayHaveLooked}
 use Rattle.board_turns.specs.declared.board.Board.{Board}
 use Rattle.board_machine.specs.declared.machine.Machine.{Machine}
 use Rattle.board_machine.specs.Machines.{Runs}
 use Rattle.board_turns.specs.Boards.{Keeps, Works}
+use Rattle.board_rules.proofs.Tries.{takes_back}
 use Rattle.board_turns.proofs.Known.{few_tried}
 
+-- no report is owed, so none comes before a piece
+pub reports_none : (h : Journal) → owes_report h ≡ false → ReportsFirst h
+reports_none h unowed owed = absurd (let e = sym owed ∙ unowed in cc)
+
+-- nor does a look change what comes before it
+pub reports_looked : (h next : Journal) → MayHaveLooked h next → ReportsFirst h → ReportsFirst next
+reports_looked h next (inl same) first = subst ReportsFirst (sym same) first
+reports_looked h next (inr looked) first = subst ReportsFirst (sym looked.1) first
+
 -- a piece is published
-pub sent : {N : ℕ} (first : Opening) (c : Board N) (m : Machine N) (f : Flying) (p : Piece) (h : Journal) → Keeps first c h → hand_of h ≡ p ∷ [] → IsTimely p h → Runs m (plan_of h) (motion_of first h) [] (given_of h)
+pub sent : {N : ℕ} (first : Opening) (c : Board N) (m : Machine N) (f : Flying) (p : Piece) (h : Journal) → Keeps first c h → hand_of h ≡ p ∷ [] → IsTimely p h → ReportsFirst h → Runs m (plan_of h) (motion_of first h) [] (given_of h)
     → ((known : ℕ) → Flies first.place c.flight (published_of h) known → Flies first.place f (published_of h ++ p ∷ []) known)
     → Keeps first (record c { machine = m; flight = f }) (at_port (published p) ∷ h)
-sent first c m f p h k is timely runs flies = record {
+sent first c m f p h k is timely owing runs flies = record {
   placed = k.placed;
   sized = k.sized;
   short = k.short;
-  conducted = ((is ∙ ap (λ (ps : List Piece). p ∷ drop 1 ps) (sym is), timely), k.conducted);
+  conducted = ((is ∙ ap (λ (ps : List Piece). p ∷ drop 1 ps) (sym is), timely, owing), k.conducted);
   machine = subst (λ (ps : List Piece). Runs m (plan_of h) (motion_of first h) (drop 1 ps) (given_of h)) (sym is) runs;
   lines = k.lines;
   input = k.input;
@@ -54,12 +65,12 @@ sent first c m f p h k is timely runs flies = record {
 }
 
 -- it is handed back
-pub not_sent : {N : ℕ} (first : Opening) (c : Board N) (done : ℕ) (h : Journal) → Keeps first c h → (hand_of h ≡ [] → ⊥) → LacksPieceRoom done (port_log h) → Keeps first c (at_port (no_piece_room done) ∷ h)
-not_sent first c done h k some full = record {
+pub not_sent : {N : ℕ} (first : Opening) (c : Board N) (done : ℕ) (h : Journal) → Keeps first c h → (hand_of h ≡ [] → ⊥) → ReportsFirst h → LacksPieceRoom done (port_log h) → Keeps first c (at_port (no_piece_room done) ∷ h)
+not_sent first c done h k some owing full = record {
   placed = k.placed;
   sized = k.sized;
   short = k.short;
-  conducted = (record { some = some; full = full }, k.conducted);
+  conducted = (record { some = some; reported = owing; full = full }, k.conducted);
   machine = k.machine;
   lines = k.lines;
   input = k.input;
@@ -144,7 +155,7 @@ told first c i s greeted r h k next once plain unowed empty is state greets = re
   limited = k.limited;
   alarmed_is = k.alarmed_is;
   unlocked = k.unlocked;
-  tries = k.tries;
+  tries = λ one. (let few = k.tries one in let fewer = takes_back (are_many (left_of first h) && nat_lt 1 (tries_of first h)) (tries_of first h) in omega (arith, few, fewer));
 }
 
 -- it is handed back

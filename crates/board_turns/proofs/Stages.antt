@@ -565,18 +565,18 @@ pub limited_finish : (first : Opening) (h : Journal) → Conducted first h → i
 limited_finish first h c is next = finish_at first h (halting_is first h c) is next
 
 -- no try to publish is counted where a piece is in hand
-none_at : (first : Opening) (h : Journal) (back : Bool) → Halting first h → has_limited h ≡ true → (hand_of h ≡ [] → ⊥) → counts_tries (left_of first h) back ≡ false
-none_at first h back (calm a m l p) one some = opposite (has_limited h) one a
-none_at first h back (pending a p l w m) one some = ap (λ (ts : List Task). counts_tries ts back) l
-none_at first h back (to_halt a p l w m) one some = ap (λ (ts : List Task). counts_tries ts back) l
-none_at first h back (to_tell a p l w m d) one some = absurd (some d.hand)
-none_at first h back (ended a p (inl l) w m e) one some = none_by_bye (left_of first h) Bye back refl (l ∙ ap (λ (ts : List Task). tell Bye ∷ drop 1 ts) (sym l))
-none_at first h back (ended a p (inr (l, d)) w m e) one some = absurd (some d)
-none_at first h back (locked a p l m d) one some = opposite (has_limited h) one a
-none_at first h back (locked_end a p l m e) one some = opposite (has_limited h) one a
+none_at : (first : Opening) (h : Journal) → Halting first h → has_limited h ≡ true → (hand_of h ≡ [] → ⊥) → counts_tries (left_of first h) false ≡ false
+none_at first h (calm a m l p) one some = opposite (has_limited h) one a
+none_at first h (pending a p l w m) one some = ap (λ (ts : List Task). counts_tries ts false) l
+none_at first h (to_halt a p l w m) one some = ap (λ (ts : List Task). counts_tries ts false) l
+none_at first h (to_tell a p l w m d) one some = absurd (some d.hand)
+none_at first h (ended a p (inl l) w m e) one some = none_by_bye (left_of first h) Bye refl (l ∙ ap (λ (ts : List Task). tell Bye ∷ drop 1 ts) (sym l))
+none_at first h (ended a p (inr (l, d)) w m e) one some = absurd (some d)
+none_at first h (locked a p l m d) one some = opposite (has_limited h) one a
+none_at first h (locked_end a p l m e) one some = opposite (has_limited h) one a
 
-pub none_alarmed : (first : Opening) (h : Journal) (back : Bool) → Conducted first h → has_limited h ≡ true → (hand_of h ≡ [] → ⊥) → counts_tries (left_of first h) back ≡ false
-none_alarmed first h back c one some = none_at first h back (halting_is first h c) one some
+pub none_alarmed : (first : Opening) (h : Journal) → Conducted first h → has_limited h ≡ true → (hand_of h ≡ [] → ⊥) → counts_tries (left_of first h) false ≡ false
+none_alarmed first h c one some = none_at first h (halting_is first h c) one some
 
 -- ---- what is left where the machine is to be halted
 

@@ -20,7 +20,7 @@ use Rattle.board_rules.specs.Ports.{MayBeDone}
 use Rattle.board_rules.specs.Ports.PortStep.{loaded}
 use Rattle.board_rules.specs.Steps.{Journal, port_log, left_of, given_of, published_of, hand_of, plan_of, motion_of}
 use Rattle.board_rules.specs.Steps.Step.{at_port, became}
-use Rattle.board_rules.specs.Turns.{has_blocks, has_segment, is_full, is_due, is_going, is_slowing, is_held_up, begins_in, is_locked, has_jogged, awaits_motion, is_reply_back}
+use Rattle.board_rules.specs.Turns.{has_blocks, has_segment, is_full, is_due, is_going, is_slowing, is_held_up, begins_in, is_locked, has_jogged, awaits_motion}
 use Rattle.board_rules.specs.Conduct.{IsDrained, AreWaiting, ticks_given, ticks_published}
 use Rattle.board_rules.proofs.Given.{published_within}
 use Rattle.board_rules.proofs.Keeping.{hand_is}
@@ -179,7 +179,7 @@ all_published first b h k none =
 pub waits_for_motion : {N : ℕ} (first : Opening) (b : Board N) (h : Journal) (done : ℕ) → Keeps first b h → MayAwait first h → b.published ≡ false → b.flags ≡ flags.None → MayBeDone done (port_log h) → hand_of h ≡ []
     → has_blocks (plan_of h).blocks ≡ false → done < b.machine.given → BoardWorked first (Wait on.Motion) b.flags b h (at_port (loaded done) ∷ h)
 waits_for_motion first b h done k may unpublished no_word found hand none fewer =
-    let few = may.run.few (uncounted first h (none_awaited (left_of first h) (is_reply_back h) may.awaits)) in
+    let few = may.run.few (uncounted first h (none_awaited (left_of first h) may.awaits)) in
     let next : Journal = at_port (loaded done) ∷ h in
     let waits_none : AreWaiting first next → ⊥ = λ a. (none_waits first) h may (record { stands = a.stands; blocks = a.blocks }) in
     let quiet = may.run.quiet in

@@ -30,7 +30,7 @@ use Rattle.run_rules.specs.Outcomes.{jogged_behind, begins_with_dollar}
 use Rattle.run_rules.specs.Finding.{Found}
 use Rattle.board_rules.specs.Turns.{this_turn, publishing, passing, moving, ends_turn, found_none, lacks_reply_room, loads, has_blocks, awaits_motion, has_jog_to_start, is_full, is_going, begins_in, is_due, is_held_up, is_halting, machine_in, is_limited, is_locked as locked_still, is_counted, changes_taken, flags_taken, owes_report, tries_of, missed_of, waits_of}
 use Rattle.board_rules.specs.Conduct.{MayTurn, AsksForRoom, IsNextTask, IsDrained, HasSlowedDown, IsStopped, AreWaiting, ticks_given}
-pub use Rattle.board_rules.specs.Within.{AreWorked, MayFinish, PassesNothing, DidAlone, MayHaveLooked, Tried, HasTried}
+pub use Rattle.board_rules.specs.Within.{tells_none, AreWorked, MayFinish, PassesNothing, DidAlone, MayHaveLooked, Tried, HasTried}
 use Rattle.board_turns.specs.declared.board.Board.{Board}
 use Rattle.board_machine.specs.Machines.{start_motion, limit_motion}
 use Rattle.board_lines.specs.Inputs.{Reads}
@@ -69,13 +69,14 @@ pub record IsReady (first : Opening) (h : Journal) : Type 0 where
   pub tries : tries_of first h + tries_ahead first h ≤ 5
   pub few : is_counted first h ≡ false → tries_of first h + tries_ahead first h ≤ 4
 
--- What is in hand or due may be tried to be published, and the turn answered by that: nothing has passed, and few tries stand
--- behind the last poll. Where a poll found no byte, no queued block waits, and no move is next.
+-- What is in hand or due may be tried to be published, and the turn answered by that: nothing has passed, few tries stand behind the last
+-- poll, and no reply of a line is next. Where a poll found no byte, no queued block waits, and no move is next.
 pub record MayRun (first : Opening) (h : Journal) : Type 0 where
   pub quiet : IsQuiet h
   pub polled : list_any found_none (this_turn h) ≡ true → (AreWaiting first h → ⊥) × (IsNextMove first h → ⊥)
   pub once : is_counted first h ≡ true → tries_of first h + tries_ahead first h ≤ 3
   pub few : is_counted first h ≡ false → tries_of first h + tries_ahead first h ≤ 4
+  pub unspoken : tells_none (left_of first h) ≡ true
 
 -- The motion may be waited for: what is next waits for it, no queued block waits, and the machine stands, runs or jogs.
 pub record MayAwait (first : Opening) (h : Journal) : Type 0 where

@@ -14,7 +14,7 @@ ghost use Rattle.board_rules.specs.Steps.{Journal, port_log, hand_of};
 ghost use Rattle.board_rules.specs.Steps.Step.{at_port};
 ghost use Rattle.board_rules.specs.Openings.{Opening};
 ghost use Rattle.board_rules.specs.Turns.{awaits_motion, has_blocks, is_full, owes_report, unobeyed_of};
-ghost use Rattle.board_rules.specs.Conduct.{IsNextTask, AsksForRoom, IsTimely};
+ghost use Rattle.board_rules.specs.Conduct.{IsNextTask, AsksForRoom, IsTimely, ReportsFirst};
 ghost use Rattle.board_turns.specs.Boards.{Keeps};
 ghost use Rattle.board_machine.specs.Machines.{marks_cut};
 ghost use Rattle.flight.specs.Flights.{flight_room};
@@ -120,11 +120,11 @@ impl<const N: usize> Board<N> {
         }
     }
 
-    /// Tries to publish the piece in hand, while no word of requests waits to be obeyed. Answers whether it is published.
+    /// Tries to publish the piece in hand, while no word of requests waits to be obeyed, and behind a report that is owed. Answers whether it is published.
     pub(crate) fn publish<P: EpochPort>(&mut self, port: &mut P) -> bool
-        requires stands { (rest : P.Rest) × (first : Opening) × (h : Journal) × P.stands port.old rest first (port_log h) × Keeps first self.old h × (unobeyed_of h ≡ []) }
+        requires stands { (rest : P.Rest) × (first : Opening) × (h : Journal) × P.stands port.old rest first (port_log h) × Keeps first self.old h × (unobeyed_of h ≡ []) × ReportsFirst h }
         requires some { self.old.machine.hand ≢ None }
-        ensures goes_on { (rest : P.Rest) (first : Opening) (h : Journal) → P.stands port.old rest first (port_log h) → Keeps first self.old h → unobeyed_of h ≡ []
+        ensures goes_on { (rest : P.Rest) (first : Opening) (h : Journal) → P.stands port.old rest first (port_log h) → Keeps first self.old h → unobeyed_of h ≡ [] → ReportsFirst h
             → (next : Journal) × P.stands port.new rest first (port_log next) × Keeps first self.new next × Tried result h next }
         ensures same { self.new ≡ record self.old { machine = self.new.machine; flight = self.new.flight } }
     {
@@ -142,8 +142,8 @@ impl<const N: usize> Board<N> {
 
     /// Tries to publish the piece in hand, or else the segment that is due, likewise.
     pub(crate) fn publish_next<P: EpochPort>(&mut self, port: &mut P) -> bool
-        requires stands { (rest : P.Rest) × (first : Opening) × (h : Journal) × P.stands port.old rest first (port_log h) × Keeps first self.old h × HasPiece first h × (unobeyed_of h ≡ []) }
-        ensures goes_on { (rest : P.Rest) (first : Opening) (h : Journal) → P.stands port.old rest first (port_log h) → Keeps first self.old h → HasPiece first h → unobeyed_of h ≡ []
+        requires stands { (rest : P.Rest) × (first : Opening) × (h : Journal) × P.stands port.old rest first (port_log h) × Keeps first self.old h × HasPiece first h × (unobeyed_of h ≡ []) × ReportsFirst h }
+        ensures goes_on { (rest : P.Rest) (first : Opening) (h : Journal) → P.stands port.old rest first (port_log h) → Keeps first self.old h → HasPiece first h → unobeyed_of h ≡ [] → ReportsFirst h
             → (next : Journal) × P.stands port.new rest first (port_log next) × Keeps first self.new next × HasTried first result h next }
         ensures same { self.new ≡ record self.old { machine = self.new.machine; flight = self.new.flight } }
     {

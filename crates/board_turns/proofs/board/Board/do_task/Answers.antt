@@ -3,7 +3,7 @@ use Rattle.board_turns.proofs.Nexts.{finish_next, lets_lines}
 use Rattle.run_rules.specs.Work.Task.{ask, pause}
 use Rattle.step_line.specs.Asking.Asked.{a_move}
 use Rattle.board_rules.specs.Steps.{left_of}
-use Rattle.board_rules.specs.Turns.{awaits_motion, is_reply_back}
+use Rattle.board_rules.specs.Turns.{awaits_motion}
 use Rattle.board_rules.proofs.Facts.{none_awaited}
 use Rattle.std.proofs.Common.{arith, rules, ap, sym, subst}
 use Rattle.board_turns.specs.declared.board.Flags.{Flags}
@@ -17,7 +17,7 @@ finish-requires g c = (
   (
     let r = c.requires.stands in let first = r.1 in
         let next = finish_next first c.args.self.now r.2 r.4 r.7 c.in-Finish.ensures in
-        (r.0, first, r.2, r.3, r.4, may_run first r.2 r.5 (none_awaited (left_of first r.2) (is_reply_back r.2) (ap awaits_motion next.1)), next.0, next.1),
+        (r.0, first, r.2, r.3, r.4, may_run first r.2 r.5 (none_awaited (left_of first r.2) (ap awaits_motion next.1)), next.0, next.1),
     (
       search rules,
       search rules,
@@ -28,7 +28,7 @@ finish-requires g c = (
 pub returns-in-Finish-clause-goes_on : goal.returns-in-Finish-clause-goes_on
 returns-in-Finish-clause-goes_on g c = λ rest first h stands keeps ready goes needs.
     let next = finish_next first c.args.self.now h keeps needs c.in-Finish.ensures in
-    c.finish.ensures.goes_on rest first h stands keeps (may_run first h ready (none_awaited (left_of first h) (is_reply_back h) (ap awaits_motion next.1))) next.0 next.1
+    c.finish.ensures.goes_on rest first h stands keeps (may_run first h ready (none_awaited (left_of first h) (ap awaits_motion next.1))) next.0 next.1
 
 pub next_line-requires : goal.next_line-requires
 next_line-requires g c = (

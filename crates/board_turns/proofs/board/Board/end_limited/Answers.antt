@@ -2,7 +2,7 @@ use Rattle.std.proofs.Common.{arith, rules, ◌≡◌, false, sym, ap, ◌∙◌
 use Rattle.run_rules.specs.Work.Task.{finish, halt}
 use Rattle.board_turns.proofs.Stages.{limited_finish}
 use Rattle.board_rules.specs.Steps.{left_of}
-use Rattle.board_rules.specs.Turns.{awaits_motion, is_reply_back}
+use Rattle.board_rules.specs.Turns.{awaits_motion}
 use Rattle.board_rules.proofs.Facts.{none_awaited}
 use Rattle.board_turns.proofs.Ends.{may_run}
 use Rattle.board_turns.proofs.Limiting.{nothing_else}
@@ -17,7 +17,7 @@ finish-requires g c = (
   (
     let r = c.requires.stands in let first = r.1 in
         let next = is_next first c.args.self.now r.2 finish r.4 c.in-Finish.ensures in
-        (r.0, first, r.2, r.3, r.4, may_run first r.2 r.5 (none_awaited (left_of first r.2) (is_reply_back r.2) (ap awaits_motion next)), limited_finish first r.2 r.4.conducted r.6 next, next),
+        (r.0, first, r.2, r.3, r.4, may_run first r.2 r.5 (none_awaited (left_of first r.2) (ap awaits_motion next)), limited_finish first r.2 r.4.conducted r.6 next, next),
     (
       search rules,
       search rules,
@@ -34,7 +34,7 @@ unreachable-requires g c =
 pub returns-in-Finish-clause-goes_on : goal.returns-in-Finish-clause-goes_on
 returns-in-Finish-clause-goes_on g c = λ rest first h stands k ready is.
     let next = is_next first c.args.self.now h finish k c.in-Finish.ensures in
-    c.finish.ensures.goes_on rest first h stands k (may_run first h ready (none_awaited (left_of first h) (is_reply_back h) (ap awaits_motion next))) (limited_finish first h k.conducted is next) next
+    c.finish.ensures.goes_on rest first h stands k (may_run first h ready (none_awaited (left_of first h) (ap awaits_motion next))) (limited_finish first h k.conducted is next) next
 
 pub returns-then-is_done-clause-goes_on : goal.returns-then-is_done-clause-goes_on
 returns-then-is_done-clause-goes_on g c = λ rest first h stands k ready is.

@@ -1,6 +1,5 @@
 use Rattle.std.proofs.Common.{rules, [], inl, refl, sym, ap, ◌∙◌, arith}
 use Rattle.board_rules.specs.Steps.{left_of}
-use Rattle.board_rules.specs.Turns.{is_reply_back}
 use Rattle.board_rules.proofs.Facts.{none_asked, uncounted}
 use Rattle.step_line.specs.Asking.Asked.{a_move}
 use Rattle.board_turns.specs.declared.board.Board.{Board}
@@ -20,7 +19,7 @@ run-requires g c = (
           r.2,
           r.3,
           r.4,
-          may_run first r.2 r.5 (none_asked (left_of first r.2) (a_move r.7.0) (is_reply_back r.2) r.7.1),
+          may_run first r.2 r.5 (none_asked (left_of first r.2) (a_move r.7.0) r.7.1),
           full_piece first r.2 r.4.conducted r.5.none_waits r.6 r.7 full,
         ),
     (
@@ -33,13 +32,13 @@ run-requires g c = (
 pub returns-then-is_full-clause-goes_on : goal.returns-then-is_full-clause-goes_on
 returns-then-is_full-clause-goes_on g c = λ rest first h stands keeps ready goes move.
     let full = sym (c.if-is_full.ensures ∙ full_is first c.args.self.now h keeps) in
-    c.run.ensures.goes_on rest first h stands keeps (may_run first h ready (none_asked (left_of first h) (a_move move.0) (is_reply_back h) move.1))
+    c.run.ensures.goes_on rest first h stands keeps (may_run first h ready (none_asked (left_of first h) (a_move move.0) move.1))
     (full_piece first h keeps.conducted ready.none_waits goes move full)
 
 pub returns-clause-goes_on : goal.returns-clause-goes_on
 returns-clause-goes_on g c = λ rest first h stands keeps ready goes move.
     let n = c.fill.ensures.filled first h keeps in
-    let few = ready.few (uncounted first h (none_asked (left_of first h) (a_move move.0) (is_reply_back h) move.1)) in
+    let few = ready.few (uncounted first h (none_asked (left_of first h) (a_move move.0) move.1)) in
     let quiet = ready.quiet.quiet in
     let room = sym (c.if-is_full.ensures ∙ full_is first c.args.self.now h keeps) in
     let unpublished = ap (λ (b : Board _). b.published) c.fill.ensures.same ∙ c.requires.unpublished in

@@ -21,7 +21,7 @@ publish_next-published-requires g c =
     let r = c.requires.stands in let first = r.1 in
     let k = other_flags first c.args.self.now Both r.2 r.4 in (
       omega arith,
-      (r.0, first, r.2, r.3, k, (c.has_piece.ensures first r.2 k).0 c.if-not-has_piece.false, r.5.words),
+      (r.0, first, r.2, r.3, k, (c.has_piece.ensures first r.2 k).0 c.if-not-has_piece.false, r.5.words, λ owed. r.5.back),
     )
 
 -- src/reports.rt:111:9
@@ -30,7 +30,7 @@ fill-requires g c = (
   omega arith,
   let r = c.requires.stands in let first = r.1 in
       let k = other_flags first c.args.self.now Both r.2 r.4 in
-      let n = c.publish_next-published.ensures.goes_on r.0 first r.2 r.3 k ((c.has_piece.ensures first r.2 k).0 c.if-not-has_piece.false) r.5.words in
+      let n = c.publish_next-published.ensures.goes_on r.0 first r.2 r.3 k ((c.has_piece.ensures first r.2 k).0 c.if-not-has_piece.false) r.5.words (λ owed. r.5.back) in
       (first, n.0, n.2),
 )
 
@@ -38,7 +38,7 @@ fill-requires g c = (
 pub returns-then-not-published-clause-goes_on : goal.returns-then-not-published-clause-goes_on
 returns-then-not-published-clause-goes_on g c rest first h was stands k l =
     let both = other_flags first c.args.self.now Both h k in
-    let n = c.publish_next-published.ensures.goes_on rest first h stands both ((c.has_piece.ensures first h both).0 c.if-not-has_piece.false) l.words in
+    let n = c.publish_next-published.ensures.goes_on rest first h stands both ((c.has_piece.ensures first h both).0 c.if-not-has_piece.false) l.words (λ owed. l.back) in
     let f = c.fill.ensures.filled first n.0 n.2 in
     let unpublished = ap (λ (b : Board _). b.published) c.fill.ensures.same ∙ (ap (λ (b : Board _). b.published) c.publish_next-published.ensures.same ∙ c.requires.unpublished) in
     let flags = ap (λ (b : Board _). b.flags) c.fill.ensures.same ∙ ap (λ (b : Board _). b.flags) c.publish_next-published.ensures.same in
@@ -49,7 +49,7 @@ returns-then-not-published-clause-goes_on g c rest first h was stands k l =
 pub returns-clause-goes_on : goal.returns-clause-goes_on
 returns-clause-goes_on g c rest first h was stands k l =
     let both = other_flags first c.args.self.now Both h k in
-    let n = c.publish_next-published.ensures.goes_on rest first h stands both ((c.has_piece.ensures first h both).0 c.if-not-has_piece.false) l.words in
+    let n = c.publish_next-published.ensures.goes_on rest first h stands both ((c.has_piece.ensures first h both).0 c.if-not-has_piece.false) l.words (λ owed. l.back) in
     let f = c.fill.ensures.filled first n.0 n.2 in
     let tried = subst (λ b. (HasTried first) b h n.0) c.if-not-published.false n.3 in
     let w = sent_owing first c.fill.new.self was h n.0 f.0 f.1 l tried f.2 in

@@ -6,7 +6,7 @@ use Rattle.board_turns.specs.declared.board.Flags.{Flags}
 use Rattle.board_turns.specs.Turning.{HasPiece, WorksOn}
 use Rattle.board_turns.proofs.Stages.{halting_left}
 use Rattle.board_rules.specs.Steps.{left_of}
-use Rattle.board_rules.specs.Turns.{awaits_motion, is_reply_back}
+use Rattle.board_rules.specs.Turns.{awaits_motion}
 use Rattle.board_rules.proofs.Facts.{none_awaited}
 use Rattle.board_turns.proofs.Ends.{may_run, works_passed}
 use Rattle.board_turns.proofs.Limiting.{alarm_next, at_limit, waits_at_limit, ready_halted}
@@ -20,7 +20,7 @@ run-requires g c = (
   omega arith,
   (
     let r = c.requires.stands in let first = r.1 in
-        (r.0, first, r.2, r.3, r.4, may_run first r.2 r.5 (none_awaited (left_of first r.2) (is_reply_back r.2) (ap awaits_motion r.7)), (c.has_piece.ensures first r.2 r.4).0 c.if-has_piece.true),
+        (r.0, first, r.2, r.3, r.4, may_run first r.2 r.5 (none_awaited (left_of first r.2) (ap awaits_motion r.7)), (c.has_piece.ensures first r.2 r.4).0 c.if-has_piece.true),
     (
       search rules,
       search rules,
@@ -30,7 +30,7 @@ run-requires g c = (
 
 pub returns-then-has_piece-clause-goes_on : goal.returns-then-has_piece-clause-goes_on
 returns-then-has_piece-clause-goes_on g c rest first h stands k ready is next =
-    c.run.ensures.goes_on rest first h stands k (may_run first h ready (none_awaited (left_of first h) (is_reply_back h) (ap awaits_motion next))) ((c.has_piece.ensures first h k).0 c.if-has_piece.true)
+    c.run.ensures.goes_on rest first h stands k (may_run first h ready (none_awaited (left_of first h) (ap awaits_motion next))) ((c.has_piece.ensures first h k).0 c.if-has_piece.true)
 
 pub returns-then-done-self-clause-goes_on : goal.returns-then-done-self-clause-goes_on
 returns-then-done-self-clause-goes_on g c rest first h stands k ready is next =

@@ -4,7 +4,6 @@ use Rattle.step_line.specs.Asking.Asked.{a_mark}
 use Rattle.step_line.specs.declared.Piece.TheVariants as pieces
 use Rattle.planner_runs.specs.declared.Action.TheVariants.{Mark}
 use Rattle.board_rules.specs.Steps.{left_of, hand_of, plan_of, motion_of, given_of}
-use Rattle.board_rules.specs.Turns.{is_reply_back}
 use Rattle.board_rules.proofs.Facts.{none_asked}
 use Rattle.board_rules.specs.Steps.Step.{did}
 use Rattle.board_machine.specs.Machines.{Runs}
@@ -23,7 +22,7 @@ run-requires g c = (
     let r = c.requires.stands in let first = r.1 in
         let s = c.args.self.now in
         let next = is_next first s r.2 (ask (a_mark c.args.mark)) r.4 c.requires.next in
-        (r.0, first, r.2, r.3, r.4, may_run first r.2 r.5 (none_asked (left_of first r.2) (a_mark c.args.mark) (is_reply_back r.2) next), inl (hand_some first s r.2 r.4 (sym c.if-is_some.ensures))),
+        (r.0, first, r.2, r.3, r.4, may_run first r.2 r.5 (none_asked (left_of first r.2) (a_mark c.args.mark) next), inl (hand_some first s r.2 r.4 (sym c.if-is_some.ensures))),
     (
       search rules,
       search rules,
@@ -35,7 +34,7 @@ pub returns-then-is_some-clause-goes_on : goal.returns-then-is_some-clause-goes_
 returns-then-is_some-clause-goes_on g c = λ rest first h stands keeps ready.
     let s = c.args.self.now in
     let next = is_next first s h (ask (a_mark c.args.mark)) keeps c.requires.next in
-    c.run.ensures.goes_on rest first h stands keeps (may_run first h ready (none_asked (left_of first h) (a_mark c.args.mark) (is_reply_back h) next)) (inl (hand_some first s h keeps (sym c.if-is_some.ensures)))
+    c.run.ensures.goes_on rest first h stands keeps (may_run first h ready (none_asked (left_of first h) (a_mark c.args.mark) next)) (inl (hand_some first s h keeps (sym c.if-is_some.ensures)))
 
 pub put_mark-requires : goal.put_mark-requires
 put_mark-requires g c =

@@ -7,6 +7,7 @@ use Rattle.board_turns.specs.Boards.{Rounds, IsFree, TakesFlags}
 use Rattle.board_turns.specs.Turning.{HasTried}
 use Rattle.board_turns.proofs.Ends.{number_tried, may_try_first, ready_tried, sent}
 use Rattle.board_turns.proofs.Nexts.{ready_now}
+use Rattle.board_turns.proofs.PortSteps.{reports_none}
 use Rattle.board_turns.proofs.Steps.{other_published}
 use Rattle.board_turns.proofs.board.Board.publish_first.Goals as goal
 
@@ -16,9 +17,10 @@ is_free f h none takes = subst (λ x. TakesFlags x h) none takes
 pub publish_next-requires : goal.publish_next-requires
 publish_next-requires g c =
     let r = c.requires.stands in let first = r.1 in
-    let piece = c.begins_with_piece.ensures.yes first r.2 r.4.keeps c.if-not-begins_with_piece.false in (
+    let piece = c.begins_with_piece.ensures.yes first r.2 r.4.keeps c.if-not-begins_with_piece.false in
+    let free = is_free c.args.self.now.flags r.2 c.requires.flags r.4.flags in (
       omega arith,
-      (r.0, first, r.2, r.3, r.4.keeps, piece.1, (is_free c.args.self.now.flags r.2 c.requires.flags r.4.flags).obeyed),
+      (r.0, first, r.2, r.3, r.4.keeps, piece.1, free.obeyed, reports_none r.2 free.unowed),
     )
 
 pub fill-requires : goal.fill-requires
@@ -26,7 +28,8 @@ fill-requires g c = (
   omega arith,
   let r = c.requires.stands in let first = r.1 in
       let piece = c.begins_with_piece.ensures.yes first r.2 r.4.keeps c.if-not-begins_with_piece.false in
-      let n = c.publish_next.ensures.goes_on r.0 first r.2 r.3 r.4.keeps piece.1 (is_free c.args.self.now.flags r.2 c.requires.flags r.4.flags).obeyed in
+      let free = is_free c.args.self.now.flags r.2 c.requires.flags r.4.flags in
+      let n = c.publish_next.ensures.goes_on r.0 first r.2 r.3 r.4.keeps piece.1 free.obeyed (reports_none r.2 free.unowed) in
       (first, n.0, n.2),
 )
 
@@ -51,7 +54,7 @@ returns-then-not-publish_next-clause-none g c = λ rest first h stands f between
     let s = c.args.self.now in
     let free = is_free s.flags h c.requires.flags f.flags in
     let piece = c.begins_with_piece.ensures.yes first h f.keeps c.if-not-begins_with_piece.false in
-    let n = c.publish_next.ensures.goes_on rest first h stands f.keeps piece.1 free.obeyed in
+    let n = c.publish_next.ensures.goes_on rest first h stands f.keeps piece.1 free.obeyed (reports_none h free.unowed) in
     let tried = subst (λ b. (HasTried first) b h n.0) c.if-not-publish_next.true n.3 in (
       n.0,
       n.1,
@@ -75,7 +78,7 @@ returns-clause-published g c = λ rest first h stands f between is.
     let s = c.args.self.now in
     let free = is_free s.flags h c.requires.flags f.flags in
     let piece = c.begins_with_piece.ensures.yes first h f.keeps c.if-not-begins_with_piece.false in
-    let n = c.publish_next.ensures.goes_on rest first h stands f.keeps piece.1 free.obeyed in
+    let n = c.publish_next.ensures.goes_on rest first h stands f.keeps piece.1 free.obeyed (reports_none h free.unowed) in
     let m = c.fill.ensures.filled first n.0 n.2 in
     let tried = subst (λ b. (HasTried first) b h n.0) c.if-not-publish_next.false n.3 in
     let may = may_try_first first h (subst (λ b. (Rounds first) b h) piece.0 f.rounds) between free in

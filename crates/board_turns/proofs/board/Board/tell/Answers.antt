@@ -1,7 +1,7 @@
 use Rattle.std.proofs.Common.{rules, [], ◌∷◌, inl, refl, sym, ap, ◌∙◌, arith}
 use Rattle.run_rules.specs.Work.Task.{tell}
 use Rattle.board_rules.specs.Steps.{port_log, left_of}
-use Rattle.board_rules.specs.Turns.{this_turn, is_reply_back}
+use Rattle.board_rules.specs.Turns.{this_turn}
 use Rattle.board_rules.proofs.Facts.{none_by_bye}
 use Rattle.board_rules.specs.Steps.Step.{at_port}
 use Rattle.board_rules.specs.Ports.PortStep.{answered, no_reply_room}
@@ -27,7 +27,7 @@ run-requires g c = (
           r.2,
           r.3,
           r.4,
-          may_run first r.2 r.5 (none_by_bye (left_of first r.2) c.reply-reply.result (is_reply_back r.2) (c.holds_back.ensures.only_bye c.if-holds_back.true) next),
+          may_run first r.2 r.5 (none_by_bye (left_of first r.2) c.reply-reply.result (c.holds_back.ensures.only_bye c.if-holds_back.true) next),
           inl (hand_left first s r.2 r.4 (c.holds_back.ensures.yes c.if-holds_back.true)),
         ),
     (
@@ -41,7 +41,7 @@ pub returns-then-holds_back-clause-goes_on : goal.returns-then-holds_back-clause
 returns-then-holds_back-clause-goes_on g c = λ rest first h stands keeps ready.
     let s = c.args.self.now in
     let next = is_next first s h (tell c.reply-reply.result) keeps c.reply-reply.ensures.next in
-    c.run.ensures.goes_on rest first h stands keeps (may_run first h ready (none_by_bye (left_of first h) c.reply-reply.result (is_reply_back h) (c.holds_back.ensures.only_bye c.if-holds_back.true) next))
+    c.run.ensures.goes_on rest first h stands keeps (may_run first h ready (none_by_bye (left_of first h) c.reply-reply.result (c.holds_back.ensures.only_bye c.if-holds_back.true) next))
     (inl (hand_left first s h keeps (c.holds_back.ensures.yes c.if-holds_back.true)))
 
 pub answer-requires : goal.answer-requires
