@@ -18,7 +18,7 @@ use Rattle.run_rules.specs.Reports.{settled_to, moves, fewest}
 use Rattle.board_rules.specs.Ports.PortStep.{answered, loaded, found_halt}
 use Rattle.board_rules.specs.Steps.{Journal, has_limited, outcomes_of, known_of, plan_of, left_of, before_of, closed_tells}
 use Rattle.board_rules.specs.Cuts.{counts_of}
-use Rattle.board_rules.specs.Steps.Step.{at_port, began, did, made_end, evened, paused, became, cut, halted, closing, turned}
+use Rattle.board_rules.specs.Steps.Step.{at_port, began, did, cut, halted}
 use Rattle.board_rules.specs.Conduct.{Conducted, IsNextTask, ticks_given}
 use Rattle.board_rules.specs.Whole.{comes_to_rest, HasComeToRest, has_any_moved}
 use Rattle.board_rules.proofs.Counting.{left_to_ask, counts_are, length_counts, counts_begun, counts_did}

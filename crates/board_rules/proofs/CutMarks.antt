@@ -18,7 +18,7 @@ use Rattle.run_rules.specs.Work.Task.{ask}
 use Rattle.run_rules.specs.Outcomes.{Before, Becomes}
 use Rattle.board_rules.specs.Ports.PortStep.{answered, published, loaded, found_halt}
 use Rattle.board_rules.specs.Steps.{Journal, published_of, known_of, open_of, left_of, left_by, without_asks, hand_of, plan_of}
-use Rattle.board_rules.specs.Steps.Step.{at_port, began, did, made_end, evened, paused, became, cut, halted, closing, turned}
+use Rattle.board_rules.specs.Steps.Step.{at_port, began, did, made_end, became, cut, closing, turned}
 use Rattle.board_rules.specs.Turns.{unobeyed_of}
 use Rattle.board_rules.specs.Conduct.{Conducted, Gives, MayDo, IsStopped, IsTimely, ticks_published}
 use Rattle.board_rules.proofs.Beginning.{caused, of_begun}

@@ -15,7 +15,7 @@ use Rattle.board_rules.specs.Openings.{Opening}
 use Rattle.board_rules.specs.Ports.PortStep.{answered}
 use Rattle.board_rules.specs.Parts.{DropsLast}
 use Rattle.board_rules.specs.Steps.{Step, Journal, left_of, motion_of, open_of}
-use Rattle.board_rules.specs.Steps.Step.{at_port, began, did, made_end, evened, paused, became, cut, halted, closing, turned}
+use Rattle.board_rules.specs.Steps.Step.{at_port, began, did, made_end, evened, paused, cut, halted, closing}
 use Rattle.board_rules.specs.Cuts.{part_outcomes}
 use Rattle.board_rules.specs.Turns.{has_jogged, machine_in}
 use Rattle.board_rules.specs.Conduct.{Conducted, MayDo}

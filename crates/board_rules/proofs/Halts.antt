@@ -23,7 +23,7 @@ use Rattle.step_line.specs.declared.Piece.{Piece}
 use Rattle.board_rules.specs.Ports.PortStep.{loaded, found_halt}
 use Rattle.board_rules.specs.Parts.{IsAlarmedPart, lines_in, counts_in}
 use Rattle.board_rules.specs.Steps.{Step, Journal, has_limited, outcomes_of, known_of, given_of, planned_of, left_of, plan_after}
-use Rattle.board_rules.specs.Steps.Step.{at_port, began, did, made_end, evened, paused, became, cut, halted, closing, turned}
+use Rattle.board_rules.specs.Steps.Step.{at_port, began, did, made_end, cut, halted}
 use Rattle.board_rules.specs.Cuts.{part_outcomes, part_actions, part_given, part_start, part_plan, has_halted, parts_of, passed_of}
 use Rattle.board_rules.specs.Conduct.{Conducted, ticks_given}
 use Rattle.board_rules.proofs.Alarms.{opposite, stage_is, halted_alarmed, halted_once, halting_left, only_override, none_asked, part_plan_is}

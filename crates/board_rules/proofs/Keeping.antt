@@ -7,7 +7,7 @@ use Rattle.feed_hold.specs.declared.Motion.{Motion}
 use Rattle.feed_hold.specs.declared.Motion.TheVariants.{Holding, Cancelling}
 use Rattle.feed_hold.specs.Motions as motions
 use Rattle.feed_hold.specs.Motions.{Call}
-use Rattle.feed_hold.specs.Motions.Call.{on_exec, on_start, on_limit, on_pause, on_stopped, on_drained}
+use Rattle.feed_hold.specs.Motions.Call.{on_exec}
 use Rattle.feed_hold.proofs.Reaching.{StaysOrReaches, reached}
 use Rattle.overrides.specs.declared.Overrides.{Overrides}
 use Rattle.code_table.specs.declared.flags.Exec.{Exec}

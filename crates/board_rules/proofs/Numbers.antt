@@ -28,7 +28,7 @@ use Rattle.step_line.specs.declared.Piece.TheVariants as pieces
 use Rattle.units.specs.declared.Steps3.{Steps3}
 use Rattle.board_rules.specs.Ports.PortStep.{answered}
 use Rattle.board_rules.specs.Steps.{Journal, outcomes_of, actions_of, planned_of, given_of, plan_of, motion_of, left_of, plan_after}
-use Rattle.board_rules.specs.Steps.Step.{at_port, began, did, made_end, evened, paused, became, cut, halted, closing, turned}
+use Rattle.board_rules.specs.Steps.Step.{at_port, began, did, made_end, evened, paused, became, cut, halted, closing}
 use Rattle.board_rules.specs.Parts.{IsCutPart, lines_in, actions_in, pieces_in, passed_in, last_number, AreNumbered, plan_behind, AreJoined}
 use Rattle.board_rules.specs.Cuts.{part_outcomes, part_actions, part_given, part_start, has_halted, parts_of, passed_of, has_cut}
 use Rattle.board_rules.specs.Turns.{has_blocks, stands_still}

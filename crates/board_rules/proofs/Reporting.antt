@@ -42,7 +42,7 @@ use Rattle.board_rules.specs.Ports.{PortStep, BoardLog, published_in, has_held_i
 use Rattle.board_rules.specs.Ports.PortStep.{answered, reported, published, loaded, found_halt}
 use Rattle.board_rules.specs.Turns.{is_limited, stands_still}
 use Rattle.board_rules.specs.Steps.{Step, Journal, port_log, has_limited, outcomes_of, answered_of, given_of, published_of, known_of, plan_of, motion_of, left_of, left_by, before_of}
-use Rattle.board_rules.specs.Steps.Step.{at_port, began, did, made_end, evened, paused, became, cut, halted, closing, turned}
+use Rattle.board_rules.specs.Steps.Step.{at_port, began, did, made_end, paused, became, cut, halted, closing, turned}
 use Rattle.board_rules.specs.Cuts.{counts_of}
 use Rattle.board_rules.specs.Conduct.{Conducted, IsReportAt, MayHappen, shown_as, feed_of, ticks_given, IsLocked}
 use Rattle.board_rules.specs.Whole.{course_of}

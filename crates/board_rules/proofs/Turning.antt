@@ -5,14 +5,14 @@ use Rattle.std.proofs.lemmas.List.{length-append}
 use Rattle.std.proofs.lemmas.List.Sums.{sum_by-cons}
 use Rattle.code_table.specs.declared.flags.Exec.{Exec}
 use Rattle.feed_hold.specs.declared.Motion.{Motion}
-use Rattle.feed_hold.specs.Motions.Call.{on_exec, on_start, on_limit, on_pause, on_stopped, on_drained}
+use Rattle.feed_hold.specs.Motions.Call.{on_exec}
 use Rattle.outside.specs.declared.Turn.{Turn}
 use Rattle.outside.specs.declared.Turn.TheVariants.{Did, Wait, Done}
 use Rattle.board_rules.specs.Openings.{Opening}
-use Rattle.board_rules.specs.Ports.PortStep.{took, found_empty, found_closed, found_free, found_mark, answered, reported, no_reply_room, took_exec, took_ovr, published, no_piece_room, loaded}
+use Rattle.board_rules.specs.Ports.PortStep.{took_exec}
 use Rattle.board_rules.specs.Ports.{asks_reset}
 use Rattle.board_rules.specs.Steps.{Step, Journal}
-use Rattle.board_rules.specs.Steps.Step.{at_port, began, did, made_end, evened, paused, became, cut, halted, closing, turned}
+use Rattle.board_rules.specs.Steps.Step.{at_port, became, turned}
 use Rattle.board_rules.specs.Turns.{this_turn, publishing, ends_turn, takes_requests, obeys, unobeyed_of, owes_report, takes_changes, replans, tries_of, most_tries}
 use Rattle.board_rules.specs.Conduct.{Conducted, MayTurn}
 
