@@ -61,5 +61,6 @@ pub mod Facts
 pub mod Speeds
 pub mod Uncut
 pub mod CutMarks
+pub mod Ahead
 pub mod Tries
 pub mod Polling

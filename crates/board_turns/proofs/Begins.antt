@@ -34,7 +34,8 @@ use Rattle.board_rules.specs.Within.{AreWorked, tries_ahead, ahead}
 use Rattle.board_turns.proofs.Starting.{starts_off, starts_to_begin}
 use Rattle.board_turns.proofs.Standing.{blocks_undrained}
 use Rattle.board_rules.proofs.Polling.{none_told}
-use Rattle.board_rules.proofs.Tries.{IsNoWord, none_ends, worked_behind, publishes_one, publishes_none, ahead_less, takes_back}
+use Rattle.board_rules.proofs.Ahead.{ahead_less}
+use Rattle.board_rules.proofs.Tries.{IsNoWord, none_ends, worked_behind, publishes_one, publishes_none, takes_back}
 use Rattle.board_rules.proofs.Uncut.{uncut_else}
 use Rattle.board_rules.proofs.HaltWorks.{HaltsOrNot, line_halts, none_halts_next}
 use Rattle.board_rules.proofs.Alarms.{still_locked}

@@ -41,7 +41,8 @@ use Rattle.board_turns.proofs.Stages.{alarm_limits, ends_run, halts_raised, limi
 use Rattle.board_turns.proofs.Stopping.{locks}
 use Rattle.board_turns.proofs.Standing.{all_published, awaits_no_move}
 use Rattle.board_turns.proofs.Halting.{not_due, none_in_hand, slow_stands}
-use Rattle.board_rules.proofs.Tries.{publishes_none, worked_behind, passes_none, passes_load, passes_on, alone_on, alone_motion, ahead_less, passes_halted}
+use Rattle.board_rules.proofs.Ahead.{ahead_less}
+use Rattle.board_rules.proofs.Tries.{publishes_none, worked_behind, passes_none, passes_load, passes_on, alone_on, alone_motion, passes_halted}
 use Rattle.board_turns.proofs.Ends.{rounds_still, free_of, free_passed, takes_none, no_word_left}
 use Rattle.board_turns.proofs.Nexts.{quiet_on}
 

@@ -38,7 +38,8 @@ use Rattle.board_turns.proofs.PortSteps.{not_told}
 use Rattle.board_rules.proofs.Facts.{and_false, not_whole, uncounted, uncounted_behind, unmissed, none_awaited, none_asked, none_by_bye}
 use Rattle.board_rules.proofs.Marks.{none_behind_mark}
 use Rattle.board_rules.proofs.Polling.{none_polled, none_told}
-use Rattle.board_rules.proofs.Tries.{publishes_none, publishes_one, worked_behind, passes_did, passes_end, passes_motion, ahead_most, ahead_less, ahead_partial, replies_behind, takes_back, takes_one, three_at_most, none_spoken}
+use Rattle.board_rules.proofs.Ahead.{ahead_most, ahead_less, ahead_partial, replies_behind, three_at_most}
+use Rattle.board_rules.proofs.Tries.{publishes_none, publishes_one, worked_behind, passes_did, passes_end, passes_motion, takes_back, takes_one, none_spoken}
 use Rattle.board_turns.proofs.Standing.{full_is_queued, goes_or_stands}
 use Rattle.board_turns.proofs.Starting.{none_left_to_change, starts_off, full_is}
 use Rattle.board_rules.proofs.Lasts.{IsClosing}

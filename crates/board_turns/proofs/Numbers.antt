@@ -18,7 +18,7 @@ use Rattle.board_turns.specs.declared.board.Board.{Board}
 use Rattle.board_turns.specs.declared.board.Flags.{Flags}
 use Rattle.board_turns.specs.declared.board.Flags.TheVariants as words
 use Rattle.board_turns.specs.Boards.{EpochFits, words_left, changes_left, number_of}
-use Rattle.board_rules.proofs.Tries.{fewer_pauses, pauses_by}
+use Rattle.board_rules.proofs.Ahead.{fewer_pauses, pauses_by}
 
 less_too : (a b : ℕ) → a ≤ b → b ≤ 1 → a ≤ 1
 less_too a b e f = omega (arith, e, f)

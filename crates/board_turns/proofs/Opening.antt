@@ -1,6 +1,6 @@
 -- How a board opens an epoch, in which it has done nothing.
 use Rattle.std.proofs.Common.{◌≡◌, ◌↔◌, ℕ, ◌+◌, ◌-◌, ◌^◌, ◌≤◌, Bool, true, false, not, ◌&&◌, ◌||◌, cond, [], refl, sym, ap, ◌∙◌, subst, arith}
-use Rattle.board_rules.proofs.Tries.{three_most}
+use Rattle.board_rules.proofs.Ahead.{three_most}
 use Rattle.feed_hold.specs.Motions.{is_moving, behind_reset}
 use Rattle.feed_hold.specs.declared.Motion.{Motion as AnyMotion}
 use Rattle.feed_hold.specs.declared.Motion.TheVariants as motions

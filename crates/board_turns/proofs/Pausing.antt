@@ -16,7 +16,8 @@ use Rattle.board_turns.specs.Boards.{Keeps, Rounds, number_of}
 use Rattle.board_turns.specs.Turning.{IsReady, PassesNothing, HasFilled, BoardWorked}
 use Rattle.board_rules.proofs.Facts.{none_awaited, uncounted}
 use Rattle.board_turns.proofs.Steps.{halts_by}
-use Rattle.board_rules.proofs.Tries.{ahead_behind, none_ends, publishes_none, worked_behind}
+use Rattle.board_rules.proofs.Ahead.{ahead_behind}
+use Rattle.board_rules.proofs.Tries.{none_ends, publishes_none, worked_behind}
 use Rattle.board_turns.proofs.Ends.{none_called, rounds_still, free_of, free_passed, takes_none, no_word_left}
 
 -- a pause less is left
