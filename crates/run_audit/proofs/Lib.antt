@@ -8,3 +8,7 @@ pub mod Fitting
 pub mod JobTold
 pub mod Telling
 pub mod Under
+mod Along
+mod FewAlong
+mod NextAlong
+mod LinesAlong

@@ -15,33 +15,19 @@ use Rattle.run_texts.specs.Parts.{is_ending}
 use Rattle.run_texts.specs.Points.{Point, IsPassed, IsBroken}
 use Rattle.run_texts.specs.Sent.{Sent}
 use Rattle.run_texts.specs.Sent.Sent.{a_text, a_stop}
-use Rattle.audit_rules.specs.Findings.{FitsWith, IsTooLong, is_foreign}
+use Rattle.audit_rules.specs.Findings.{FitsWith}
 use Rattle.audit_rules.specs.StepTexts.{records_of}
-use Rattle.audit_course.specs.SoFar.{HasJudged, MayFollow, EndsLate, IsErrorOf, begins_epoch, is_of_reset, left_to_tell}
+use Rattle.audit_course.specs.SoFar.{HasJudged, MayFollow, EndsLate, IsErrorOf, begins_epoch, is_of_reset, left_to_tell, texts_among}
 use Rattle.audit_course.specs.declared.judge.CourseJudge.{CourseJudge}
 use Rattle.audit_course.specs.declared.MotionError.{MotionError}
-use Rattle.run_audit.specs.SoFar.{JobSoFar, untold_of}
+pub use Rattle.run_audit.specs.Auditing.{AllAudited, IsAuditable}
+use Rattle.run_audit.specs.SoFar.{JobSoFar, IsItem, untold_of}
 use Rattle.run_audit.specs.UnderWay.{AreRead}
 use Rattle.run_audit.specs.declared.auditor.Auditor.{Auditor}
 use Rattle.run_audit.specs.declared.auditor.Finding.{Finding}
 use Rattle.run_audit.specs.declared.auditor.Finding.TheVariants.{Fits}
+use Rattle.run_audit.specs.declared.sending.Item.TheVariants.{Nothing}
 use Rattle.run_audit.specs.declared.sending.Sending.{Sending}
-
-abbrev pub texts_among : List Sent → ℕ
-texts_among [] = 0
-texts_among (a_text kept ∷ more) = texts_among more + 1
-texts_among (a_stop ∷ more) = texts_among more
-
--- each of these lines is audited
-abbrev pub AllAudited : List Sent → Type 0
-AllAudited [] = Unit {0}
-AllAudited (a_text kept ∷ more) = (is_foreign kept ≡ false) × AllAudited more
-AllAudited (a_stop ∷ more) = AllAudited more
-
--- Texts that fit, and of which an audit can say so: neither is too long, and each line that is sent is audited.
-pub record IsAuditable (job console steps : List ℕ) (events : ℕ) (f : FitsWith job console steps events) : Type 0 where
-  pub short : IsTooLong console steps → ⊥
-  pub audited : AllAudited f.fit.sent
 
 -- the next of these records ends a part
 abbrev pub ends_now : List Record → Bool
@@ -82,7 +68,7 @@ pub record IsReading (a : Auditor) (job console steps : SourceState) (job_text c
 pub record IsRightly (a : Auditor) (events : ℕ) (found : Finding) : Type 0 where
   pub fits : found ≡ Fits events
   pub none_foreign : a.sending.foreign ≡ 0
-  pub all_read : ((not a.course.unanswered && a.course.line.halts) ≡ true) ⊎ ((a.sending.over ≡ true) × (untold_of a.sending ≡ []))
+  pub all_read : ((not a.course.unanswered && a.course.line.halts) ≡ true) ⊎ ((a.sending.over ≡ true) × IsItem Nothing a.sending)
 
 -- ---- steps
 
@@ -128,10 +114,14 @@ FindsAlong a b steps steps_now found =
     → (u : IsAlong a job console steps job_text console_text steps_text events f)
     → (v : IsAlong b job console steps_now job_text console_text steps_text events f) × RecordComes found v.rest × (steps_left b v.more v.rest ≡ steps_left a u.more u.rest)
 
+-- something is owed of what the lines ask for
+abbrev pub Owes : CourseJudge → Type 0
+Owes j = owed_of j.part ≢ []
+
 -- It comes next, and was not taken: nothing is owed, or it ends the part.
 pub record IsUntaken (j : CourseJudge) (next : Option Record) (rest : List Record) : Type 0 where
   pub comes : RecordComes next rest
-  pub owes : (r : Record) → next ≡ Some r → owed_of j.part ≢ [] → is_ending r ≡ true
+  pub owes : (r : Record) → next ≡ Some r → Owes j → is_ending r ≡ true
 
 -- the line at hand is done, and no cut comes before the next one
 pub record IsDone (j : CourseJudge) (next : Option Record) : Type 0 where
@@ -164,6 +154,13 @@ pub record LineComes (error : MotionError) (p : Point) (more : List Sent) (told 
   pub of_line : is_of_reset first ≡ false
   pub fits : IsErrorOf error first
   pub late : EndsLate (p.before.number + 1) rest
+
+-- if this record ends a part, it is the mark of line n
+abbrev pub MayBeOfLine : ℕ → Record → Type 0
+MayBeOfLine n (kinds.Mark (CutMark k)) = k ≡ n
+MayBeOfLine n (kinds.Mark (ResetMark k)) = k ≡ n
+MayBeOfLine n kinds.End = ⊥
+MayBeOfLine n _ = Unit {0}
 
 -- A line comes next that a reset keeps from its answer.
 pub record BrokenComes (p : Point) (more : List Sent) (told : List Reply) (rest : List Record) : Type 0 where

@@ -1,17 +1,20 @@
 //! The audit of three texts, in step.
 
-ghost use Rattle.std.specs.Prelude.{◌≡◌, ◌≤◌, ◌∷◌, ◌++◌, [], ℕ, List, Some, None, MatchResult, IfOk, IsTrue, false, true, length, map};
+ghost use Rattle.std.specs.Prelude.{◌≡◌, ◌<◌, ◌&&◌, [], ℕ, List, Some, None, MatchResult, IfOk, IsTrue, false, true, not};
 ghost use Rattle.outside.specs.Causes.{Rose, SourceState};
 ghost use Rattle.status_report.specs.declared.Reply.{Reply as AnyReply};
 ghost use Rattle.run_rules.specs.Work.Task.{tell};
 ghost use Rattle.line_interpreter.specs.Lefts.{IsNextOf};
 ghost use Rattle.step_line.specs.declared.Mark.TheVariants.{Cut as CutMark};
 ghost use Rattle.step_line.specs.declared.Record.TheVariants as kinds;
+ghost use Rattle.step_line.specs.declared.Record.{Record as AnyRecord};
+ghost use Rattle.run_texts.specs.Parts.{is_ending};
+ghost use Rattle.audit_course.specs.SoFar.{begins_epoch};
+ghost use Rattle.run_audit.specs.Along.{StaysAlong, StaysAlongIf, ReadsAlongIf, FindsAlong, RecordComes, IsUntaken, IsDone, IsResetTold, Owes, FitsError, LineComes};
 ghost use Rattle.run_audit.specs.Reading.{KnowsJob, KnowsConsole, KnowsSteps, IsSame};
 ghost use Rattle.run_audit.specs.Going.{AllKnown, AllSame, IsCaused};
-ghost use Rattle.run_texts.specs.Sent.Sent.{a_text, a_stop};
-ghost use Rattle.run_audit.specs.SoFar.{StepsSoFar, IsItem};
-ghost use Rattle.run_audit.specs.UnderWay.{IsOpened, IsUnderWay, IsDropping, IsNext, GoesOn, IsSaid, mark_of};
+ghost use Rattle.run_audit.specs.SoFar.{StepsSoFar, IsItem, looked_for};
+ghost use Rattle.run_audit.specs.UnderWay.{IsOpened, IsNext, GoesOn, IsSaid};
 
 use crate::listening::Listening;
 use crate::recorded::Recorded;
@@ -58,7 +61,9 @@ pub(crate) struct Auditor {
 }
 
 /// Whether a record ends a part.
-fn is_ending(record: &Record) -> bool {
+pub(crate) fn is_ending(record: &Record) -> bool
+    ensures { result ≡ is_ending record.now }
+{
     matches!(
         record,
         Record::End | Record::Mark(Mark::Cut(_)) | Record::Mark(Mark::Reset(_))
@@ -73,8 +78,19 @@ fn is_greeting(reply: &Reply) -> bool {
     )
 }
 
+/// Whether the reply that is known before it is told is told at a reset.
+#[tactic(auto, using(crate::proofs::NextAlong::reset_told_by, crate::proofs::NextAlong::no_reset_told))]
+fn tells_reset(known: Option<Reply>) -> bool
+    ensures yes { IsTrue result → (told : List AnyReply) → known ≡ looked_for told → IsResetTold known told }
+    ensures no { result ≡ false → (told : List AnyReply) → known ≡ looked_for told → begins_epoch told ≡ false }
+{
+    matches!(known, Some(Reply::Alarm(_) | Reply::Banner))
+}
+
 /// The error of the motion that a line has, by the reply that is known before it is told.
-fn error_of(known: Option<Reply>) -> MotionError {
+fn error_of(known: Option<Reply>) -> MotionError
+    ensures { (told : List AnyReply) → known ≡ looked_for told → begins_epoch told ≡ false → FitsError result told }
+{
     match known {
         Some(Reply::Error(8)) => MotionError::Busy,
         Some(Reply::Error(9)) => MotionError::Locked,
@@ -101,7 +117,7 @@ impl Auditor {
     }
 
     /// The record that comes next breaks a rule.
-    fn break_off(&mut self)
+    pub(crate) fn break_off(&mut self)
         ensures sending { self.new.sending ≡ self.old.sending }
         ensures listening { self.new.listening ≡ self.old.listening }
         ensures recorded { self.new.recorded ≡ self.old.recorded }
@@ -128,6 +144,7 @@ impl Auditor {
         ensures sending { self.new.sending.reader ≡ self.old.sending.reader }
         ensures next { IfOk result (λ found. IsNext self.new found) }
         ensures so_far { IfOk result (λ found. (job console : SourceState) → GoesOn self.old self.new job console (S.state steps.old) job console (S.state steps.new) None) }
+        ensures along { IfOk result (λ found. FindsAlong self.old self.new (S.state steps.old) (S.state steps.new) found) }
     {
         if self.broken.is_some() {
             return Ok(None);
@@ -149,6 +166,8 @@ impl Auditor {
         ensures listening { self.new.listening.reader ≡ self.old.listening.reader }
         ensures recorded { self.new.recorded.reader ≡ self.old.recorded.reader }
         ensures same { result ≡ false → self.new ≡ self.old }
+        ensures leaves { result ≡ false → Owes self.old.course → is_ending «record».now ≡ true }
+        ensures along { IsTrue result → (job console steps : SourceState) → StaysAlongIf (λ point more told rest. RecordComes (Some «record».now) rest) self.old self.new job console steps job console steps None }
         ensures so_far { (job console steps : SourceState) → GoesOn self.old self.new job console steps job console steps None }
     {
         if !self.course.owes() || is_ending(record) {
@@ -182,6 +201,7 @@ impl Auditor {
         ensures recorded { self.new.recorded.reader ≡ self.old.recorded.reader }
         ensures sending { self.new.sending.reader ≡ self.old.sending.reader }
         ensures goes_on { IfOk result (λ found. (job steps : SourceState) → GoesOn self.old self.new job (C.state console.old) steps job (C.state console.new) steps found) }
+        ensures along { IfOk result (λ found. (job steps : SourceState) → StaysAlong self.old self.new job (C.state console.old) steps job (C.state console.new) steps found) }
     {
         let reply = self.course.reply();
         let line = self.course.number().saturating_sub(1);
@@ -210,6 +230,7 @@ impl Auditor {
         ensures known { MatchResult result (λ found. AllKnown self.new (J.state job.new) (C.state console.new) (S.state steps.new) × AllSame (J.state job.old) (C.state console.old) (S.state steps.old) (J.state job.new) (C.state console.new) (S.state steps.new))
             (λ e. IsCaused e (J.state job.old) (C.state console.old) (S.state steps.old) (J.state job.new) (C.state console.new) (S.state steps.new)) }
         ensures goes_on { IfOk result (λ found. GoesOn self.old self.new (J.state job.old) (C.state console.old) (S.state steps.old) (J.state job.new) (C.state console.new) (S.state steps.new) found) }
+        ensures along { IfOk result (λ found. StaysAlong self.old self.new (J.state job.old) (C.state console.old) (S.state steps.old) (J.state job.new) (C.state console.new) (S.state steps.new) found) }
     {
         let record = self.look(steps)?;
         if self.takes_next(&record) {
@@ -225,6 +246,8 @@ impl Auditor {
         ensures listening { self.new.listening.reader ≡ self.old.listening.reader }
         ensures recorded { self.new.recorded.reader ≡ self.old.recorded.reader }
         ensures same { result ≡ false → self.new ≡ self.old }
+        ensures leaves { result ≡ false → (rest : List AnyRecord) → RecordComes «record».now rest → IsUntaken self.old.course «record».now rest }
+        ensures along { IsTrue result → (job console steps : SourceState) → StaysAlongIf (λ point more told rest. RecordComes «record».now rest) self.old self.new job console steps job console steps None }
         ensures so_far { (job console steps : SourceState) → GoesOn self.old self.new job console steps job console steps None }
     {
         match record {
@@ -247,6 +270,7 @@ impl Auditor {
         ensures known { MatchResult result (λ found. AllKnown self.new (J.state job.new) (C.state console.new) (S.state steps.new) × AllSame (J.state job.old) (C.state console.old) (S.state steps.old) (J.state job.new) (C.state console.new) (S.state steps.new))
             (λ e. IsCaused e (J.state job.old) (C.state console.old) (S.state steps.old) (J.state job.new) (C.state console.new) (S.state steps.new)) }
         ensures goes_on { IfOk result (λ found. GoesOn self.old self.new (J.state job.old) (C.state console.old) (S.state steps.old) (J.state job.new) (C.state console.new) (S.state steps.new) found) }
+        ensures along { IfOk result (λ found. StaysAlongIf (λ point more told rest. IsUntaken self.old.course «record» rest) self.old self.new (J.state job.old) (C.state console.old) (S.state steps.old) (J.state job.new) (C.state console.new) (S.state steps.new) found) }
     {
         match self.course.next() {
             Next::Tell => self.hear(console),
@@ -272,6 +296,7 @@ impl Auditor {
         ensures known { MatchResult result (λ found. AllKnown self.new (J.state job.new) (C.state console.new) (S.state steps.new) × AllSame (J.state job.old) (C.state console.old) (S.state steps.old) (J.state job.new) (C.state console.new) (S.state steps.new))
             (λ e. IsCaused e (J.state job.old) (C.state console.old) (S.state steps.old) (J.state job.new) (C.state console.new) (S.state steps.new)) }
         ensures goes_on { IfOk result (λ found. GoesOn self.old self.new (J.state job.old) (C.state console.old) (S.state steps.old) (J.state job.new) (C.state console.new) (S.state steps.new) found) }
+        ensures along { self.old.course.work.left ≡ [] → IfOk result (λ found. StaysAlongIf (λ point more told rest. IsUntaken self.old.course «record» rest) self.old self.new (J.state job.old) (C.state console.old) (S.state steps.old) (J.state job.new) (C.state console.new) (S.state steps.new) found) }
     {
         let number = self.course.number();
         match record {
@@ -290,6 +315,7 @@ impl Auditor {
     /// The mark of a cut comes next.
     fn cut(&mut self, k: u32)
         requires next { self.old.recorded.next ≡ Some (kinds.Mark (CutMark k)) }
+        ensures along { self.old.course.work.left ≡ [] → (job console steps : SourceState) → StaysAlongIf (λ point more told rest. IsUntaken self.old.course (Some (kinds.Mark (CutMark k))) rest × (k < self.old.course.work.number)) self.old self.new job console steps job console steps None }
         ensures so_far { (job console steps : SourceState) → GoesOn self.old self.new job console steps job console steps None }
         ensures sending { self.new.sending.reader ≡ self.old.sending.reader }
         ensures listening { self.new.listening.reader ≡ self.old.listening.reader }
@@ -316,6 +342,7 @@ impl Auditor {
         ensures known { MatchResult result (λ found. AllKnown self.new (J.state job.new) (C.state console.new) (S.state steps.new) × AllSame (J.state job.old) (C.state console.old) (S.state steps.old) (J.state job.new) (C.state console.new) (S.state steps.new))
             (λ e. IsCaused e (J.state job.old) (C.state console.old) (S.state steps.old) (J.state job.new) (C.state console.new) (S.state steps.new)) }
         ensures goes_on { IfOk result (λ found. GoesOn self.old self.new (J.state job.old) (C.state console.old) (S.state steps.old) (J.state job.new) (C.state console.new) (S.state steps.new) found) }
+        ensures along { IsDone self.old.course «record» → IfOk result (λ found. StaysAlongIf (λ point more told rest. IsUntaken self.old.course «record» rest) self.old self.new (J.state job.old) (C.state console.old) (S.state steps.old) (J.state job.new) (C.state console.new) (S.state steps.new) found) }
     {
         if self.course.has_alarm() {
             return self.end_by_alarm(record, job, console, steps);
@@ -324,7 +351,7 @@ impl Auditor {
             Err(_) => return Err(Unread::Console),
             Ok(known) => known,
         };
-        if let Some(Reply::Alarm(_)) | Some(Reply::Banner) = known {
+        if tells_reset(known) {
             return self.reset(record, job);
         }
         self.enter_line(error_of(known), record, job, console, steps)
@@ -345,6 +372,7 @@ impl Auditor {
         ensures known { MatchResult result (λ found. AllKnown self.new (J.state job.new) (C.state console.new) (S.state steps.new) × AllSame (J.state job.old) (C.state console.old) (S.state steps.old) (J.state job.new) (C.state console.new) (S.state steps.new))
             (λ e. IsCaused e (J.state job.old) (C.state console.old) (S.state steps.old) (J.state job.new) (C.state console.new) (S.state steps.new)) }
         ensures goes_on { IfOk result (λ found. GoesOn self.old self.new (J.state job.old) (C.state console.old) (S.state steps.old) (J.state job.new) (C.state console.new) (S.state steps.new) found) }
+        ensures along { IsDone self.old.course «record» → (not self.old.course.unanswered && self.old.course.line.halts) ≡ false → IfOk result (λ found. StaysAlongIf (λ point more told rest. IsUntaken self.old.course «record» rest × FitsError error told) self.old self.new (J.state job.old) (C.state console.old) (S.state steps.old) (J.state job.new) (C.state console.new) (S.state steps.new) found) }
     {
         match self.sending.look(job) {
             Err(_) => Err(Unread::Job),
@@ -368,6 +396,7 @@ impl Auditor {
         ensures known { MatchResult result (λ found. AllKnown self.new (J.state job.new) (C.state console.new) (S.state steps.new) × AllSame (J.state job.old) (C.state console.old) (S.state steps.old) (J.state job.new) (C.state console.new) (S.state steps.new))
             (λ e. IsCaused e (J.state job.old) (C.state console.old) (S.state steps.old) (J.state job.new) (C.state console.new) (S.state steps.new)) }
         ensures goes_on { IfOk result (λ found. GoesOn self.old self.new (J.state job.old) (C.state console.old) (S.state steps.old) (J.state job.new) (C.state console.new) (S.state steps.new) found) }
+        ensures along { IsDone self.old.course «record» → (not self.old.course.unanswered && self.old.course.line.halts) ≡ true → IfOk result (λ found. StaysAlongIf (λ point more told rest. IsUntaken self.old.course «record» rest) self.old self.new (J.state job.old) (C.state console.old) (S.state steps.old) (J.state job.new) (C.state console.new) (S.state steps.new) found) }
     {
         self.read_ahead(job)?;
         self.finish(record, console, steps)
@@ -376,6 +405,7 @@ impl Auditor {
     /// The line that waits is begun.
     fn begin(&mut self, error: MotionError) -> Option<Finding>
         requires line { IsItem Item.Line self.old.sending }
+        ensures along { self.old.course.work.left ≡ [] → (job console steps : SourceState) → ReadsAlongIf [] (LineComes error) self.old self.new job console steps result }
         ensures goes_on { (job console steps : SourceState) → GoesOn self.old self.new job console steps job console steps result }
         ensures sending { self.new.sending.reader ≡ self.old.sending.reader }
         ensures listening { self.new.listening.reader ≡ self.old.listening.reader }
@@ -387,179 +417,6 @@ impl Auditor {
             return None;
         }
         Some(self.bad_behind())
-    }
-
-    /// What a reset tells comes next on the console.
-    #[tactic(auto, using(crate::proofs::Known::rose_on, crate::proofs::Known::all_same_on, crate::proofs::Known::caused_on))]
-    fn reset<J: Source>(
-        &mut self,
-        record: Option<Record>,
-        job: &mut J,
-    ) -> Result<Option<Finding>, Unread>
-        requires known { KnowsJob self.old.sending.reader (J.state job.old) }
-        requires next { IsNext self.old «record» }
-        ensures read { MatchResult result (λ found. KnowsJob self.new.sending.reader (J.state job.new) × IsSame (J.state job.old) (J.state job.new)) (λ e. (e ≡ Unread.Job) × Rose (J.state job.old).faults (J.state job.new).faults) }
-        ensures listening { self.new.listening.reader ≡ self.old.listening.reader }
-        ensures recorded { self.new.recorded.reader ≡ self.old.recorded.reader }
-        ensures goes_on { IfOk result (λ found. (console steps : SourceState) → GoesOn self.old self.new (J.state job.old) console steps (J.state job.new) console steps found) }
-    {
-        let number = self.course.number();
-        match record {
-            Some(Record::Mark(Mark::Reset(k))) if k.saturating_add(1) == number => {
-                self.drop_lines(Some(k), job)
-            }
-            Some(record) if self.may_be_begun(&record) => self.begin_next(job),
-            Some(_) => {
-                self.break_off();
-                Ok(None)
-            }
-            None => self.drop_lines(None, job),
-        }
-    }
-
-    /// The next line is begun, and a reset keeps it from its answer.
-    #[tactic(auto, using(crate::proofs::Known::rose_on, crate::proofs::Known::all_same_on, crate::proofs::Known::caused_on))]
-    fn begin_next<J: Source>(&mut self, job: &mut J) -> Result<Option<Finding>, Unread>
-        requires known { KnowsJob self.old.sending.reader (J.state job.old) }
-        ensures read { MatchResult result (λ found. KnowsJob self.new.sending.reader (J.state job.new) × IsSame (J.state job.old) (J.state job.new)) (λ e. (e ≡ Unread.Job) × Rose (J.state job.old).faults (J.state job.new).faults) }
-        ensures listening { self.new.listening.reader ≡ self.old.listening.reader }
-        ensures recorded { self.new.recorded.reader ≡ self.old.recorded.reader }
-        ensures goes_on { IfOk result (λ found. (console steps : SourceState) → GoesOn self.old self.new (J.state job.old) console steps (J.state job.new) console steps found) }
-    {
-        match self.sending.look(job) {
-            Err(_) => Err(Unread::Job),
-            Ok(item) => {
-                self.begin_unanswered(item);
-                Ok(None)
-            }
-        }
-    }
-
-    /// The line that waits is begun, and not answered, if one does.
-    fn begin_unanswered(&mut self, item: Item)
-        requires item { IsItem item self.old.sending }
-        ensures so_far { (job console steps : SourceState) → GoesOn self.old self.new job console steps job console steps None }
-        ensures sending { self.new.sending.reader ≡ self.old.sending.reader }
-        ensures listening { self.new.listening.reader ≡ self.old.listening.reader }
-        ensures recorded { self.new.recorded.reader ≡ self.old.recorded.reader }
-    {
-        match item {
-            Item::Line => self.break_line(),
-            Item::Stop | Item::Nothing => self.break_off(),
-        }
-    }
-
-    /// The line that waits is begun, and not answered.
-    fn break_line(&mut self)
-        requires line { IsItem Item.Line self.old.sending }
-        ensures so_far { (job console steps : SourceState) → GoesOn self.old self.new job console steps job console steps None }
-        ensures sending { self.new.sending.reader ≡ self.old.sending.reader }
-        ensures listening { self.new.listening.reader ≡ self.old.listening.reader }
-        ensures recorded { self.new.recorded.reader ≡ self.old.recorded.reader }
-    {
-        let line = self.sending.kept();
-        if self.course.begin_unanswered(&line) {
-            self.sending.take_line();
-            return;
-        }
-        self.break_off();
-    }
-
-    /// Whether this record asks for a line that is begun and not answered.
-    fn may_be_begun(&self, record: &Record) -> bool {
-        match record {
-            Record::Mark(Mark::Reset(k) | Mark::Cut(k)) => *k == self.course.number(),
-            record => !is_ending(record),
-        }
-    }
-
-    /// Lines are dropped up to the next reset, whose mark is behind this line if records count.
-    #[tactic(auto, using(crate::proofs::Known::rose_on, crate::proofs::Known::all_same_on, crate::proofs::Known::caused_on))]
-    fn drop_lines<J: Source>(
-        &mut self,
-        mark: Option<u32>,
-        job: &mut J,
-    ) -> Result<Option<Finding>, Unread>
-        requires known { KnowsJob self.old.sending.reader (J.state job.old) }
-        requires next { IsNext self.old (mark_of mark) }
-        ensures read { MatchResult result (λ found. KnowsJob self.new.sending.reader (J.state job.new) × IsSame (J.state job.old) (J.state job.new)) (λ e. (e ≡ Unread.Job) × Rose (J.state job.old).faults (J.state job.new).faults) }
-        ensures listening { self.new.listening.reader ≡ self.old.listening.reader }
-        ensures recorded { self.new.recorded.reader ≡ self.old.recorded.reader }
-        ensures goes_on { IfOk result (λ found. (console steps : SourceState) → GoesOn self.old self.new (J.state job.old) console steps (J.state job.new) console steps found) }
-    {
-        let alarm = matches!(self.listening.known(), Some(Reply::Alarm(_)));
-        let mut dropped: u32 = 0;
-        'lines: for _ in 0..16_777_217_u32 {
-            match self.sending.look(job) {
-                Err(_) => return Err(Unread::Job),
-                Ok(Item::Line) => {
-                    self.sending.take_line();
-                    dropped = dropped.saturating_add(1);
-                }
-                Ok(Item::Stop) => {
-                    self.sending.take_stop();
-                    self.make_reset(mark, dropped, alarm);
-                    return Ok(None);
-                }
-                Ok(Item::Nothing) => {
-                    return Ok(Some(self.none_comes(dropped)));
-                }
-            }
-        }
-        Ok(Some(self.bad_behind()))
-    }
-
-    /// No reset comes of the job: the line that waits has none of the replies that it may have.
-    fn none_comes(&self, waiting: u32) -> Finding
-        ensures { (line : ℕ) × (result ≡ Finding.BadReplies line) }
-    {
-        if waiting == 0 {
-            return self.bad_behind();
-        }
-        Finding::BadReplies(self.course.number())
-    }
-
-    /// A reset comes, with its mark if records count.
-    fn make_reset(&mut self, mark: Option<u32>, dropped: u32, alarm: bool)
-        requires next { IsNext self.old (mark_of mark) }
-        ensures so_far { (lines : List (List ℕ)) → dropped ≡ length lines → (job console steps : SourceState) (job_text console_text steps_text : List ℕ) →
-            IsDropping self.old job console steps job_text console_text steps_text (map a_text lines ++ a_stop ∷ []) → IsUnderWay self.new job console steps job_text console_text steps_text }
-        ensures sending { self.new.sending.reader ≡ self.old.sending.reader }
-        ensures listening { self.new.listening.reader ≡ self.old.listening.reader }
-        ensures recorded { self.new.recorded.reader ≡ self.old.recorded.reader }
-    {
-        match mark {
-            Some(k) => self.take_reset(k, dropped, alarm),
-            None => self.pass_reset(dropped, alarm),
-        }
-    }
-
-    /// A reset comes, with this mark.
-    fn take_reset(&mut self, k: u32, dropped: u32, alarm: bool)
-        requires next { IsNext self.old (mark_of (Some k)) }
-        ensures so_far { (lines : List (List ℕ)) → dropped ≡ length lines → (job console steps : SourceState) (job_text console_text steps_text : List ℕ) →
-            IsDropping self.old job console steps job_text console_text steps_text (map a_text lines ++ a_stop ∷ []) → IsUnderWay self.new job console steps job_text console_text steps_text }
-        ensures sending { self.new.sending.reader ≡ self.old.sending.reader }
-        ensures listening { self.new.listening.reader ≡ self.old.listening.reader }
-        ensures recorded { self.new.recorded.reader ≡ self.old.recorded.reader }
-    {
-        if self.course.reset(k, dropped, alarm) {
-            self.recorded.take();
-            return;
-        }
-        self.break_off();
-        self.pass_reset(dropped, alarm);
-    }
-
-    /// A reset comes where records count no more.
-    fn pass_reset(&mut self, dropped: u32, alarm: bool)
-        requires broken { self.old.broken ≡ None → ⊥ }
-        ensures sending { self.new.sending ≡ self.old.sending }
-        ensures listening { self.new.listening ≡ self.old.listening }
-        ensures recorded { self.new.recorded ≡ self.old.recorded }
-        ensures broken { self.new.broken ≡ None → ⊥ }
-    {
-        let _ = self.course.reset_unrecorded(dropped, alarm);
     }
 
     /// Goes through all three texts.

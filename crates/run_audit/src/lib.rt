@@ -6,6 +6,7 @@ mod ending;
 mod laws;
 mod listening;
 mod recorded;
+mod resetting;
 mod sending;
 #[cfg(test)]
 mod tests;

@@ -1,0 +1,219 @@
+//! The resets of an audit, and the lines that they keep from their answers.
+
+ghost use Rattle.std.specs.Prelude.{◌≡◌, ◌↔◌, ◌+◌, ◌∷◌, ◌++◌, ◌&&◌, [], ℕ, List, Some, None, MatchResult, IfOk, IfSome, IsTrue, false, not, length, map};
+ghost use Rattle.outside.specs.Causes.{Rose, SourceState};
+ghost use Rattle.step_line.specs.declared.Mark.TheVariants.{Reset as ResetMark};
+ghost use Rattle.step_line.specs.declared.Record.TheVariants as kinds;
+ghost use Rattle.run_texts.specs.Sent.Sent.{a_text, a_stop};
+ghost use Rattle.run_audit.specs.Reading.{KnowsJob, IsSame};
+ghost use Rattle.run_audit.specs.SoFar.{IsItem};
+ghost use Rattle.run_audit.specs.UnderWay.{IsUnderWay, IsDropping, IsNext, GoesOn, mark_of};
+ghost use Rattle.run_audit.specs.Along.{StaysAlongIf, ReadsAlongIf, IsUntaken, IsDone, IsResetTold, MayBeOfLine, BrokenComes, ResetComes, is_alarm};
+
+use crate::auditor::{Auditor, Finding, Unread, is_ending};
+use crate::sending::Item;
+use outside::Source;
+use status_report::Reply;
+use step_line::{Mark, Record};
+
+/// Whether it is an alarm that is known before it is told.
+fn is_alarm(known: Option<Reply>) -> bool
+    ensures { result ≡ is_alarm known }
+{
+    matches!(known, Some(Reply::Alarm(_)))
+}
+
+impl Auditor {
+    /// What a reset tells comes next on the console.
+    #[tactic(auto, using(crate::proofs::Known::rose_on, crate::proofs::Known::all_same_on, crate::proofs::Known::caused_on))]
+    pub(crate) fn reset<J: Source>(
+        &mut self,
+        record: Option<Record>,
+        job: &mut J,
+    ) -> Result<Option<Finding>, Unread>
+        requires known { KnowsJob self.old.sending.reader (J.state job.old) }
+        requires next { IsNext self.old «record» }
+        ensures read { MatchResult result (λ found. KnowsJob self.new.sending.reader (J.state job.new) × IsSame (J.state job.old) (J.state job.new)) (λ e. (e ≡ Unread.Job) × Rose (J.state job.old).faults (J.state job.new).faults) }
+        ensures listening { self.new.listening.reader ≡ self.old.listening.reader }
+        ensures recorded { self.new.recorded.reader ≡ self.old.recorded.reader }
+        ensures goes_on { IfOk result (λ found. (console steps : SourceState) → GoesOn self.old self.new (J.state job.old) console steps (J.state job.new) console steps found) }
+        ensures along { IsDone self.old.course «record» → (not self.old.course.unanswered && self.old.course.line.halts) ≡ false → IfOk result (λ found. (console steps : SourceState) → StaysAlongIf (λ point more told rest. IsUntaken self.old.course «record» rest × IsResetTold self.old.listening.known told) self.old self.new (J.state job.old) console steps (J.state job.new) console steps found) }
+    {
+        let Some(record) = record else {
+            return self.drop_lines(None, job);
+        };
+        if let Some(k) = self.reset_behind(&record) {
+            return self.drop_lines(Some(k), job);
+        }
+        if self.may_be_begun(&record) {
+            return self.begin_next(job);
+        }
+        self.break_off();
+        Ok(None)
+    }
+
+    /// The number of the last line, if this is the mark of a reset behind it.
+    fn reset_behind(&self, given: &Record) -> Option<u32>
+        ensures some { IfSome result (λ k. (given.now ≡ kinds.Mark (ResetMark k)) × (k + 1 ≡ self.now.course.work.number)) }
+        ensures none { result ≡ None → (k : ℕ) → given.now ≡ kinds.Mark (ResetMark k) → k + 1 ≡ self.now.course.work.number → ⊥ }
+    {
+        match given {
+            Record::Mark(Mark::Reset(k)) if u64::from(*k) + 1 == u64::from(self.course.number()) =>
+                { Some(*k) }
+            _ => None,
+        }
+    }
+
+    /// The next line is begun, and a reset keeps it from its answer.
+    #[tactic(auto, using(crate::proofs::Known::rose_on, crate::proofs::Known::all_same_on, crate::proofs::Known::caused_on))]
+    fn begin_next<J: Source>(&mut self, job: &mut J) -> Result<Option<Finding>, Unread>
+        requires known { KnowsJob self.old.sending.reader (J.state job.old) }
+        ensures read { MatchResult result (λ found. KnowsJob self.new.sending.reader (J.state job.new) × IsSame (J.state job.old) (J.state job.new)) (λ e. (e ≡ Unread.Job) × Rose (J.state job.old).faults (J.state job.new).faults) }
+        ensures listening { self.new.listening.reader ≡ self.old.listening.reader }
+        ensures recorded { self.new.recorded.reader ≡ self.old.recorded.reader }
+        ensures goes_on { IfOk result (λ found. (console steps : SourceState) → GoesOn self.old self.new (J.state job.old) console steps (J.state job.new) console steps found) }
+        ensures along { self.old.course.work.left ≡ [] → IfOk result (λ found. (console steps : SourceState) → StaysAlongIf BrokenComes self.old self.new (J.state job.old) console steps (J.state job.new) console steps found) }
+    {
+        match self.sending.look(job) {
+            Err(_) => Err(Unread::Job),
+            Ok(item) => {
+                self.begin_unanswered(item);
+                Ok(None)
+            }
+        }
+    }
+
+    /// The line that waits is begun, and not answered, if one does.
+    fn begin_unanswered(&mut self, item: Item)
+        requires item { IsItem item self.old.sending }
+        ensures along { item ≡ Item.Line → self.old.course.work.left ≡ [] → (job console steps : SourceState) → ReadsAlongIf [] BrokenComes self.old self.new job console steps None }
+        ensures so_far { (job console steps : SourceState) → GoesOn self.old self.new job console steps job console steps None }
+        ensures sending { self.new.sending.reader ≡ self.old.sending.reader }
+        ensures listening { self.new.listening.reader ≡ self.old.listening.reader }
+        ensures recorded { self.new.recorded.reader ≡ self.old.recorded.reader }
+    {
+        match item {
+            Item::Line => self.break_line(),
+            Item::Stop | Item::Nothing => self.break_off(),
+        }
+    }
+
+    /// The line that waits is begun, and not answered.
+    fn break_line(&mut self)
+        requires line { IsItem Item.Line self.old.sending }
+        ensures along { self.old.course.work.left ≡ [] → (job console steps : SourceState) → ReadsAlongIf [] BrokenComes self.old self.new job console steps None }
+        ensures so_far { (job console steps : SourceState) → GoesOn self.old self.new job console steps job console steps None }
+        ensures sending { self.new.sending.reader ≡ self.old.sending.reader }
+        ensures listening { self.new.listening.reader ≡ self.old.listening.reader }
+        ensures recorded { self.new.recorded.reader ≡ self.old.recorded.reader }
+    {
+        let line = self.sending.kept();
+        if self.course.begin_unanswered(&line) {
+            self.sending.take_line();
+            return;
+        }
+        self.break_off();
+    }
+
+    /// Whether this record asks for a line that is begun and not answered.
+    fn may_be_begun(&self, given: &Record) -> bool
+        ensures { IsTrue result ↔ MayBeOfLine self.now.course.work.number given.now }
+    {
+        match given {
+            Record::Mark(Mark::Reset(k) | Mark::Cut(k)) => *k == self.course.number(),
+            given => !is_ending(given),
+        }
+    }
+
+    /// Lines are dropped up to the next reset, whose mark is behind this line if records count.
+    #[tactic(auto, using(crate::proofs::Known::rose_on, crate::proofs::Known::all_same_on, crate::proofs::Known::caused_on))]
+    fn drop_lines<J: Source>(
+        &mut self,
+        mark: Option<u32>,
+        job: &mut J,
+    ) -> Result<Option<Finding>, Unread>
+        requires known { KnowsJob self.old.sending.reader (J.state job.old) }
+        requires next { IsNext self.old (mark_of mark) }
+        ensures read { MatchResult result (λ found. KnowsJob self.new.sending.reader (J.state job.new) × IsSame (J.state job.old) (J.state job.new)) (λ e. (e ≡ Unread.Job) × Rose (J.state job.old).faults (J.state job.new).faults) }
+        ensures listening { self.new.listening.reader ≡ self.old.listening.reader }
+        ensures recorded { self.new.recorded.reader ≡ self.old.recorded.reader }
+        ensures goes_on { IfOk result (λ found. (console steps : SourceState) → GoesOn self.old self.new (J.state job.old) console steps (J.state job.new) console steps found) }
+        ensures along { self.old.course.work.left ≡ [] → IfOk result (λ found. (console steps : SourceState) → StaysAlongIf (λ point more told rest. (lines : List (List ℕ)) × ResetComes mark lines (is_alarm self.old.listening.known) point more told rest) self.old self.new (J.state job.old) console steps (J.state job.new) console steps found) }
+    {
+        let alarm = is_alarm(self.listening.known());
+        let mut dropped: u32 = 0;
+        'lines: for _ in 0..16_777_217_u32 {
+            match self.sending.look(job) {
+                Err(_) => return Err(Unread::Job),
+                Ok(Item::Line) => {
+                    self.sending.take_line();
+                    dropped = dropped.saturating_add(1);
+                }
+                Ok(Item::Stop) => {
+                    self.sending.take_stop();
+                    self.make_reset(mark, dropped, alarm);
+                    return Ok(None);
+                }
+                Ok(Item::Nothing) => {
+                    return Ok(Some(self.none_comes(dropped)));
+                }
+            }
+        }
+        Ok(Some(self.bad_behind()))
+    }
+
+    /// No reset comes of the job: the line that waits has none of the replies that it may have.
+    fn none_comes(&self, waiting: u32) -> Finding
+        ensures { (line : ℕ) × (result ≡ Finding.BadReplies line) }
+    {
+        if waiting == 0 {
+            return self.bad_behind();
+        }
+        Finding::BadReplies(self.course.number())
+    }
+
+    /// A reset comes, with its mark if records count.
+    fn make_reset(&mut self, mark: Option<u32>, dropped: u32, alarm: bool)
+        requires next { IsNext self.old (mark_of mark) }
+        ensures along { self.old.course.work.left ≡ [] → (lines : List (List ℕ)) → dropped ≡ length lines → (job console steps : SourceState) → ReadsAlongIf (map a_text lines ++ a_stop ∷ []) (ResetComes mark lines alarm) self.old self.new job console steps None }
+        ensures so_far { (lines : List (List ℕ)) → dropped ≡ length lines → (job console steps : SourceState) (job_text console_text steps_text : List ℕ) →
+            IsDropping self.old job console steps job_text console_text steps_text (map a_text lines ++ a_stop ∷ []) → IsUnderWay self.new job console steps job_text console_text steps_text }
+        ensures sending { self.new.sending.reader ≡ self.old.sending.reader }
+        ensures listening { self.new.listening.reader ≡ self.old.listening.reader }
+        ensures recorded { self.new.recorded.reader ≡ self.old.recorded.reader }
+    {
+        match mark {
+            Some(k) => self.take_reset(k, dropped, alarm),
+            None => self.pass_reset(dropped, alarm),
+        }
+    }
+
+    /// A reset comes, with this mark.
+    fn take_reset(&mut self, k: u32, dropped: u32, alarm: bool)
+        requires next { IsNext self.old (mark_of (Some k)) }
+        ensures along { self.old.course.work.left ≡ [] → (lines : List (List ℕ)) → dropped ≡ length lines → (job console steps : SourceState) → ReadsAlongIf (map a_text lines ++ a_stop ∷ []) (ResetComes (Some k) lines alarm) self.old self.new job console steps None }
+        ensures so_far { (lines : List (List ℕ)) → dropped ≡ length lines → (job console steps : SourceState) (job_text console_text steps_text : List ℕ) →
+            IsDropping self.old job console steps job_text console_text steps_text (map a_text lines ++ a_stop ∷ []) → IsUnderWay self.new job console steps job_text console_text steps_text }
+        ensures sending { self.new.sending.reader ≡ self.old.sending.reader }
+        ensures listening { self.new.listening.reader ≡ self.old.listening.reader }
+        ensures recorded { self.new.recorded.reader ≡ self.old.recorded.reader }
+    {
+        if self.course.reset(k, dropped, alarm) {
+            self.recorded.take();
+            return;
+        }
+        self.break_off();
+        self.pass_reset(dropped, alarm);
+    }
+
+    /// A reset comes where records count no more.
+    fn pass_reset(&mut self, dropped: u32, alarm: bool)
+        requires broken { self.old.broken ≡ None → ⊥ }
+        ensures sending { self.new.sending ≡ self.old.sending }
+        ensures listening { self.new.listening ≡ self.old.listening }
+        ensures recorded { self.new.recorded ≡ self.old.recorded }
+        ensures broken { self.new.broken ≡ None → ⊥ }
+    {
+        let _ = self.course.reset_unrecorded(dropped, alarm);
+    }
+}
