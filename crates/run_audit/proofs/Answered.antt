@@ -1,12 +1,11 @@
 -- What is answered if no fault rose.
-use Rattle.std.proofs.Common.{◌≡◌, ◌↔◌, ℕ, ◌-◌, ◌<◌, ◌^◌, true, List, refl, subst, arith, Some}
+use Rattle.std.proofs.Common.{◌≡◌, ◌↔◌, ℕ, ◌-◌, ◌<◌, ◌^◌, true, List, ap, refl, subst, arith, Some}
 use Rattle.std.specs.declared.option.Option.{Option}
 use Rattle.outside.specs.Causes.{Rose, SourceState, SinkState}
-use Rattle.audit_rules.specs.Findings.{Finds, FitsWith, HasForeign, IsTooLong, exit_of}
+use Rattle.audit_rules.specs.Findings.{exit_of}
 use Rattle.audit_rules.specs.declared.Audit.{Audit}
 use Rattle.audit_rules.specs.declared.Audit.TheVariants.{Fits, Misfit, Usage, JobFault, ConsoleFault, StepsFault, OutFault, BadReplies, Foreign, TooLong}
-use Rattle.audit_rules.proofs.Finding.{fits_exactly}
-use Rattle.run_audit.specs.Auditing.{IsAudited, FoundOf, TellsRightly, is_found}
+use Rattle.run_audit.specs.Auditing.{FitAuditably, IsAnswered, RightOf, TellsRightly, is_found}
 
 not_risen : {A : Type 0} (before now : ℕ) → now ≡ before → before < 2 ^ 64 - 1 → Rose before now → A
 not_risen before now same few rose = absurd (grind (arith, same, few, rose))
@@ -23,26 +22,14 @@ found_some (BadReplies n) u j c s o = refl
 found_some (Foreign n) u j c s o = refl
 found_some TooLong u j c s o = refl
 
-found_of : (job console steps : List ℕ) (l m n : Option (List ℕ)) (a : Audit) → l ≡ Some job → m ≡ Some console → n ≡ Some steps → FoundOf l m n a → is_found a ≡ true → Finds job console steps a
-found_of job console steps l m n a e f g found is =
-    subst (λ (o : Option (List ℕ)). FoundOf (Some job) (Some console) o a) g
-    (subst (λ (o : Option (List ℕ)). FoundOf (Some job) o n a) f (subst (λ (o : Option (List ℕ)). FoundOf o m n a) e found)) is
+right_of : (job console steps : List ℕ) (l m n : Option (List ℕ)) (a : Audit) → l ≡ Some job → m ≡ Some console → n ≡ Some steps → RightOf l m n a → TellsRightly job console steps a
+right_of job console steps l m n a e f g right =
+    subst (λ (o : Option (List ℕ)). RightOf (Some job) (Some console) o a) g
+    (subst (λ (o : Option (List ℕ)). RightOf (Some job) o n a) f (subst (λ (o : Option (List ℕ)). RightOf o m n a) e right))
 
-pub tells : (job_text console_text steps_text : List ℕ) (job job_behind console console_behind steps steps_behind : SourceState) (out out_behind : SinkState) (a : Audit)
-    → IsAudited 3 job job_behind console console_behind steps steps_behind out out_behind a
-    → job.left ≡ Some job_text → console.left ≡ Some console_text → steps.left ≡ Some steps_text
-    → job_behind.faults ≡ job.faults → console_behind.faults ≡ console.faults → steps_behind.faults ≡ steps.faults → out_behind.faults ≡ out.faults
-    → job.faults < 2 ^ 64 - 1 → console.faults < 2 ^ 64 - 1 → steps.faults < 2 ^ 64 - 1 → out.faults < 2 ^ 64 - 1
-    → (IsTooLong console_text steps_text → ⊥) → (HasForeign job_text console_text steps_text → ⊥)
-    → (exit_of a ≡ 0) ↔ ((events : ℕ) × FitsWith job_text console_text steps_text events)
-tells job_text console_text steps_text job job_behind console console_behind steps steps_behind out out_behind a is l m n j c s o fj fc fs fo short audited =
-    let some = found_some a (λ e. is.usage.0 e refl) (λ e. not_risen job.faults job_behind.faults j fj (is.job_fault e)) (λ e. not_risen console.faults console_behind.faults c fc (is.console_fault e))
-    (λ e. not_risen steps.faults steps_behind.faults s fs (is.steps_fault e)) (λ e. not_risen out.faults out_behind.faults o fo (is.out_fault e)) in
-    fits_exactly job_text console_text steps_text a (found_of job_text console_text steps_text job.left console.left steps.left a l m n is.found some) short audited
-
--- the status 0 is that of texts that fit
-pub told_to_fit : (job console steps : List ℕ) (a : Audit) → TellsRightly job console steps a → exit_of a ≡ 0 → (events : ℕ) × FitsWith job console steps events
-told_to_fit job console steps (Fits n) right e = (n, (right.fits n refl).2)
+-- the status 0 is that of texts that fit, and of which that can be said
+pub told_to_fit : (job console steps : List ℕ) (a : Audit) → TellsRightly job console steps a → exit_of a ≡ 0 → FitAuditably job console steps
+told_to_fit job console steps (Fits n) right e = (let f = right.auditable n refl in (n, f.0, f.1))
 told_to_fit job console steps (Misfit n) right e = absurd cc
 told_to_fit job console steps Usage right e = absurd cc
 told_to_fit job console steps JobFault right e = absurd cc
@@ -52,3 +39,15 @@ told_to_fit job console steps OutFault right e = absurd cc
 told_to_fit job console steps (BadReplies n) right e = absurd cc
 told_to_fit job console steps (Foreign n) right e = absurd cc
 told_to_fit job console steps TooLong right e = absurd cc
+
+pub tells : (job_text console_text steps_text : List ℕ) (job job_behind console console_behind steps steps_behind : SourceState) (out out_behind : SinkState) (a : Audit)
+    → RightOf job.left console.left steps.left a → IsAnswered 3 job job_behind console console_behind steps steps_behind out out_behind a
+    → job.left ≡ Some job_text → console.left ≡ Some console_text → steps.left ≡ Some steps_text
+    → job_behind.faults ≡ job.faults → console_behind.faults ≡ console.faults → steps_behind.faults ≡ steps.faults → out_behind.faults ≡ out.faults
+    → job.faults < 2 ^ 64 - 1 → console.faults < 2 ^ 64 - 1 → steps.faults < 2 ^ 64 - 1 → out.faults < 2 ^ 64 - 1
+    → (exit_of a ≡ 0) ↔ FitAuditably job_text console_text steps_text
+tells job_text console_text steps_text job job_behind console console_behind steps steps_behind out out_behind a right is l m n j c s o fj fc fs fo =
+    let some = found_some a (λ e. is.usage.0 e refl) (λ e. not_risen job.faults job_behind.faults j fj (is.job_fault e)) (λ e. not_risen console.faults console_behind.faults c fc (is.console_fault e))
+    (λ e. not_risen steps.faults steps_behind.faults s fs (is.steps_fault e)) (λ e. not_risen out.faults out_behind.faults o fo (is.out_fault e)) in
+    let tells = right_of job_text console_text steps_text job.left console.left steps.left a l m n right in
+    (told_to_fit job_text console_text steps_text a tells, λ fit. ap exit_of (tells.only_fits some fit.0 fit.1 fit.2))

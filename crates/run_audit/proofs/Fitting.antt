@@ -27,6 +27,7 @@ use Rattle.audit_rules.specs.StepTexts.{IsStepText, records_of}
 use Rattle.audit_course.specs.SoFar.{IsOver}
 use Rattle.audit_course.specs.declared.judge.CourseJudge.{CourseJudge}
 use Rattle.audit_rules.proofs.Alarmed.{alarm_of}
+use Rattle.run_audit.specs.Auditing.{AllAudited}
 use Rattle.run_audit.specs.SoFar.{JobSoFar, IsWhole, IsAllRead, untold_of}
 use Rattle.run_audit.proofs.JobRead.{all_sent, front_sent, cuts_are, lines_whole}
 use Rattle.run_audit.specs.declared.sending.Sending.{Sending}
@@ -60,19 +61,20 @@ ends_job s source text sent more last false number none j alarmed is all =
       few = few_of s.cuts (most_cuts text last) (cuts_are s source text (sent ++ more) false number last j all alarmed is);
     }
 
-no_event : (records : List Record) → events_among (records ++ kinds.End ∷ []) ≡ events_among records
+pub no_event : (records : List Record) → events_among (records ++ kinds.End ∷ []) ≡ events_among records
 no_event records = filter-append is_event records (kinds.End ∷ []) ∙ append-nil (events_among records)
 
 -- texts that fit, by a course that ends where the judge stands
 pub record FitFound (job console steps : List ℕ) (events line : ℕ) (halts : Bool) : Type 0 where
   pub fit : FitsWith job console steps events
+  pub audited : AllAudited fit.fit.sent
   pub alarmed : fit.fit.fits.last.before.alarmed ≡ halts
   pub number : fit.fit.fits.last.before.number ≡ line
 
 pub fit_found : (k : CourseJudge) (s : Sending) (source : SourceState) (job console steps : List ℕ) (first : State) (sent more : List Sent) (replies : List Reply) (records : List Record) (lines : List Line) (events : ℕ)
     → IsOpening first → IsOver k first sent replies records → (s.last ≡ None → more ≡ []) → JobSoFar s source job (sent ++ more) → IsAllRead s k.line.halts k.work.number → k.cuts ≤ s.cuts
-    → IsWhole console replies → IsStepText steps lines → records_of lines ≡ records ++ kinds.End ∷ [] → events ≡ length (events_among records) → FitFound job console steps events k.work.number k.line.halts
-fit_found k s source job console steps first sent more replies records lines events opens over none j all few_told w steps_are are count =
+    → IsWhole console replies → IsStepText steps lines → records_of lines ≡ records ++ kinds.End ∷ [] → events ≡ length (events_among records) → AllAudited sent → FitFound job console steps events k.work.number k.line.halts
+fit_found k s source job console steps first sent more replies records lines events opens over none j all few_told w steps_are are count audited =
     let e = ends_job s source job sent more over.last k.line.halts k.work.number none j over.alarmed over.number all in
     let n = most_cuts job over.last - k.cuts in
     let g = over.fits n in
@@ -108,7 +110,7 @@ fit_found k s source job console steps first sent more replies records lines eve
       fit = fit;
       count = count ∙ ap length (sym (no_event records)) ∙ ap (λ (rs : List Record). length (events_among rs)) (sym are);
     } in
-    record { fit = found; alarmed = over.alarmed; number = over.number }
+    record { fit = found; audited = audited; alarmed = over.alarmed; number = over.number }
 
 -- ---- each line that is sent is audited
 
@@ -116,11 +118,11 @@ differ : {A : Type 0} (b : Bool) → b ≡ true → b ≡ false → A
 differ true e f = absurd cc
 differ false e f = absurd cc
 
-or_first : (a b : Bool) → (a || b) ≡ false → a ≡ false
+pub or_first : (a b : Bool) → (a || b) ≡ false → a ≡ false
 or_first true b e = absurd cc
 or_first false b e = refl
 
-or_second : (a b : Bool) → (a || b) ≡ false → b ≡ false
+pub or_second : (a b : Bool) → (a || b) ≡ false → b ≡ false
 or_second true b e = absurd cc
 or_second false b e = e
 

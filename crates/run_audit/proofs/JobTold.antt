@@ -8,15 +8,15 @@ use Rattle.outside.specs.Causes.{SourceState}
 use Rattle.run_rules.specs.Readings.{largest_job}
 use Rattle.run_texts.specs.Sent.{Sent, kept_of, resets_of, sent_by}
 use Rattle.run_texts.specs.Sent.Sent.{a_text, a_stop}
-use Rattle.audit_rules.specs.Findings.{foreign_in}
+use Rattle.audit_rules.specs.Findings.{is_foreign, foreign_in}
 use Rattle.audit_rules.specs.Scanned.{scanned, sent_in}
 use Rattle.audit_course.specs.SoFar.{texts_among}
-use Rattle.run_audit.specs.Along.{AllAudited}
+use Rattle.run_audit.specs.Auditing.{AllAudited}
 use Rattle.run_audit.specs.SoFar.{JobSoFar, IsItem, stops_of, untold_of}
 use Rattle.run_audit.specs.declared.sending.Item.{Item}
 use Rattle.run_audit.specs.declared.sending.Item.TheVariants.{Line, Stop, Nothing}
 use Rattle.run_audit.specs.declared.sending.Sending.{Sending}
-use Rattle.run_audit.proofs.Fitting.{not_among}
+use Rattle.run_audit.proofs.Fitting.{not_among, or_first, or_second}
 use Rattle.audit_readers.proofs.Sizes.{scanned_few}
 use Rattle.run_audit.proofs.JobRead.{IsFront, few_lines, front_sent}
 
@@ -117,3 +117,31 @@ none_foreign_told s source text told j none all = by_number (nat_eq s.foreign 0)
   by_number false e =
       let f = j.foreign.some (grind (arith, nat_tests, e)) in
       not_among f.before f.here f.behind (ap foreign_in (sym f.split) ∙ clean) f.is
+
+more_stops : (n : ℕ) (more : List Sent) → AllAudited more → AllAudited (replicate n a_stop ++ more)
+more_stops zero more all = all
+more_stops (suc n) more all = more_stops n more all
+
+stops_audited : (last : Option ℕ) (over : Bool) (rest : List ℕ) → AllAudited (stops_of last over rest)
+stops_audited None false rest = tt
+stops_audited None true rest = subst AllAudited (append-nil (replicate (resets_of rest) a_stop)) (more_stops (resets_of rest) [] tt)
+stops_audited (Some k) over rest = tt
+
+lines_audited : (lines : List (List ℕ)) (more : List Sent) → foreign_in lines ≡ false → AllAudited more → AllAudited (flat_map sent_by lines ++ more)
+lines_audited [] more clean all = all
+lines_audited (l ∷ ls) more clean all =
+    subst AllAudited (sym (append_assoc (sent_by l) (flat_map sent_by ls) more ∙ append_assoc (replicate (resets_of l) a_stop) (a_text (kept_of l) ∷ []) (flat_map sent_by ls ++ more)))
+    (more_stops (resets_of l) (a_text (kept_of l) ∷ (flat_map sent_by ls ++ more)) (
+      or_first (is_foreign (kept_of l)) (foreign_in ls) clean,
+      lines_audited ls more (or_second (is_foreign (kept_of l)) (foreign_in ls) clean) all,
+    ))
+
+pub first_audited : (xs ys : List Sent) → AllAudited (xs ++ ys) → AllAudited xs
+first_audited [] ys all = tt
+first_audited (a_text kept ∷ xs) ys all = (all.0, first_audited xs ys all.1)
+first_audited (a_stop ∷ xs) ys all = first_audited xs ys all
+
+-- if none was read that is not
+pub told_audited : (s : Sending) (source : SourceState) (text : List ℕ) (told : List Sent) → JobSoFar s source text told → s.foreign ≡ 0 → AllAudited told
+told_audited s source text told j clean =
+    first_audited told (untold_of s) (subst AllAudited (sym j.told_are) (lines_audited j.lines (stops_of s.last s.over j.left.rest) (j.foreign.none clean) (stops_audited s.last s.over j.left.rest)))

@@ -12,3 +12,4 @@ mod Along
 mod FewAlong
 mod NextAlong
 mod LinesAlong
+pub mod Ended

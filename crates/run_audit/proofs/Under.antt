@@ -17,6 +17,7 @@ use Rattle.audit_course.specs.SoFar.{HasJudged, IsOver, StaysSoFar, AddsSent, Ad
 use Rattle.audit_course.specs.declared.judge.CourseJudge.{CourseJudge}
 use Rattle.audit_rules.specs.Findings.{FitsWith, HasForeign, IsTooLong}
 use Rattle.audit_rules.specs.Telling.{HasNoBanner}
+use Rattle.run_audit.specs.Auditing.{AllAudited}
 use Rattle.run_audit.specs.SoFar.{JobSoFar, ConsoleSoFar, StepsSoFar, IsRead, IsReadTo, IsReadOn, EndsConsole, Hears, StaysSent, StaysTold, StaysRecorded, IsWhole, AreRecords, IsAllRead}
 use Rattle.run_audit.specs.UnderWay.{AreRead, IsUnderWay, IsDropping, IsAhead, IsOpened, Finishes, FinishesSteps, MayFit, CanBeRead, GoesOn, IsNext, IsShort}
 use Rattle.run_audit.specs.declared.auditor.Auditor.{Auditor}
@@ -26,6 +27,7 @@ use Rattle.run_audit.specs.declared.auditor.Finding.TheVariants.{Fits, Misfit, B
 use Rattle.run_audit.specs.declared.sending.Sending.{Sending}
 use Rattle.run_audit.specs.declared.recorded.Recorded.{Recorded}
 use Rattle.run_audit.proofs.Fitting.{fit_found, none_foreign}
+use Rattle.run_audit.proofs.JobTold.{first_audited, told_audited}
 use Rattle.run_audit.proofs.ConsoleRead.{short_text, is_long}
 use Rattle.run_audit.proofs.StepsRead.{read_to}
 use Rattle.audit_readers.specs.Windows.{KnowsEnd, too_long}
@@ -247,14 +249,15 @@ finish_on a b d j c s k l m n o (Some found) f g = λ jt ct st u. g jt ct st (f 
 -- the record of the end was told, and nothing follows
 pub fits : (a b : Auditor) (j c s : SourceState) (events : ℕ) (jt ct st : List ℕ) → (u : IsAhead a j c s jt ct st) → a.broken ≡ None → IsWhole ct u.dropping.replies → AreRecords st (u.dropping.records ++ kinds.End ∷ [])
     → EndsSoFar a.course b.course → b.sending ≡ a.sending → IsAllRead b.sending b.course.line.halts b.course.work.number → b.course.cuts ≤ b.sending.cuts → b.sending.foreign ≡ 0 → events ≡ a.course.events
-    → FitsWith jt ct st events × (HasForeign jt ct st → ⊥)
+    → ((f : FitsWith jt ct st events) × AllAudited f.fit.sent) × (HasForeign jt ct st → ⊥)
 fits a b j c s events jt ct st u none console steps ends same all few clean count =
     let d = u.dropping in
     let so_far = d.judged none in
     let read : JobSoFar b.sending j jt (d.sent ++ u.more) = subst (λ (x : Sending). JobSoFar x j jt (d.sent ++ u.more)) (sym same) d.are_read.job_so_far in
     let f = fit_found b.course b.sending j jt ct st d.first d.sent u.more d.replies d.records steps.lines events d.opens (ends d.first d.sent d.replies d.records so_far)
-    (subst (λ (x : Sending). x.last ≡ None → u.more ≡ []) (sym same) u.none) read all few console steps.are_lines steps.are (count ∙ so_far.events) in
-    (f.fit, λ h. none_foreign b.sending j jt ct st (d.sent ++ u.more) events b.course.work.number b.course.line.halts clean read all f h)
+    (subst (λ (x : Sending). x.last ≡ None → u.more ≡ []) (sym same) u.none) read all few console steps.are_lines steps.are (count ∙ so_far.events)
+    (first_audited d.sent u.more (told_audited b.sending j jt (d.sent ++ u.more) read clean)) in
+    ((f.fit, f.audited), λ h. none_foreign b.sending j jt ct st (d.sent ++ u.more) events b.course.work.number b.course.line.halts clean read all f h)
 
 -- ---- the banner
 

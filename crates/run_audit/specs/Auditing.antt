@@ -1,10 +1,11 @@
 -- What an audit of three texts answers and prints.
-use Rattle.std.specs.Prelude.{◌≡◌, ◌≢◌, ◌↔◌, ℕ, ◌+◌, Bool, true, false, List, ◌∷◌, ◌++◌, length, Some, None}
+use Rattle.std.specs.Prelude.{◌≡◌, ◌≢◌, ◌↔◌, ℕ, ◌+◌, Bool, true, false, List, [], ◌∷◌, ◌++◌, length, Some, None}
 use Rattle.std.specs.declared.option.Option.{Option}
 use Rattle.std.specs.Io.KnownBytes.{Appends}
 use Rattle.outside.specs.Causes.{Rose, SourceState, SinkState}
-use Rattle.run_texts.specs.Sent.{kept_of}
-use Rattle.audit_rules.specs.Findings.{Finds, IsTooLong, is_foreign, foreign_in, audit_text}
+use Rattle.run_texts.specs.Sent.{Sent, kept_of}
+use Rattle.run_texts.specs.Sent.Sent.{a_text, a_stop}
+use Rattle.audit_rules.specs.Findings.{Finds, FitsWith, IsTooLong, is_foreign, foreign_in, audit_text}
 use Rattle.audit_rules.specs.Scanned.{scanned}
 use Rattle.audit_rules.specs.Telling.{HasNoBanner}
 use Rattle.audit_rules.specs.declared.Audit.{Audit}
@@ -22,13 +23,6 @@ is_found OutFault = false
 is_found (BadReplies line) = true
 is_found (Foreign line) = true
 is_found TooLong = true
-
--- It speaks of what the sources had left, if they tell it.
-abbrev pub FoundOf : Option (List ℕ) → Option (List ℕ) → Option (List ℕ) → Audit → Type 0
-FoundOf (Some job) (Some console) (Some steps) a = is_found a ≡ true → Finds job console steps a
-FoundOf (Some job) (Some console) None a = Unit {0}
-FoundOf (Some job) None steps a = Unit {0}
-FoundOf None console steps a = Unit {0}
 
 -- a front of some answer's line was printed
 pub record PrintsFront (before now : SinkState) : Type 0 where
@@ -48,12 +42,30 @@ pub record IsFirstForeign (lines : List (List ℕ)) (line : ℕ) : Type 0 where
   pub first : foreign_in before ≡ false
   pub is : is_foreign (kept_of here) ≡ true
 
--- What is proved of an answer to texts that are read whole. If it says that they fit, that is found of them. It says that
--- one is too long if one is, and only then. A line of which it says that it is not audited is the first such line of those
--- that a job sends if no alarm ends it. And of a console that does not begin with the banner it says that the reply to line
--- 1 is bad, and no other, if it says that of a reply, and of no record that it breaks a rule.
+-- each of these lines is audited
+abbrev pub AllAudited : List Sent → Type 0
+AllAudited [] = Unit {0}
+AllAudited (a_text kept ∷ more) = (is_foreign kept ≡ false) × AllAudited more
+AllAudited (a_stop ∷ more) = AllAudited more
+
+-- Texts that fit, and of which an audit can say so: neither is too long, and each line that is sent is audited.
+pub record IsAuditable (job console steps : List ℕ) (events : ℕ) (f : FitsWith job console steps events) : Type 0 where
+  pub short : IsTooLong console steps → ⊥
+  pub audited : AllAudited f.fit.sent
+
+-- texts that fit, and of which an audit can say so
+abbrev pub FitAuditably : List ℕ → List ℕ → List ℕ → Type 0
+FitAuditably job console steps = (events : ℕ) × (f : FitsWith job console steps events) × IsAuditable job console steps events f
+
+-- What is proved of an answer to texts that are read whole. If it says that they fit, that is found of them, and it can be said
+-- of them; and if they fit and that can be said of them, it says so. It says that one is too long if one is, and only then. A
+-- line of which it says that it is not audited is the first such line of those that a job sends if no alarm ends it. And of a
+-- console that does not begin with the banner it says that the reply to line 1 is bad, and no other, if it says that of a reply,
+-- and of no record that it breaks a rule.
 pub record TellsRightly (job console steps : List ℕ) (a : Audit) : Type 0 where
   pub fits : (events : ℕ) → a ≡ Fits events → Finds job console steps (Fits events)
+  pub auditable : (events : ℕ) → a ≡ Fits events → (f : FitsWith job console steps events) × IsAuditable job console steps events f
+  pub only_fits : is_found a ≡ true → (events : ℕ) (f : FitsWith job console steps events) → IsAuditable job console steps events f → a ≡ Fits events
   pub too_long : a ≡ TooLong → IsTooLong console steps
   pub only_too_long : is_found a ≡ true → IsTooLong console steps → a ≡ TooLong
   pub foreign : (line : ℕ) → a ≡ Foreign line → IsFirstForeign (scanned job).lines line
@@ -75,25 +87,14 @@ pub record IsOfTexts (job job_behind console console_behind steps steps_behind :
   pub console_fault : a ≡ ConsoleFault → Rose console.faults console_behind.faults
   pub steps_fault : a ≡ StepsFault → Rose steps.faults steps_behind.faults
 
--- The answer to so many words, whatever is found: `IsAudited` but for what is found.
+-- The answer to so many words, by what the three sources and the output were before and are after it, whatever is found. Not three
+-- words are wrong usage; a fault is answered only if the count of its object rose. The line of the answer is printed, or a front of a
+-- line if the output failed.
 pub record IsAnswered (words : ℕ) (job job_behind console console_behind steps steps_behind : SourceState) (out out_behind : SinkState) (a : Audit) : Type 0 where
   pub usage : (a ≡ Usage) ↔ (words ≢ 3)
   pub job_fault : a ≡ JobFault → Rose job.faults job_behind.faults
   pub console_fault : a ≡ ConsoleFault → Rose console.faults console_behind.faults
   pub steps_fault : a ≡ StepsFault → Rose steps.faults steps_behind.faults
   pub out_fault : a ≡ OutFault → Rose out.faults out_behind.faults
-  pub printed : (Rose out.faults out_behind.faults → ⊥) → Appends out.held out_behind.held (audit_text a)
-  pub front : PrintsFront out out_behind
-
--- The answer to so many words, by what the three sources and the output were before and are after it. Not three words are
--- wrong usage; a fault is answered only if the count of its object rose; and what is found is found of the texts. The
--- line of the answer is printed, or a front of a line if the output failed.
-pub record IsAudited (words : ℕ) (job job_behind console console_behind steps steps_behind : SourceState) (out out_behind : SinkState) (a : Audit) : Type 0 where
-  pub usage : (a ≡ Usage) ↔ (words ≢ 3)
-  pub job_fault : a ≡ JobFault → Rose job.faults job_behind.faults
-  pub console_fault : a ≡ ConsoleFault → Rose console.faults console_behind.faults
-  pub steps_fault : a ≡ StepsFault → Rose steps.faults steps_behind.faults
-  pub out_fault : a ≡ OutFault → Rose out.faults out_behind.faults
-  pub found : FoundOf job.left console.left steps.left a
   pub printed : (Rose out.faults out_behind.faults → ⊥) → Appends out.held out_behind.held (audit_text a)
   pub front : PrintsFront out out_behind

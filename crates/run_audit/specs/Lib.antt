@@ -4,3 +4,4 @@ pub mod Going
 pub mod SoFar
 pub mod UnderWay
 pub mod Along
+pub mod Ended

@@ -1,5 +1,5 @@
 -- How far an audit has come: what its judge was told of the three texts, and what is found.
-use Rattle.std.specs.Prelude.{◌≡◌, ◌≤◌, ℕ, ◌+◌, ◌-◌, not, List, [], ◌++◌, Some, None}
+use Rattle.std.specs.Prelude.{◌≡◌, ◌≤◌, ℕ, ◌+◌, ◌-◌, false, not, List, [], ◌++◌, Some, None}
 use Rattle.std.specs.declared.option.Option.{Option}
 use Rattle.outside.specs.Causes.{SourceState}
 use Rattle.status_report.specs.declared.Reply.{Reply}
@@ -12,8 +12,8 @@ use Rattle.run_texts.specs.Sent.{Sent}
 use Rattle.audit_rules.specs.Findings.{FitsWith, HasForeign, IsTooLong}
 use Rattle.audit_rules.specs.Scanned.{scanned}
 use Rattle.audit_rules.specs.Telling.{HasNoBanner}
-use Rattle.audit_course.specs.SoFar.{HasJudged, EndsSoFar}
-use Rattle.run_audit.specs.Auditing.{IsFirstForeign}
+use Rattle.audit_course.specs.SoFar.{HasJudged, EndsSoFar, MayBegin}
+use Rattle.run_audit.specs.Auditing.{AllAudited, IsAuditable, IsFirstForeign}
 use Rattle.run_audit.specs.declared.auditor.Auditor.{Auditor}
 use Rattle.run_audit.specs.declared.auditor.Finding.{Finding}
 use Rattle.run_audit.specs.declared.auditor.Finding.TheVariants.{Fits, Misfit, BadReplies, Foreign, TooLong}
@@ -45,7 +45,7 @@ abbrev pub mark_of : Option ℕ → Option Record
 mark_of None = None
 mark_of (Some k) = Some (kinds.Mark (ResetMark k))
 
--- Nothing was told yet; the form of the steps was read.
+-- Nothing was told yet, no line is at hand, and no record has broken a rule; the form of the steps was read.
 pub record IsOpened (a : Auditor) (job console steps : SourceState) (job_text console_text steps_text : List ℕ) : Type 0 where
   pub first : State
   pub opens : IsOpening first
@@ -53,6 +53,10 @@ pub record IsOpened (a : Auditor) (job console steps : SourceState) (job_text co
   pub console_opens : Opens a.listening console console_text
   pub steps_so_far : StepsSoFar a.recorded steps steps_text []
   pub judged : HasJudged a.course first [] [] []
+  pub begins : MayBegin a.course
+  pub kept : a.course.lost ≡ false
+  pub counts : a.broken ≡ None
+  pub calm : a.sending.last ≡ None
 
 -- It is under way, and the judge was not told yet of this of the job.
 pub record IsDropping (a : Auditor) (job console steps : SourceState) (job_text console_text steps_text : List ℕ) (more : List Sent) : Type 0 where
@@ -74,7 +78,7 @@ pub record IsAhead (a : Auditor) (job console steps : SourceState) (job_text con
 
 -- it is right, as far as that is proved
 abbrev pub IsRight : List ℕ → List ℕ → List ℕ → Finding → Type 0
-IsRight job console steps (Fits events) = FitsWith job console steps events × (HasForeign job console steps → ⊥)
+IsRight job console steps (Fits events) = ((f : FitsWith job console steps events) × AllAudited f.fit.sent) × (HasForeign job console steps → ⊥)
 IsRight job console steps (Misfit at) = HasNoBanner console → ⊥
 IsRight job console steps (BadReplies line) = HasNoBanner console → line ≡ 1
 IsRight job console steps (Foreign line) = IsFirstForeign (scanned job).lines line
@@ -92,6 +96,10 @@ IsShort console steps TooLong = Unit {0}
 pub record IsSaid (job console steps : List ℕ) (found : Finding) : Type 0 where
   pub right : IsRight job console steps found
   pub short : IsShort console steps found
+
+-- of texts that fit, and of which an audit can say so, that is found
+pub record OnlyFits (job console steps : List ℕ) (found : Finding) : Type 0 where
+  pub says : (events : ℕ) (f : FitsWith job console steps events) → IsAuditable job console steps events f → found ≡ Fits events
 
 -- the three texts can be read on
 pub record CanBeRead (a : Auditor) (job console steps : SourceState) (job_text console_text steps_text : List ℕ) : Type 0 where

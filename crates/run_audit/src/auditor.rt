@@ -14,7 +14,7 @@ ghost use Rattle.run_audit.specs.Along.{StaysAlong, StaysAlongIf, ReadsAlongIf, 
 ghost use Rattle.run_audit.specs.Reading.{KnowsJob, KnowsConsole, KnowsSteps, IsSame};
 ghost use Rattle.run_audit.specs.Going.{AllKnown, AllSame, IsCaused};
 ghost use Rattle.run_audit.specs.SoFar.{StepsSoFar, IsItem, looked_for};
-ghost use Rattle.run_audit.specs.UnderWay.{IsOpened, IsNext, GoesOn, IsSaid};
+ghost use Rattle.run_audit.specs.UnderWay.{IsOpened, IsNext, GoesOn, IsSaid, OnlyFits};
 
 use crate::listening::Listening;
 use crate::recorded::Recorded;
@@ -432,6 +432,8 @@ impl Auditor {
             (λ e. IsCaused e (J.state job.old) (C.state console.old) (S.state steps.old) (J.state job.new) (C.state console.new) (S.state steps.new)) }
         ensures right { IfOk result (λ found. (job_text console_text steps_text : List ℕ) → IsOpened self.old (J.state job.old) (C.state console.old) (S.state steps.old) job_text console_text steps_text →
             IsSaid job_text console_text steps_text found) }
+        ensures along { IfOk result (λ found. (job_text console_text steps_text : List ℕ) → IsOpened self.old (J.state job.old) (C.state console.old) (S.state steps.old) job_text console_text steps_text →
+            OnlyFits job_text console_text steps_text found) }
     {
         match self.listening.begins(console) {
             Err(_) => return Err(Unread::Console),

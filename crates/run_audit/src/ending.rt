@@ -1,12 +1,16 @@
 //! How an audit ends.
 
-ghost use Rattle.std.specs.Prelude.{◌≡◌, ◌≤◌, ℕ, List, Some, None, false, MatchResult, IfOk, IsTrue};
+ghost use Rattle.std.specs.Prelude.{◌≡◌, ◌≤◌, ℕ, List, Some, None, true, false, MatchResult, IfOk, IsTrue};
 ghost use Rattle.step_line.specs.declared.Record.TheVariants as kinds;
 ghost use Rattle.outside.specs.Causes.{Rose, SourceState};
 ghost use Rattle.run_audit.specs.Reading.{KnowsJob, KnowsConsole, KnowsSteps, IsSame};
 ghost use Rattle.run_audit.specs.Going.{AllKnown, AllSame, IsCaused, EndFails};
 ghost use Rattle.run_texts.specs.Sent.{Sent};
-ghost use Rattle.run_audit.specs.SoFar.{Halts, IsAllRead, IsRead, StaysSent};
+ghost use Rattle.audit_rules.specs.Findings.{IsTooLong};
+ghost use Rattle.run_audit.specs.Along.{IsRightly};
+ghost use Rattle.run_audit.specs.Ended.{EndsAlong, EndsStepsAlong, EndStays, RefusesFit};
+ghost use Rattle.run_audit.specs.SoFar.{Halts, IsAllRead, IsItem, IsRead, StaysSent};
+ghost use Rattle.run_audit.specs.declared.auditor.Finding.{Finding as AnyFinding};
 ghost use Rattle.run_audit.specs.UnderWay.{IsUnderWay, IsDropping, IsAhead, OthersStay, JudgeStays, Finishes, FinishesSteps, MayFit, IsNext, CanBeRead, IsRight, IsSaid};
 
 use crate::auditor::{Auditor, Finding, Unread};
@@ -44,6 +48,7 @@ impl Auditor {
         requires steps { KnowsSteps self.old.recorded.reader (S.state steps.old) }
         requires next { IsNext self.old «record» }
         ensures found { IfOk result (λ found. (job : SourceState) → Finishes self.old self.new job (C.state console.old) (S.state steps.old) (C.state console.new) (S.state steps.new) found) }
+        ensures along { IfOk result (λ found. (job : SourceState) → EndsAlong self.old self.new job (C.state console.old) (S.state steps.old) found) }
         ensures read { MatchResult result (λ found. KnowsConsole self.new.listening.reader (C.state console.new) × KnowsSteps self.new.recorded.reader (S.state steps.new) × IsSame (C.state console.old) (C.state console.new) × IsSame (S.state steps.old) (S.state steps.new))
             (λ e. EndFails e (C.state console.old) (S.state steps.old) (C.state console.new) (S.state steps.new)) }
         ensures sending { self.new.sending.reader ≡ self.old.sending.reader }
@@ -68,6 +73,7 @@ impl Auditor {
         ensures sending { self.new.sending ≡ self.old.sending }
         ensures listening { self.new.listening ≡ self.old.listening }
         ensures found { IfOk result (λ found. FinishesSteps self.old self.new (S.state steps.old) (S.state steps.new) found) }
+        ensures along { IfOk result (λ found. EndsStepsAlong self.old self.new (S.state steps.old) found) }
     {
         if let Some(at) = self.broken {
             return Ok(Some(Finding::Misfit(at)));
@@ -88,6 +94,8 @@ impl Auditor {
     fn may_end(&mut self, record: Option<Record>) -> bool
         ensures next { IsTrue result → «record» ≡ Some kinds.End }
         ensures ends { IsTrue result → MayFit self.old self.new }
+        ensures no { result ≡ false → «record» ≡ Some kinds.End → RefusesFit self.old }
+        ensures course { EndStays self.old.course self.new.course }
         ensures sending { self.new.sending ≡ self.old.sending }
         ensures listening { self.new.listening ≡ self.old.listening }
         ensures recorded { self.new.recorded ≡ self.old.recorded }
@@ -101,6 +109,8 @@ impl Auditor {
     /// Whether the course may end here.
     fn ends_course(&mut self) -> bool
         ensures ends { IsTrue result → MayFit self.old self.new }
+        ensures no { result ≡ false → RefusesFit self.old }
+        ensures course { EndStays self.old.course self.new.course }
         ensures sending { self.new.sending ≡ self.old.sending }
         ensures listening { self.new.listening ≡ self.old.listening }
         ensures recorded { self.new.recorded ≡ self.old.recorded }
@@ -114,6 +124,7 @@ impl Auditor {
         ensures told { IsTrue result → IsAllRead self.now.sending self.now.course.line.halts self.now.course.work.number }
         ensures few { IsTrue result → self.now.course.cuts ≤ self.now.sending.cuts }
         ensures audited { IsTrue result → self.now.sending.foreign ≡ 0 }
+        ensures no { result ≡ false → IsAllRead self.now.sending self.now.course.line.halts self.now.course.work.number → self.now.sending.foreign ≡ 0 → self.now.course.cuts ≤ self.now.sending.cuts → ⊥ }
     {
         self.sending
             .is_all_told(self.course.is_halted(), self.course.number())
@@ -133,6 +144,7 @@ impl Auditor {
             IsUnderWay self.old (J.state job.old) console steps job_text console_text steps_text → IsAhead self.new (J.state job.new) console steps job_text console_text steps_text) }
         ensures read_on { IfOk result (λ done. (console steps : SourceState) (job_text console_text steps_text : List ℕ) →
             CanBeRead self.old (J.state job.old) console steps job_text console_text steps_text → CanBeRead self.new (J.state job.new) console steps job_text console_text steps_text) }
+        ensures over { IfOk result (λ done. self.old.sending.over ≡ true → IsItem Item.Nothing self.old.sending → self.new.sending ≡ self.old.sending) }
     {
         'rest: for _ in 0..33_554_432 {
             if !self.read_one(job)? {
@@ -152,6 +164,7 @@ impl Auditor {
             IsDropping self.old (J.state job.old) console steps job_text console_text steps_text dropped → (now : List Sent) × IsDropping self.new (J.state job.new) console steps job_text console_text steps_text now) }
         ensures reads { IfOk result (λ more. (console steps : SourceState) (job_text console_text steps_text : List ℕ) →
             CanBeRead self.old (J.state job.old) console steps job_text console_text steps_text → CanBeRead self.new (J.state job.new) console steps job_text console_text steps_text) }
+        ensures over { IfOk result (λ more. self.old.sending.over ≡ true → IsItem Item.Nothing self.old.sending → self.new.sending ≡ self.old.sending) }
     {
         match self.sending.look(job) {
             Err(_) => Err(Unread::Job),
@@ -181,6 +194,8 @@ impl Auditor {
             (λ e. IsCaused e (J.state job.old) (C.state console.old) (S.state steps.old) (J.state job.new) (C.state console.new) (S.state steps.new)) }
         ensures right { IfOk result (λ now. (job_text console_text steps_text : List ℕ) → CanBeRead self.old (J.state job.old) (C.state console.old) (S.state steps.old) job_text console_text steps_text →
             IsRight job_text console_text steps_text found → IsSaid job_text console_text steps_text now) }
+        ensures along { IfOk result (λ now. (job_text console_text steps_text : List ℕ) (events : ℕ) → CanBeRead self.old (J.state job.old) (C.state console.old) (S.state steps.old) job_text console_text steps_text →
+            (IsTooLong console_text steps_text → ⊥) → IsRightly self.old events found → now ≡ Finding.Fits events) }
     {
         self.read_job(job)?;
         self.read_texts(console, steps)?;
@@ -195,6 +210,7 @@ impl Auditor {
         ensures others { JudgeStays self.old self.new }
         ensures read_on { IfOk result (λ done. (console steps : SourceState) (job_text console_text steps_text : List ℕ) →
             CanBeRead self.old (J.state job.old) console steps job_text console_text steps_text → CanBeRead self.new (J.state job.new) console steps job_text console_text steps_text) }
+        ensures along { IfOk result (λ done. (events : ℕ) (found : AnyFinding) → IsRightly self.old events found → self.new.sending.foreign ≡ 0) }
     {
         if self.course.has_alarm() {
             return Ok(());
@@ -229,10 +245,12 @@ impl Auditor {
 
     /// What is said where this was found, of texts that are read to their ends.
     fn said(&self, found: Finding) -> Finding
-        ensures { (job console steps : SourceState) (job_text console_text steps_text : List ℕ) → CanBeRead self.now job console steps job_text console_text steps_text →
+        ensures right { (job console steps : SourceState) (job_text console_text steps_text : List ℕ) → CanBeRead self.now job console steps job_text console_text steps_text →
             KnowsConsole self.now.listening.reader console → KnowsSteps self.now.recorded.reader steps →
             IsRead self.now.listening.reader.window self.now.listening.reader.place → IsRead self.now.recorded.reader.window self.now.recorded.reader.place →
             IsRight job_text console_text steps_text found → IsSaid job_text console_text steps_text result }
+        ensures along { (job console steps : SourceState) (job_text console_text steps_text : List ℕ) → CanBeRead self.now job console steps job_text console_text steps_text →
+            (IsTooLong console_text steps_text → ⊥) → self.now.sending.foreign ≡ 0 → result ≡ found }
     {
         if self.listening.is_too_long() {
             return Finding::TooLong;

@@ -1,6 +1,15 @@
-use Rattle.std.proofs.Common.{◌∙◌, [], refl, sym}
+use Rattle.std.proofs.Common.{◌≡◌, ◌∙◌, true, ap, refl, subst, sym}
+use Rattle.run_audit.specs.SoFar.{IsItem}
+use Rattle.run_audit.specs.declared.sending.Item.TheVariants.{Nothing}
+use Rattle.run_audit.specs.declared.sending.Sending.{Sending}
 use Rattle.run_audit.proofs.Under.{drops_none}
 use Rattle.run_audit.proofs.auditor.Auditor.read_on.Goals as goal
+
+-- nothing is read behind the end, one time more
+still : {s t u : Sending} → (s.over ≡ true → IsItem Nothing s → t ≡ s) → (t.over ≡ true → IsItem Nothing t → u ≡ t) → s.over ≡ true → IsItem Nothing s → u ≡ s
+still {s} {t} {u} first then over none =
+    let same = first over none in
+    then (ap (λ (x : Sending). x.over) same ∙ over) (subst (IsItem Nothing) (sym same) none) ∙ same
 
 pub rest-init : goal.rest-init
 rest-init g c = record {
@@ -9,6 +18,7 @@ rest-init g c = record {
   others = record { course = refl; listening = refl; recorded = refl; broken = refl; last = refl };
   dropping = λ console steps jt ct st u. ([], drops_none c.args.self.now (g.J.Source.state c.args.job.now) console steps jt ct st u);
   can_be_read = λ console steps jt ct st r. r;
+  over = λ over none. refl;
 }
 
 pub rest-preserved : goal.rest-preserved
@@ -28,6 +38,7 @@ rest-preserved g c =
       };
       dropping = λ console steps jt ct st u. let d = i.dropping console steps jt ct st u in one.drops console steps jt ct st d.0 d.1;
       can_be_read = λ console steps jt ct st r. one.reads console steps jt ct st (i.can_be_read console steps jt ct st r);
+      over = λ over none. still i.over one.over over none;
     }
 
 pub returns-then-not-branch-clause-ahead : goal.returns-then-not-branch-clause-ahead
@@ -49,3 +60,9 @@ returns-clause-ahead g c = λ some console steps jt ct st u.
 
 pub returns-clause-read_on : goal.returns-clause-read_on
 returns-clause-read_on g c = c.rest.invariant.can_be_read
+
+pub returns-then-not-branch-clause-over : goal.returns-then-not-branch-clause-over
+returns-then-not-branch-clause-over g c = still c.rest.invariant.over c.in_ok-read_one.ensures.over
+
+pub returns-clause-over : goal.returns-clause-over
+returns-clause-over g c = c.rest.invariant.over
