@@ -42,24 +42,22 @@ record EndsJob (text : List ℕ) (sent : List Sent) (cuts : ℕ) (last : Point) 
 few_of : (n m : ℕ) → n ≡ m → n ≤ m
 few_of n m is = omega (arith, is)
 
-ends_job : (s : Sending) (source : SourceState) (text : List ℕ) (sent more : List Sent) (last : Point) (halts : Bool) (number : ℕ) → (s.last ≡ None → more ≡ []) → JobSoFar s source text (sent ++ more)
+ends_job : (s : Sending) (source : SourceState) (text : List ℕ) (sent : List Sent) (last : Point) (halts : Bool) (number : ℕ) → JobSoFar s source text sent
     → last.before.alarmed ≡ halts → last.before.number ≡ number → IsAllRead s halts number → EndsJob text sent s.cuts last
-ends_job s source text sent more last true number none j alarmed is all =
-    let f = front_sent s source text (sent ++ more) j in
+ends_job s source text sent last true number j alarmed is all =
+    let f = front_sent s source text sent j in
     record {
-      later = more ++ (untold_of s ++ f.later);
-      split = f.split ∙ append_assoc sent more (untold_of s ++ f.later);
-      over = subst (λ (b : Bool). either b (Unit {0}) (more ++ (untold_of s ++ f.later) ≡ [])) (sym alarmed) tt;
-      few = few_of s.cuts (most_cuts text last) (cuts_are s source text (sent ++ more) true number last j all alarmed is);
+      later = untold_of s ++ f.later;
+      split = f.split;
+      over = subst (λ (b : Bool). either b (Unit {0}) (untold_of s ++ f.later ≡ [])) (sym alarmed) tt;
+      few = few_of s.cuts (most_cuts text last) (cuts_are s source text sent true number last j all alarmed is);
     }
-ends_job s source text sent more last false number none j alarmed is all =
-    let whole : sent ++ [] ≡ sent_in text = ap (λ (ss : List Sent). sent ++ ss) (sym (none all.0)) ∙ all_sent s source text (sent ++ more) all.0 all.1 all.2 all.3 j in
-    record {
-      later = [];
-      split = sym whole;
-      over = subst (λ (b : Bool). either b (Unit {0}) (◌≡◌ {A = List Sent} [] [])) (sym alarmed) refl;
-      few = few_of s.cuts (most_cuts text last) (cuts_are s source text (sent ++ more) false number last j all alarmed is);
-    }
+ends_job s source text sent last false number j alarmed is all = record {
+  later = [];
+  split = sym (append-nil sent ∙ all_sent s source text sent all.0 all.1 all.2 all.3 j);
+  over = subst (λ (b : Bool). either b (Unit {0}) (◌≡◌ {A = List Sent} [] [])) (sym alarmed) refl;
+  few = few_of s.cuts (most_cuts text last) (cuts_are s source text sent false number last j all alarmed is);
+}
 
 pub no_event : (records : List Record) → events_among (records ++ kinds.End ∷ []) ≡ events_among records
 no_event records = filter-append is_event records (kinds.End ∷ []) ∙ append-nil (events_among records)
@@ -71,11 +69,11 @@ pub record FitFound (job console steps : List ℕ) (events line : ℕ) (halts : 
   pub alarmed : fit.fit.fits.last.before.alarmed ≡ halts
   pub number : fit.fit.fits.last.before.number ≡ line
 
-pub fit_found : (k : CourseJudge) (s : Sending) (source : SourceState) (job console steps : List ℕ) (first : State) (sent more : List Sent) (replies : List Reply) (records : List Record) (lines : List Line) (events : ℕ)
-    → IsOpening first → IsOver k first sent replies records → (s.last ≡ None → more ≡ []) → JobSoFar s source job (sent ++ more) → IsAllRead s k.line.halts k.work.number → k.cuts ≤ s.cuts
+pub fit_found : (k : CourseJudge) (s : Sending) (source : SourceState) (job console steps : List ℕ) (first : State) (sent : List Sent) (replies : List Reply) (records : List Record) (lines : List Line) (events : ℕ)
+    → IsOpening first → IsOver k first sent replies records → JobSoFar s source job sent → IsAllRead s k.line.halts k.work.number → k.cuts ≤ s.cuts
     → IsWhole console replies → IsStepText steps lines → records_of lines ≡ records ++ kinds.End ∷ [] → events ≡ length (events_among records) → AllAudited sent → FitFound job console steps events k.work.number k.line.halts
-fit_found k s source job console steps first sent more replies records lines events opens over none j all few_told w steps_are are count audited =
-    let e = ends_job s source job sent more over.last k.line.halts k.work.number none j over.alarmed over.number all in
+fit_found k s source job console steps first sent replies records lines events opens over j all few_told w steps_are are count audited =
+    let e = ends_job s source job sent over.last k.line.halts k.work.number j over.alarmed over.number all in
     let n = most_cuts job over.last - k.cuts in
     let g = over.fits n in
     let few = g.few in

@@ -19,7 +19,7 @@ use Rattle.audit_rules.specs.Findings.{FitsWith, HasForeign, IsTooLong}
 use Rattle.audit_rules.specs.Telling.{HasNoBanner}
 use Rattle.run_audit.specs.Auditing.{AllAudited}
 use Rattle.run_audit.specs.SoFar.{JobSoFar, ConsoleSoFar, StepsSoFar, IsRead, IsReadTo, IsReadOn, EndsConsole, Hears, StaysSent, StaysTold, StaysRecorded, IsWhole, AreRecords, IsAllRead}
-use Rattle.run_audit.specs.UnderWay.{AreRead, IsUnderWay, IsDropping, IsAhead, IsOpened, Finishes, FinishesSteps, MayFit, CanBeRead, GoesOn, IsNext, IsShort}
+use Rattle.run_audit.specs.UnderWay.{AreRead, IsUnderWay, IsDropping, IsOpened, Finishes, FinishesSteps, MayFit, CanBeRead, GoesOn, IsNext, IsShort}
 use Rattle.run_audit.specs.declared.auditor.Auditor.{Auditor}
 use Rattle.run_audit.specs.declared.listening.Listening.{Listening}
 use Rattle.run_audit.specs.declared.auditor.Finding.{Finding}
@@ -27,7 +27,7 @@ use Rattle.run_audit.specs.declared.auditor.Finding.TheVariants.{Fits, Misfit, B
 use Rattle.run_audit.specs.declared.sending.Sending.{Sending}
 use Rattle.run_audit.specs.declared.recorded.Recorded.{Recorded}
 use Rattle.run_audit.proofs.Fitting.{fit_found, none_foreign}
-use Rattle.run_audit.proofs.JobTold.{first_audited, told_audited}
+use Rattle.run_audit.proofs.JobTold.{told_audited}
 use Rattle.run_audit.proofs.ConsoleRead.{short_text, is_long}
 use Rattle.run_audit.proofs.StepsRead.{read_to}
 use Rattle.audit_readers.specs.Windows.{KnowsEnd, too_long}
@@ -232,32 +232,24 @@ reset_untold a b more j c s jt ct st sending listening recorded broken u = recor
   judged = λ none. absurd (broken none);
 }
 
--- ---- behind an alarm
+-- ---- the last step
 
-pub goes_ahead : (a : Auditor) (j c s : SourceState) (jt ct st : List ℕ) → IsUnderWay a j c s jt ct st → IsAhead a j c s jt ct st
-goes_ahead a j c s jt ct st u = record { more = []; none = λ e. refl; dropping = drops_none a j c s jt ct st u }
-
-pub ahead_read : (a : Auditor) (j c s : SourceState) (jt ct st : List ℕ) → IsAhead a j c s jt ct st → CanBeRead a j c s jt ct st
-ahead_read a j c s jt ct st u = dropping_read a j c s jt ct st u.more u.dropping
-
-pub finish_on : (a b d : Auditor) (j c s k l m n o : SourceState) (found : Option Finding) → ((jt ct st : List ℕ) → IsUnderWay a j c s jt ct st → IsAhead b k l m jt ct st) → Finishes b d k l m n o found → GoesOn a d j c s k n o found
+pub finish_on : (a b d : Auditor) (j c s k l m n o : SourceState) (found : Option Finding) → ((jt ct st : List ℕ) → IsUnderWay a j c s jt ct st → IsUnderWay b k l m jt ct st) → Finishes b d k l m n o found → GoesOn a d j c s k n o found
 finish_on a b d j c s k l m n o None f g = absurd g
 finish_on a b d j c s k l m n o (Some found) f g = λ jt ct st u. g jt ct st (f jt ct st u)
 
 -- ---- the end
 
 -- the record of the end was told, and nothing follows
-pub fits : (a b : Auditor) (j c s : SourceState) (events : ℕ) (jt ct st : List ℕ) → (u : IsAhead a j c s jt ct st) → a.broken ≡ None → IsWhole ct u.dropping.replies → AreRecords st (u.dropping.records ++ kinds.End ∷ [])
+pub fits : (a b : Auditor) (j c s : SourceState) (events : ℕ) (jt ct st : List ℕ) → (u : IsUnderWay a j c s jt ct st) → a.broken ≡ None → IsWhole ct u.replies → AreRecords st (u.records ++ kinds.End ∷ [])
     → EndsSoFar a.course b.course → b.sending ≡ a.sending → IsAllRead b.sending b.course.line.halts b.course.work.number → b.course.cuts ≤ b.sending.cuts → b.sending.foreign ≡ 0 → events ≡ a.course.events
     → ((f : FitsWith jt ct st events) × AllAudited f.fit.sent) × (HasForeign jt ct st → ⊥)
 fits a b j c s events jt ct st u none console steps ends same all few clean count =
-    let d = u.dropping in
-    let so_far = d.judged none in
-    let read : JobSoFar b.sending j jt (d.sent ++ u.more) = subst (λ (x : Sending). JobSoFar x j jt (d.sent ++ u.more)) (sym same) d.are_read.job_so_far in
-    let f = fit_found b.course b.sending j jt ct st d.first d.sent u.more d.replies d.records steps.lines events d.opens (ends d.first d.sent d.replies d.records so_far)
-    (subst (λ (x : Sending). x.last ≡ None → u.more ≡ []) (sym same) u.none) read all few console steps.are_lines steps.are (count ∙ so_far.events)
-    (first_audited d.sent u.more (told_audited b.sending j jt (d.sent ++ u.more) read clean)) in
-    ((f.fit, f.audited), λ h. none_foreign b.sending j jt ct st (d.sent ++ u.more) events b.course.work.number b.course.line.halts clean read all f h)
+    let so_far = u.judged none in
+    let read : JobSoFar b.sending j jt u.sent = subst (λ (x : Sending). JobSoFar x j jt u.sent) (sym same) u.are_read.job_so_far in
+    let f = fit_found b.course b.sending j jt ct st u.first u.sent u.replies u.records steps.lines events u.opens (ends u.first u.sent u.replies u.records so_far) read all few console steps.are_lines steps.are (count ∙ so_far.events)
+    (told_audited b.sending j jt u.sent read clean) in
+    ((f.fit, f.audited), λ h. none_foreign b.sending j jt ct st u.sent events b.course.work.number b.course.line.halts clean read all f h)
 
 -- ---- the banner
 
@@ -267,25 +259,20 @@ has_banner a j c s jt ct st u none =
     let read = u.are_read.console_so_far in
     absurd (none (replies_text read.behind ++ read.read.rest) (read.read.whole ∙ append_assoc (reply_text Banner) (replies_text read.behind) read.read.rest))
 
-pub dropping_banner : {A : Type 0} (a : Auditor) (j c s : SourceState) (jt ct st : List ℕ) (more : List Sent) → IsDropping a j c s jt ct st more → HasNoBanner ct → A
-dropping_banner a j c s jt ct st more u none =
-    let read = u.are_read.console_so_far in
-    absurd (none (replies_text read.behind ++ read.read.rest) (read.read.whole ∙ append_assoc (reply_text Banner) (replies_text read.behind) read.read.rest))
-
 -- a reply is bad
 pub bad_found : (a b : Auditor) (j c s k l m : SourceState) (found : Finding) → ((line : ℕ) × (found ≡ BadReplies line)) → ((jt ct st : List ℕ) → IsUnderWay a j c s jt ct st → CanBeRead b k l m jt ct st) → GoesOn a b j c s k l m (Some found)
 bad_found a b j c s k l m found is read =
     subst (λ (f : Finding). GoesOn a b j c s k l m (Some f)) (sym is.1) (λ jt ct st u. (read jt ct st u, λ none. has_banner a j c s jt ct st u none))
 
 -- at the end a reply is bad
-pub bad_end : (a b : Auditor) (j c s l m : SourceState) (found : Finding) → ((line : ℕ) × (found ≡ BadReplies line)) → ((jt ct st : List ℕ) → IsAhead a j c s jt ct st → CanBeRead b j l m jt ct st) → Finishes a b j c s l m (Some found)
+pub bad_end : (a b : Auditor) (j c s l m : SourceState) (found : Finding) → ((line : ℕ) × (found ≡ BadReplies line)) → ((jt ct st : List ℕ) → IsUnderWay a j c s jt ct st → CanBeRead b j l m jt ct st) → Finishes a b j c s l m (Some found)
 bad_end a b j c s l m found is read =
-    subst (λ (f : Finding). Finishes a b j c s l m (Some f)) (sym is.1) (λ jt ct st u. (read jt ct st u, λ none. dropping_banner a j c s jt ct st u.more u.dropping none))
+    subst (λ (f : Finding). Finishes a b j c s l m (Some f)) (sym is.1) (λ jt ct st u. (read jt ct st u, λ none. has_banner a j c s jt ct st u none))
 
 pub ended_read : (a b : Auditor) (j c s l m : SourceState) → b.sending ≡ a.sending → IsReadOn a.listening.reader.window b.listening.reader.window c l a.listening.reader.place b.listening.reader.place → b.recorded ≡ a.recorded → m ≡ s
-    → (jt ct st : List ℕ) → IsAhead a j c s jt ct st → CanBeRead b j l m jt ct st
+    → (jt ct st : List ℕ) → IsUnderWay a j c s jt ct st → CanBeRead b j l m jt ct st
 ended_read a b j c s l m sending console steps same jt ct st u =
-    let r = ahead_read a j c s jt ct st u in
+    let r = can_read a j c s jt ct st u in
     record {
       sent = r.sent;
       job_so_far = subst (λ (x : Sending). JobSoFar x j jt r.sent) (sym sending) r.job_so_far;
@@ -298,22 +285,22 @@ pub steps_break : (a b : Auditor) (s m : SourceState) (at : ℕ) → b.sending �
     → ((text : List ℕ) (told : List Record) → StepsSoFar a.recorded s text told → IsReadTo b.recorded.reader.window m b.recorded.reader.place text) → FinishesSteps a b s m (Some (Misfit at))
 steps_break a b s m at sending listening read = λ x j c l jt ct st u whole console. (
   record {
-    sent = u.dropping.sent ++ u.more;
-    job_so_far = subst (λ (y : Sending). JobSoFar y j jt (u.dropping.sent ++ u.more)) (sym sending) u.dropping.are_read.job_so_far;
+    sent = u.sent;
+    job_so_far = subst (λ (y : Sending). JobSoFar y j jt u.sent) (sym sending) u.are_read.job_so_far;
     console_read = subst (λ (y : Listening). IsReadTo y.reader.window l y.reader.place ct) (sym listening) console;
-    steps_read = read st u.dropping.records u.dropping.are_read.steps_so_far;
+    steps_read = read st u.records u.are_read.steps_so_far;
   },
-  λ none. dropping_banner (record a { listening = x }) j c s jt ct st u.more u.dropping none,
+  λ none. has_banner (record a { listening = x }) j c s jt ct st u none,
 )
 
 -- the end comes, and nothing follows
 pub steps_fit : (a b : Auditor) (s m : SourceState) (events : ℕ) → b.sending ≡ a.sending → b.listening ≡ a.listening → a.broken ≡ None → MayFit a (record a { course = b.course }) → events ≡ a.course.events
     → ((text : List ℕ) (told : List Record) → StepsSoFar a.recorded s text told → IsReadTo b.recorded.reader.window m b.recorded.reader.place text × AreRecords text (told ++ kinds.End ∷ [])) → FinishesSteps a b s m (Some (Fits events))
 steps_fit a b s m events sending listening none may count read = λ x j c l jt ct st u whole console.
-    let r = read st u.dropping.records u.dropping.are_read.steps_so_far in (
+    let r = read st u.records u.are_read.steps_so_far in (
       record {
-        sent = u.dropping.sent ++ u.more;
-        job_so_far = subst (λ (y : Sending). JobSoFar y j jt (u.dropping.sent ++ u.more)) (sym sending) u.dropping.are_read.job_so_far;
+        sent = u.sent;
+        job_so_far = subst (λ (y : Sending). JobSoFar y j jt u.sent) (sym sending) u.are_read.job_so_far;
         console_read = subst (λ (y : Listening). IsReadTo y.reader.window l y.reader.place ct) (sym listening) console;
         steps_read = r.0;
       },
@@ -328,7 +315,7 @@ pub whole_end : (a b : Auditor) (x : Listening) (j c s l m : SourceState) (found
     → FinishesSteps (record a { listening = x }) b s m found → Finishes a b j c s l m found
 whole_end a b x j c s l m None ends read f = absurd f
 whole_end a b x j c s l m (Some found) ends read f = λ jt ct st u.
-    f a.listening j c l jt ct st u (ends refl ct u.dropping.replies u.dropping.are_read.console_so_far) (read ct (read_console a.listening c ct u.dropping.replies u.dropping.are_read.console_so_far))
+    f a.listening j c l jt ct st u (ends refl ct u.replies u.are_read.console_so_far) (read ct (read_console a.listening c ct u.replies u.are_read.console_so_far))
 
 -- ---- what is said
 

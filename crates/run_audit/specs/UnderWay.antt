@@ -68,12 +68,6 @@ pub record IsDropping (a : Auditor) (job console steps : SourceState) (job_text 
   pub are_read : AreRead a job console steps job_text console_text steps_text (sent ++ more) replies records
   pub judged : a.broken ≡ None → HasJudged a.course first sent replies records
 
--- It is under way, and no line is begun any more: what was read of the job and not told stands behind an alarm.
-pub record IsAhead (a : Auditor) (job console steps : SourceState) (job_text console_text steps_text : List ℕ) : Type 0 where
-  pub more : List Sent
-  pub none : a.sending.last ≡ None → more ≡ []
-  pub dropping : IsDropping a job console steps job_text console_text steps_text more
-
 -- ---- what is found
 
 -- it is right, as far as that is proved
@@ -134,7 +128,7 @@ pub record MayFit (a b : Auditor) : Type 0 where
 abbrev pub Finishes : Auditor → Auditor → (job console steps console_now steps_now : SourceState) → Option Finding → Type 0
 Finishes a b job console steps console_now steps_now None = ⊥
 Finishes a b job console steps console_now steps_now (Some found) =
-    (job_text console_text steps_text : List ℕ) → IsAhead a job console steps job_text console_text steps_text → CanBeRead b job console_now steps_now job_text console_text steps_text × IsRight job_text console_text steps_text found
+    (job_text console_text steps_text : List ℕ) → IsUnderWay a job console steps job_text console_text steps_text → CanBeRead b job console_now steps_now job_text console_text steps_text × IsRight job_text console_text steps_text found
 
 -- one step more, by which something was found, or nothing yet
 abbrev pub GoesOn : Auditor → Auditor → (job console steps job_now console_now steps_now : SourceState) → Option Finding → Type 0
@@ -147,6 +141,6 @@ GoesOn a b job console steps job_now console_now steps_now (Some found) =
 abbrev pub FinishesSteps : Auditor → Auditor → (steps steps_now : SourceState) → Option Finding → Type 0
 FinishesSteps a b steps steps_now None = ⊥
 FinishesSteps a b steps steps_now (Some found) =
-    (before : Listening) (job console console_now : SourceState) (job_text console_text steps_text : List ℕ) → (u : IsAhead (record a { listening = before }) job console steps job_text console_text steps_text)
-    → IsWhole console_text u.dropping.replies → IsReadTo a.listening.reader.window console_now a.listening.reader.place console_text
+    (before : Listening) (job console console_now : SourceState) (job_text console_text steps_text : List ℕ) → (u : IsUnderWay (record a { listening = before }) job console steps job_text console_text steps_text)
+    → IsWhole console_text u.replies → IsReadTo a.listening.reader.window console_now a.listening.reader.place console_text
     → CanBeRead b job console_now steps_now job_text console_text steps_text × IsRight job_text console_text steps_text found

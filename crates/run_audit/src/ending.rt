@@ -5,13 +5,12 @@ ghost use Rattle.step_line.specs.declared.Record.TheVariants as kinds;
 ghost use Rattle.outside.specs.Causes.{Rose, SourceState};
 ghost use Rattle.run_audit.specs.Reading.{KnowsJob, KnowsConsole, KnowsSteps, IsSame};
 ghost use Rattle.run_audit.specs.Going.{AllKnown, AllSame, IsCaused, EndFails};
-ghost use Rattle.run_texts.specs.Sent.{Sent};
 ghost use Rattle.audit_rules.specs.Findings.{IsTooLong};
 ghost use Rattle.run_audit.specs.Along.{IsRightly};
 ghost use Rattle.run_audit.specs.Ended.{EndsAlong, EndsStepsAlong, EndStays, RefusesFit};
 ghost use Rattle.run_audit.specs.SoFar.{Halts, IsAllRead, IsItem, IsRead, StaysSent};
 ghost use Rattle.run_audit.specs.declared.auditor.Finding.{Finding as AnyFinding};
-ghost use Rattle.run_audit.specs.UnderWay.{IsUnderWay, IsDropping, IsAhead, OthersStay, JudgeStays, Finishes, FinishesSteps, MayFit, IsNext, CanBeRead, IsRight, IsSaid};
+ghost use Rattle.run_audit.specs.UnderWay.{IsUnderWay, OthersStay, JudgeStays, Finishes, FinishesSteps, MayFit, IsNext, CanBeRead, IsRight, IsSaid};
 
 use crate::auditor::{Auditor, Finding, Unread};
 use crate::sending::Item;
@@ -140,8 +139,6 @@ impl Auditor {
         ensures listening { self.new.listening.reader ≡ self.old.listening.reader }
         ensures recorded { self.new.recorded.reader ≡ self.old.recorded.reader }
         ensures others { OthersStay self.old self.new }
-        ensures ahead { IfOk result (λ done. (self.old.sending.last ≡ None → ⊥) → (console steps : SourceState) (job_text console_text steps_text : List ℕ) →
-            IsUnderWay self.old (J.state job.old) console steps job_text console_text steps_text → IsAhead self.new (J.state job.new) console steps job_text console_text steps_text) }
         ensures read_on { IfOk result (λ done. (console steps : SourceState) (job_text console_text steps_text : List ℕ) →
             CanBeRead self.old (J.state job.old) console steps job_text console_text steps_text → CanBeRead self.new (J.state job.new) console steps job_text console_text steps_text) }
         ensures over { IfOk result (λ done. self.old.sending.over ≡ true → IsItem Item.Nothing self.old.sending → self.new.sending ≡ self.old.sending) }
@@ -160,8 +157,6 @@ impl Auditor {
         requires known { KnowsJob self.old.sending.reader (J.state job.old) }
         ensures read { MatchResult result (λ more. KnowsJob self.new.sending.reader (J.state job.new) × IsSame (J.state job.old) (J.state job.new)) (λ e. (e ≡ Unread.Job) × Rose (J.state job.old).faults (J.state job.new).faults) }
         ensures others { OthersStay self.old self.new }
-        ensures drops { IfOk result (λ more. (console steps : SourceState) (job_text console_text steps_text : List ℕ) (dropped : List Sent) →
-            IsDropping self.old (J.state job.old) console steps job_text console_text steps_text dropped → (now : List Sent) × IsDropping self.new (J.state job.new) console steps job_text console_text steps_text now) }
         ensures reads { IfOk result (λ more. (console steps : SourceState) (job_text console_text steps_text : List ℕ) →
             CanBeRead self.old (J.state job.old) console steps job_text console_text steps_text → CanBeRead self.new (J.state job.new) console steps job_text console_text steps_text) }
         ensures over { IfOk result (λ more. self.old.sending.over ≡ true → IsItem Item.Nothing self.old.sending → self.new.sending ≡ self.old.sending) }

@@ -1,9 +1,8 @@
 use Rattle.std.proofs.Common.{◌≡◌, List, ℕ, true}
 use Rattle.outside.specs.Causes.{SourceState}
-use Rattle.run_texts.specs.Sent.{Sent}
 use Rattle.run_audit.specs.Reading.{KnowsJob, IsSame}
 use Rattle.run_audit.specs.SoFar.{IsItem}
-use Rattle.run_audit.specs.UnderWay.{IsUnderWay, IsDropping, CanBeRead, OthersStay}
+use Rattle.run_audit.specs.UnderWay.{CanBeRead, OthersStay}
 use Rattle.run_audit.specs.declared.sending.Item.TheVariants.{Nothing}
 use Rattle.run_audit.proofs.auditor.Auditor.read_on.Given as goal
 
@@ -12,8 +11,6 @@ invariant-rest g l = record {
   known : KnowsJob l.self.sending.reader (g.J.Source.state l.job);
   same : IsSame (g.J.Source.state l.fn.job) (g.J.Source.state l.job);
   others : OthersStay l.fn.self l.self;
-  dropping : (console steps : SourceState) (job_text console_text steps_text : List ℕ) → IsUnderWay l.fn.self (g.J.Source.state l.fn.job) console steps job_text console_text steps_text
-      → (more : List Sent) × IsDropping l.self (g.J.Source.state l.job) console steps job_text console_text steps_text more;
   can_be_read : (console steps : SourceState) (job_text console_text steps_text : List ℕ) → CanBeRead l.fn.self (g.J.Source.state l.fn.job) console steps job_text console_text steps_text
       → CanBeRead l.self (g.J.Source.state l.job) console steps job_text console_text steps_text;
   over : l.fn.self.sending.over ≡ true → IsItem Nothing l.fn.self.sending → l.self.sending ≡ l.fn.self.sending;
