@@ -7,3 +7,5 @@ mod audits;
 mod runs;
 #[cfg(test)]
 mod texts;
+#[cfg(test)]
+mod worked;

@@ -7,7 +7,6 @@ use Rattle.audit_rules.specs.Findings.{Finds, FitsWith}
 use Rattle.audit_rules.specs.Scanned.{scanned}
 use Rattle.run_audit.specs.Auditing.{IsAuditable, RightOf, TellsRightly, IsFirstForeign, is_found}
 use Rattle.run_audit.specs.UnderWay.{IsSaid, OnlyFits}
-use Rattle.run_audit.specs.declared.auditor.Finding.{Finding}
 use Rattle.run_audit.specs.declared.auditor.Finding.TheVariants as findings
 
 differ : {A : Type 0} (b : Bool) → b ≡ true → b ≡ false → A

@@ -13,12 +13,11 @@ use Rattle.step_line.specs.declared.Record.TheVariants as kinds
 use Rattle.run_rules.specs.Told.{replies_text}
 use Rattle.run_texts.specs.Sent.{Sent}
 use Rattle.run_texts.specs.Sent.Sent.{a_text, a_stop}
-use Rattle.audit_course.specs.SoFar.{HasJudged, IsOver, StaysSoFar, AddsSent, AddsReply, AddsRecord, AddsReset, EndsSoFar}
-use Rattle.audit_course.specs.declared.judge.CourseJudge.{CourseJudge}
+use Rattle.audit_course.specs.SoFar.{HasJudged, StaysSoFar, AddsSent, AddsReply, AddsRecord, AddsReset, EndsSoFar}
 use Rattle.audit_rules.specs.Findings.{FitsWith, HasForeign, IsTooLong}
 use Rattle.audit_rules.specs.Telling.{HasNoBanner}
 use Rattle.run_audit.specs.Auditing.{AllAudited}
-use Rattle.run_audit.specs.SoFar.{JobSoFar, ConsoleSoFar, StepsSoFar, IsRead, IsReadTo, IsReadOn, EndsConsole, Hears, StaysSent, StaysTold, StaysRecorded, IsWhole, AreRecords, IsAllRead}
+use Rattle.run_audit.specs.SoFar.{JobSoFar, ConsoleSoFar, StepsSoFar, IsRead, IsReadTo, IsReadOn, EndsConsole, StaysSent, StaysTold, StaysRecorded, IsWhole, AreRecords, IsAllRead}
 use Rattle.run_audit.specs.UnderWay.{AreRead, IsUnderWay, IsDropping, IsOpened, Finishes, FinishesSteps, MayFit, CanBeRead, GoesOn, IsNext, IsShort}
 use Rattle.run_audit.specs.declared.auditor.Auditor.{Auditor}
 use Rattle.run_audit.specs.declared.listening.Listening.{Listening}

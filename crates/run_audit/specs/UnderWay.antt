@@ -1,5 +1,5 @@
 -- How far an audit has come: what its judge was told of the three texts, and what is found.
-use Rattle.std.specs.Prelude.{◌≡◌, ◌≤◌, ℕ, ◌+◌, ◌-◌, false, not, List, [], ◌++◌, Some, None}
+use Rattle.std.specs.Prelude.{◌≡◌, ◌≤◌, ℕ, ◌+◌, ◌-◌, false, List, [], ◌++◌, Some, None}
 use Rattle.std.specs.declared.option.Option.{Option}
 use Rattle.outside.specs.Causes.{SourceState}
 use Rattle.status_report.specs.declared.Reply.{Reply}
@@ -17,7 +17,6 @@ use Rattle.run_audit.specs.Auditing.{AllAudited, IsAuditable, IsFirstForeign}
 use Rattle.run_audit.specs.declared.auditor.Auditor.{Auditor}
 use Rattle.run_audit.specs.declared.auditor.Finding.{Finding}
 use Rattle.run_audit.specs.declared.auditor.Finding.TheVariants.{Fits, Misfit, BadReplies, Foreign, TooLong}
-use Rattle.run_audit.specs.declared.sending.Item.TheVariants.{Nothing}
 use Rattle.run_audit.specs.SoFar.{ConsoleSoFar, IsAllRead, IsReadTo, IsWhole, JobSoFar, Opens, StepsSoFar}
 use Rattle.run_audit.specs.declared.listening.Listening.{Listening}
 

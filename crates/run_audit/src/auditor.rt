@@ -62,7 +62,7 @@ pub(crate) struct Auditor {
 
 /// Whether a record ends a part.
 pub(crate) fn is_ending(record: &Record) -> bool
-    ensures { result ≡ is_ending record.now }
+    ensures { result ≡ is_ending «record».now }
 {
     matches!(
         record,

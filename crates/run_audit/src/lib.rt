@@ -8,8 +8,6 @@ mod listening;
 mod recorded;
 mod resetting;
 mod sending;
-#[cfg(test)]
-mod tests;
 mod writing;
 
 pub use audit_rules::Audit;

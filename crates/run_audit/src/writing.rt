@@ -12,20 +12,8 @@ use crate::auditor::{Auditor, Finding, Unread};
 use crate::recorded::Recorded;
 use audit_readers::put_audit;
 use audit_rules::Audit;
-use outside::{Failed, Sink, Source};
+use outside::{Failed, Sink, Source, write_text};
 use units::Text;
-
-/// Writes a text, all of it unless a call fails. After a call that failed nothing more is written.
-fn write_text<S: Sink>(text: &[u8], sink: &mut S) -> Result<(), Failed>
-    ensures { Took (S.state sink.old) (S.state sink.new) (not (is_ok result)) text.now }
-{
-    let mut rest = text;
-    while !rest.is_empty() {
-        let count = sink.write(rest)?;
-        rest = &rest[count..];
-    }
-    Ok(())
-}
 
 /// Writes the line of an answer.
 fn tell<O: Sink>(audit: &Audit, out: &mut O) -> Result<(), Failed>

@@ -1,7 +1,7 @@
 //! Worked texts, and what is found of them.
 
-use crate::{Audit, run_audit};
 use outside::{MemSink, MemSource};
+use run_audit::{Audit, run_audit};
 use std::test::Fail;
 
 const BANNER: &str = "\r\nGrbl 1.1h ['$' for help]\r\n";
