@@ -1,5 +1,5 @@
 -- How far an audit has come: what its judge was told of the three texts, and what is found.
-use Rattle.std.specs.Prelude.{◌≡◌, ◌≤◌, ℕ, ◌+◌, ◌-◌, false, List, [], ◌++◌, Some, None}
+use Rattle.std.specs.Prelude.{◌≡◌, ◌≤◌, ℕ, false, List, [], ◌++◌, Some, None}
 use Rattle.std.specs.declared.option.Option.{Option}
 use Rattle.outside.specs.Causes.{SourceState}
 use Rattle.status_report.specs.declared.Reply.{Reply}

@@ -1,4 +1,4 @@
-use Rattle.std.proofs.Common.{◌≡◌, [], Bool, arith, refl, subst, rules}
+use Rattle.std.proofs.Common.{[], Bool, arith, refl, subst, rules}
 use Rattle.std.specs.declared.option.Option.{Option}
 use Rattle.run_audit.specs.Along.{StaysAlong, steps_left}
 use Rattle.run_audit.specs.SoFar.{Hears}
