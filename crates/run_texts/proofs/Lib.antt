@@ -1,4 +1,5 @@
 pub mod Quiet
+pub mod Limits
 pub mod Errors
 pub mod Stops
 pub mod Determined
