@@ -11,4 +11,8 @@ pub mod Worked
 pub mod Written
 pub mod Refuted
 pub mod BadAnswer
+pub mod OneWay
+pub mod StopsMade
+pub mod OneText
 pub mod BadReplies
+pub mod OneLine

@@ -54,6 +54,12 @@ pub fn bad_replies_stand_at_one_place()
     ensures rest { (sent : List Sent) (console steps : List ℕ) (line other : ℕ) (x : StandsNoFurther sent console steps line) (y : StandsNoFurther sent console steps other) → x.rest ≡ y.rest }
 {}
 
+/// A console's text leaves no choice of what became of the lines up to what is left of it where it stands no further. So one
+/// line has the bad reply.
+pub fn one_line_has_the_bad_reply()
+    ensures { (sent : List Sent) (console steps : List ℕ) (k l : ℕ) → HasBadReply sent console steps k → HasBadReply sent console steps l → k ≡ l }
+{}
+
 /// Two things that are found of the same texts have one status; and texts that fit have one number of events, steps break a
 /// rule at one place, and one line is the first that is not audited.
 pub fn one_thing_is_found()
