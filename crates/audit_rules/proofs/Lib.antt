@@ -16,3 +16,4 @@ pub mod StopsMade
 pub mod OneText
 pub mod BadReplies
 pub mod OneLine
+pub mod OneAlarm

@@ -35,7 +35,7 @@ pub record InHalves (replies first second : List Reply) : Type 0 where
 kept : (r : Reply) (rs : List Reply) → is_plain r ≡ true → without_reports (r ∷ rs) ≡ r ∷ without_reports rs
 kept r rs e = ap (λ (b : Bool). cond b (r ∷ without_reports rs) (without_reports rs)) e
 
-left_out : (r : Reply) (rs : List Reply) → is_plain r ≡ false → without_reports (r ∷ rs) ≡ without_reports rs
+pub left_out : (r : Reply) (rs : List Reply) → is_plain r ≡ false → without_reports (r ∷ rs) ≡ without_reports rs
 left_out r rs e = ap (λ (b : Bool). cond b (r ∷ without_reports rs) (without_reports rs)) e
 
 pub in_halves : (replies first second : List Reply) → without_reports replies ≡ first ++ second → InHalves replies first second

@@ -60,6 +60,11 @@ pub fn one_line_has_the_bad_reply()
     ensures { (sent : List Sent) (console steps : List ℕ) (k l : ℕ) → HasBadReply sent console steps k → HasBadReply sent console steps l → k ≡ l }
 {}
 
+/// And one line raises the alarm of a soft limit.
+pub fn one_line_raises_the_alarm()
+    ensures { (sent : List Sent) (console steps : List ℕ) (k l : ℕ) → HasAlarm sent console steps k → HasAlarm sent console steps l → k ≡ l }
+{}
+
 /// Two things that are found of the same texts have one status; and texts that fit have one number of events, steps break a
 /// rule at one place, and one line is the first that is not audited.
 pub fn one_thing_is_found()
