@@ -1,5 +1,6 @@
 -- One thing is found.
-use Rattle.std.proofs.Common.{◌≡◌, ◌↔◌, ℕ, suc, ◌+◌, List, [], ◌∷◌, ◌++◌, append-nil, length, true, false, Bool, ◌||◌, sym, refl, ap, ◌∙◌, subst}
+use Rattle.std.specs.Prelude.{if◌then◌else◌, ◌==◌}
+use Rattle.std.proofs.Common.{◌≡◌, ◌↔◌, ℕ, suc, ◌+◌, List, [], ◌∷◌, ◌++◌, append-nil, length, true, false, Bool, ◌||◌, sym, refl, ap, ◌∙◌, subst, arith}
 use Rattle.std.proofs.lemmas.List.{append_cancel_left}
 use Rattle.legal_heads.specs.Whole.{events_among}
 use Rattle.run_rules.specs.Told.{replies_text}
@@ -19,6 +20,7 @@ use Rattle.step_record.specs.declared.forms.Line.TheVariants as line_kinds
 use Rattle.audit_rules.specs.Telling.{ConsoleStands, HasBadReply}
 use Rattle.audit_rules.specs.Telling.HasBadReply.{at_once, behind}
 use Rattle.audit_rules.proofs.Fitted.{fitted}
+use Rattle.audit_rules.proofs.OneLine.{one_bad_line}
 use Rattle.audit_rules.proofs.Places.{one_place}
 
 -- ---- a console that stands has no bad reply
@@ -165,6 +167,78 @@ one_status job console steps TooLong OutFault x y = absurd y
 one_status job console steps TooLong (BadReplies m) x y = absurd (y.0 x)
 one_status job console steps TooLong (Foreign m) x y = absurd (y.0 x)
 one_status job console steps TooLong TooLong x y = refl
+
+-- ---- one thing
+
+-- the number that is found
+abbrev number_in : Audit → ℕ
+number_in (Fits n) = n
+number_in (Misfit at) = at
+number_in (BadReplies line) = line
+number_in (Foreign line) = line
+number_in _ = 0
+
+-- what is found, by its status and its number
+abbrev found_by : ℕ → ℕ → Audit
+found_by status n =
+    if status == 0 then Fits n else
+    if status == 1 then Misfit n else
+    if status == 2 then Usage else
+    if status == 3 then JobFault else
+    if status == 4 then ConsoleFault else
+    if status == 5 then StepsFault else
+    if status == 6 then OutFault else
+    if status == 7 then BadReplies n else
+    if status == 8 then Foreign n else TooLong
+
+found_again : (a : Audit) → a ≡ found_by (exit_of a) (number_in a)
+found_again (Fits n) = refl
+found_again (Misfit at) = refl
+found_again Usage = refl
+found_again JobFault = refl
+found_again ConsoleFault = refl
+found_again StepsFault = refl
+found_again OutFault = refl
+found_again (BadReplies line) = refl
+found_again (Foreign line) = refl
+found_again TooLong = refl
+
+fits_number : (job console steps : List ℕ) (n : ℕ) (b : Audit) → FitsWith job console steps n → Finds job console steps b → 0 ≡ exit_of b → n ≡ number_in b
+fits_number job console steps n (Fits m) x y e = one_count job console steps n m x y.2
+fits_number job console steps n _ x y e = absurd (omega (arith, e))
+
+misfit_number : (job console steps : List ℕ) (at : ℕ) (b : Audit) → BreaksAt job console steps at → Finds job console steps b → 1 ≡ exit_of b → at ≡ number_in b
+misfit_number job console steps at (Misfit other) x y e = one_break job console steps at other x y.3
+misfit_number job console steps at _ x y e = absurd (omega (arith, e))
+
+replies_number : (job console steps : List ℕ) (line : ℕ) (b : Audit) → HasBadReply (sent_in job) console steps line → Finds job console steps b → 7 ≡ exit_of b → line ≡ number_in b
+replies_number job console steps line (BadReplies other) x y e = one_bad_line (sent_in job) console steps line other x y.2
+replies_number job console steps line _ x y e = absurd (omega (arith, e))
+
+foreign_number : (job console steps : List ℕ) (line : ℕ) (b : Audit) → IsForeign job console steps line → Finds job console steps b → 8 ≡ exit_of b → line ≡ number_in b
+foreign_number job console steps line (Foreign other) x y e = one_foreign job console steps line other x y.1
+foreign_number job console steps line _ x y e = absurd (omega (arith, e))
+
+long_number : (b : Audit) → 9 ≡ exit_of b → 0 ≡ number_in b
+long_number TooLong e = refl
+long_number _ e = absurd (omega (arith, e))
+
+one_number : (job console steps : List ℕ) (a b : Audit) → Finds job console steps a → Finds job console steps b → exit_of a ≡ exit_of b → number_in a ≡ number_in b
+one_number job console steps (Fits n) b x y e = fits_number job console steps n b x.2 y e
+one_number job console steps (Misfit at) b x y e = misfit_number job console steps at b x.3 y e
+one_number job console steps (BadReplies line) b x y e = replies_number job console steps line b x.2 y e
+one_number job console steps (Foreign line) b x y e = foreign_number job console steps line b x.1 y e
+one_number job console steps TooLong b x y e = long_number b e
+one_number job console steps Usage b x y e = absurd x
+one_number job console steps JobFault b x y e = absurd x
+one_number job console steps ConsoleFault b x y e = absurd x
+one_number job console steps StepsFault b x y e = absurd x
+one_number job console steps OutFault b x y e = absurd x
+
+pub one_audit : (job console steps : List ℕ) (a b : Audit) → Finds job console steps a → Finds job console steps b → a ≡ b
+one_audit job console steps a b x y =
+    let status = one_status job console steps a b x y in
+    found_again a ∙ ap (λ (s : ℕ). found_by s (number_in a)) status ∙ ap (found_by (exit_of b)) (one_number job console steps a b x y status) ∙ sym (found_again b)
 
 -- ---- exactly if they fit
 

@@ -65,13 +65,14 @@ pub fn one_line_raises_the_alarm()
     ensures { (sent : List Sent) (console steps : List ℕ) (k l : ℕ) → HasAlarm sent console steps k → HasAlarm sent console steps l → k ≡ l }
 {}
 
-/// Two things that are found of the same texts have one status; and texts that fit have one number of events, steps break a
-/// rule at one place, and one line is the first that is not audited.
+/// One thing is found of three texts, with its number. So texts that fit have one number of events, steps break a rule at one
+/// place, one line is the first that is not audited, and one has the bad reply.
 pub fn one_thing_is_found()
-    ensures status { (job console steps : List ℕ) (a b : AnyAudit) → Finds job console steps a → Finds job console steps b → exit_of a ≡ exit_of b }
+    ensures one { (job console steps : List ℕ) (a b : AnyAudit) → Finds job console steps a → Finds job console steps b → a ≡ b }
     ensures events { (job console steps : List ℕ) (n m : ℕ) → FitsWith job console steps n → FitsWith job console steps m → n ≡ m }
     ensures place { (job console steps : List ℕ) (at other : ℕ) → BreaksAt job console steps at → BreaksAt job console steps other → at ≡ other }
     ensures foreign { (job console steps : List ℕ) (line other : ℕ) → IsForeign job console steps line → IsForeign job console steps other → line ≡ other }
+    ensures replies { (job console steps : List ℕ) (line other : ℕ) → HasBadReply (sent_in job) console steps line → HasBadReply (sent_in job) console steps other → line ≡ other }
 {}
 
 /// So whoever finds something of texts that are not too long, and of which each sent line is audited, says that they fit
