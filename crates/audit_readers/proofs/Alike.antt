@@ -5,10 +5,10 @@ use Rattle.std.proofs.lemmas.List.{append_cancel_left}
 use Rattle.status_report.specs.Answering.{without_reports, is_report, is_bye}
 use Rattle.status_report.specs.Replies.{reply_text}
 use Rattle.status_report.specs.declared.Reply.{Reply}
-use Rattle.status_report.specs.declared.Reply.TheVariants.{Banner, Ok as Accepted, Error, Alarm, Message as Telling, Report as Reporting, Setting, Modes, Offset, Bye}
 use Rattle.run_rules.specs.Told.{replies_text}
 use Rattle.audit_rules.specs.Consoles.{IsOnConsole}
 use Rattle.audit_readers.proofs.Going.{NoReport, no_report, only_reports, one_report}
+use Rattle.audit_rules.proofs.OneText.{no_bye}
 
 -- a text begins with the first of these replies, or is this, if there is none
 abbrev pub BeginsWith : List Reply → List ℕ → List ℕ → Type 0
@@ -22,18 +22,6 @@ pub record GoOnAlike (first second : List Reply) (x y : List ℕ) : Type 0 where
   pub other : BeginsWith second y text
 
 -- ---- one reply of each list
-
-no_bye : (r : Reply) → IsOnConsole r → is_bye r ≡ false
-no_bye Bye on = absurd on
-no_bye Banner on = refl
-no_bye Accepted on = refl
-no_bye (Error n) on = refl
-no_bye (Alarm n) on = refl
-no_bye (Telling m) on = refl
-no_bye (Reporting r) on = refl
-no_bye (Setting n v) on = refl
-no_bye (Modes m) on = refl
-no_bye (Offset row at) on = refl
 
 -- a text that begins with no report does not begin with this one
 begins_not : {A : Type 0} (r : Reply) (text rest : List ℕ) → NoReport text → is_report r ≡ true → IsOnConsole r → text ≡ reply_text r ++ rest → A

@@ -1,61 +1,14 @@
--- The first bytes of replies, and replies that are told apart from all others by their texts.
+-- Replies that are told apart from all others by their texts.
 use Rattle.std.specs.Prelude.{codes, if◌then◌else◌, ◌==◌}
 use Rattle.std.proofs.Common.{◌≡◌, ◌<◌, ◌≤◌, ◌+◌, ◌/◌, ◌%◌, ℕ, zero, suc, Bool, true, false, List, [], ◌∷◌, ◌++◌, append_assoc, drop, nat_lt, decimal, refl, sym, ap, ◌∙◌, arith}
 use Rattle.std.specs.Fmt.{digits, digits_onto, digit_glyph}
 use Rattle.std.proofs.lemmas.Bool.{ltb-true, ltb-false, ne_eqb}
 use Rattle.std.proofs.lemmas.Fmt.{decimal_digit}
 use Rattle.status_report.specs.Answering.{is_bye}
-use Rattle.status_report.specs.Places.{place_text, in_thousandths}
-use Rattle.status_report.specs.Replies.{reply_text, row_name}
-use Rattle.status_report.specs.Reports.{report_text}
-use Rattle.status_report.specs.declared.Message.TheVariants.{Unlocked, ProgramEnd, ResetToContinue, Locked}
+use Rattle.status_report.specs.Replies.{reply_text}
 use Rattle.status_report.specs.declared.Reply.{Reply}
 use Rattle.status_report.specs.declared.Reply.TheVariants.{Banner, Ok as Accepted, Error, Alarm, Message as Telling, Report as Reporting, Setting, Modes, Offset, Bye}
-
--- ---- first bytes
-
--- the byte with which a reply begins; Bye has no text
-abbrev pub first_byte : Reply → ℕ
-first_byte Banner = 13
-first_byte Accepted = 111
-first_byte (Error n) = 101
-first_byte (Alarm n) = 65
-first_byte (Telling m) = 91
-first_byte (Reporting r) = 60
-first_byte (Setting n value) = 36
-first_byte (Modes m) = 91
-first_byte (Offset row at) = 91
-first_byte Bye = 0
-
-offset_first : (a b : Bool) (x y z tail : List ℕ) → (more : List ℕ) × ((if a then 91 ∷ x else (if b then 91 ∷ y else 91 ∷ z)) ++ tail ≡ 91 ∷ more)
-offset_first true b x y z tail = (x ++ tail, refl)
-offset_first false true x y z tail = (y ++ tail, refl)
-offset_first false false x y z tail = (z ++ tail, refl)
-
-pub begins_so : (reply : Reply) → is_bye reply ≡ false → (more : List ℕ) × (reply_text reply ≡ first_byte reply ∷ more)
-unfolding reply_text report_text
-begins_so Banner some = (_, refl)
-begins_so Accepted some = (_, refl)
-begins_so (Error n) some = (_, refl)
-begins_so (Alarm n) some = (_, refl)
-begins_so (Telling Unlocked) some = (_, refl)
-begins_so (Telling ProgramEnd) some = (_, refl)
-begins_so (Telling ResetToContinue) some = (_, refl)
-begins_so (Telling Locked) some = (_, refl)
-begins_so (Reporting r) some = (_, refl)
-begins_so (Setting n value) some = (_, refl)
-begins_so (Modes m) some = (_, refl)
-begins_so (Offset row at) some =
-    offset_first (row == 9) (row == 10) (drop 1 (codes "[TLO:0.000]")) (drop 1 (codes "[PRB:0.000,0.000,0.000:0]")) (row_name row ++ codes ":" ++ place_text (in_thousandths at) ++ codes "]") (codes "\r\n")
-begins_so Bye some = absurd cc
-
--- replies whose texts begin one text have one first byte
-pub one_first : (r q : Reply) (s t : List ℕ) → is_bye r ≡ false → is_bye q ≡ false → reply_text r ++ s ≡ reply_text q ++ t → first_byte r ≡ first_byte q
-one_first r q s t r_some q_some e =
-    let a = begins_so r r_some in
-    let b = begins_so q q_some in
-    let both : first_byte r ∷ (a.0 ++ s) ≡ first_byte q ∷ (b.0 ++ t) = sym (ap (λ (x : List ℕ). x ++ s) a.1) ∙ e ∙ ap (λ (x : List ℕ). x ++ t) b.1 in
-    let same : first_byte r ≡ first_byte q = cc in same
+use Rattle.audit_rules.proofs.OneText.{first_byte}
 
 -- ---- numbers of one digit
 

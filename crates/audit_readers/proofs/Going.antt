@@ -17,7 +17,7 @@ use Rattle.audit_readers.specs.Windows.{ahead, look_ahead}
 use Rattle.audit_readers.specs.Console.{ConsoleRead, LooksAhead, Skips}
 use Rattle.audit_readers.specs.Windows.{too_long}
 use Rattle.audit_readers.specs.Reports.{report_at}
-use Rattle.audit_readers.proofs.Apart.{first_byte, one_first}
+use Rattle.audit_rules.proofs.OneText.{first_byte, one_first}
 use Rattle.audit_readers.proofs.Reporting.{report_again, report_short}
 use Rattle.audit_readers.proofs.Stepping.{Seen, seen_by, front_waits}
 

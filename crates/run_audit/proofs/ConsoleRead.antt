@@ -21,7 +21,8 @@ use Rattle.audit_readers.specs.Console.{ConsoleRead, Skips}
 use Rattle.audit_readers.specs.Windows.{Window, ahead, too_long, KnowsEnd, TakesRest}
 use Rattle.audit_readers.proofs.Skipping.{taken_ahead}
 use Rattle.audit_readers.proofs.Alike.{BeginsWith, GoOnAlike, alike}
-use Rattle.audit_readers.proofs.Apart.{begins_so, one_first, banner_apart, error_apart, alarm_apart}
+use Rattle.audit_rules.proofs.OneText.{begins_so, one_first}
+use Rattle.audit_readers.proofs.Apart.{banner_apart, error_apart, alarm_apart}
 use Rattle.audit_readers.proofs.Going.{NoReport, no_report, only_reports, shown_next, no_report_next}
 use Rattle.audit_readers.proofs.Stepping.{Seen, front_waits}
 use Rattle.run_audit.specs.SoFar.{ConsoleSoFar, Opens, Hears, HasRead, IsRead, IsReadTo, IsReadOn, IsWhole, TakesReply, IsNotNext, StandsNext, BecomesKnown, TellsAll, FindsReply, HearsNot, known_of, is_looked_for, looked_for}
