@@ -1,2 +1,4 @@
 pub mod Progressing
 pub mod SoFar
+pub mod Here
+pub mod Heard

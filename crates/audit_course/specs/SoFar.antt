@@ -28,6 +28,7 @@ use Rattle.run_texts.specs.Points.{Point, BecomesAt, IsPassed, IsBroken, opening
 use Rattle.run_texts.specs.Recorded.{AreRecorded, ticks_for_all}
 use Rattle.run_texts.specs.Sent.{Sent}
 use Rattle.run_texts.specs.Sent.Sent.{a_text, a_stop}
+use Rattle.run_texts.specs.SoFar.{Reaches}
 use Rattle.run_texts.specs.Told.{told_in}
 use Rattle.audit_course.specs.declared.MotionError.{MotionError}
 use Rattle.audit_course.specs.declared.MotionError.TheVariants as errors
@@ -195,6 +196,7 @@ pub record HasJudged (j : CourseJudge) (first : State) (sent : List Sent) (repli
   pub counted : j.cuts ≡ cuts_among records
   pub numbered : j.work.number ≡ texts_among sent + 1
   pub whole : j.place ≡ moved_by origin records
+  pub reached : Reaches first sent (replies ++ left_to_tell j) records point since begun from made
   pub back : (n : ℕ) (more : List Sent) (told : List Reply) (rest : List Record) (last : Point) → GoesTo point since begun from n more told (made ++ rest) last →
       GoesTo (opening first) [] [] origin (n + j.cuts) (sent ++ more) (replies ++ (left_to_tell j ++ told)) (records ++ rest) last
   pub forth : (n : ℕ) (more : List Sent) (told : List Reply) (rest : List Record) (last : Point) → MayFollow j told rest →

@@ -9,32 +9,20 @@ use Rattle.run_rules.specs.States.{IsOpening}
 use Rattle.run_rules.specs.Outcomes.{either}
 use Rattle.run_rules.specs.Reports.{raises_alarm}
 use Rattle.run_rules.specs.Work.{Outcome, soft_limit}
-use Rattle.run_texts.specs.Courses.{Passed, behind_the_reset}
+use Rattle.run_texts.specs.Courses.{Passed}
 use Rattle.run_texts.specs.Courses.Passed.{a_line, a_broken, a_cut, a_reset}
 use Rattle.run_texts.specs.Parts.{parts_of}
-use Rattle.run_texts.specs.Places.{position}
-use Rattle.run_texts.specs.Points.{Point, opening, IsPassed, behind_line, behind_broken}
-use Rattle.run_texts.specs.Sent.{Sent, has_reset, behind_reset}
+use Rattle.run_texts.specs.Points.{Point, opening, IsPassed}
+use Rattle.run_texts.specs.Sent.{Sent, has_reset}
 use Rattle.run_texts.specs.Sent.Sent.{a_text, a_stop}
 use Rattle.run_texts.specs.SoFar.{LeadsTo, AreMadeSoFar}
+pub use Rattle.run_texts.specs.SoFar.{RebasesNothing}
 use Rattle.run_texts.specs.Told.{told_in}
 use Rattle.audit_rules.specs.Consoles.{Tells, GoesOnWith, GoesOnAnew}
 use Rattle.audit_rules.specs.Standing.{MayWait, StandTo}
 use Rattle.audit_rules.specs.StepTexts.{records_of}
 
 -- ---- a course
-
--- Without records a course has no cuts, and its resets leave the position as it is.
-abbrev pub RebasesNothing : Point → List Sent → List Passed → Type 0
-RebasesNothing p sent [] = Unit {0}
-RebasesNothing p sent (a_cut k at ∷ ps) = ⊥
-RebasesNothing p sent (a_reset r ∷ ps) = (r.at ≡ position p) × RebasesNothing (behind_the_reset r p) (behind_reset sent) ps
-RebasesNothing p (a_text line ∷ sent) (a_line o ∷ ps) = RebasesNothing (behind_line p line o) sent ps
-RebasesNothing p (a_text line ∷ sent) (a_broken o ∷ ps) = RebasesNothing (behind_broken p o) sent ps
-RebasesNothing p (a_stop ∷ sent) (a_line o ∷ ps) = ⊥
-RebasesNothing p (a_stop ∷ sent) (a_broken o ∷ ps) = ⊥
-RebasesNothing p [] (a_line o ∷ ps) = ⊥
-RebasesNothing p [] (a_broken o ∷ ps) = ⊥
 
 -- the last line that a course answers, of lines from this number on; else this one
 abbrev pub last_answered : ℕ → ℕ → List Passed → ℕ

@@ -1,0 +1,60 @@
+-- A course behind the first record that breaks a rule: records count no more, and what is told is heard.
+use Rattle.std.specs.Prelude.{◌≡◌, ◌++◌, ℕ, ◌+◌, Bool, true, false, List, [], ◌∷◌, length, map}
+use Rattle.status_report.specs.declared.Reply.{Reply}
+use Rattle.run_rules.specs.Work.{Outcome}
+use Rattle.run_texts.specs.Courses.{Passed, Reset, IsReset}
+use Rattle.run_texts.specs.Points.{Point, IsPassed, IsBroken}
+use Rattle.run_texts.specs.Sent.{Sent}
+use Rattle.run_texts.specs.Sent.Sent.{a_text, a_stop}
+use Rattle.run_texts.specs.SoFar.{LeadsTo, RebasesNothing}
+use Rattle.run_texts.specs.Told.{told_in}
+use Rattle.audit_course.specs.Progressing.{has_halt}
+use Rattle.audit_course.specs.SoFar.{OfLine, left_to_tell, texts_among}
+use Rattle.audit_course.specs.declared.judge.CourseJudge.{CourseJudge}
+
+-- Behind a point, at which this was told, the judge was told of these lines and resets, and of all these replies. A course that
+-- has no cuts, and whose resets leave the position as it is, leads to where the judge stands, and tells them and what is left to
+-- tell of the line at hand.
+pub record HasHeard (j : CourseJudge) (p : Point) (before : List Reply) (sent : List Sent) (replies : List Reply) : Type 0 where
+  pub point : Point
+  pub number : point.before.number ≡ j.work.number
+  pub state : point.before.state ≡ j.state
+  pub same_state : j.unanswered ≡ false → j.state ≡ j.work.state
+  pub locked : point.locked ≡ j.locked
+  pub unanswered : point.unanswered ≡ j.unanswered
+  pub hand : List Outcome
+  pub line : OfLine j point hand
+  pub at_hand : j.in_hand ≡ false → has_halt j.work.left ≡ false
+  pub numbered : j.work.number ≡ p.before.number + texts_among sent
+  pub course : List Passed
+  pub leads : LeadsTo p sent course point []
+  pub rebases : RebasesNothing p sent course
+  pub tells : before ++ told_in course ≡ replies ++ left_to_tell j
+
+-- ---- steps
+
+-- nothing more was told
+abbrev pub StaysHeard : CourseJudge → CourseJudge → Type 0
+StaysHeard j k = (p : Point) (before : List Reply) (sent : List Sent) (replies : List Reply) → HasHeard j p before sent replies → HasHeard k p before sent replies
+
+-- these lines and resets more were told
+abbrev pub HearsSent : CourseJudge → CourseJudge → List Sent → Type 0
+HearsSent j k more = (p : Point) (before : List Reply) (sent : List Sent) (replies : List Reply) → HasHeard j p before sent replies → HasHeard k p before (sent ++ more) replies
+
+-- a reply more was told
+abbrev pub HearsReply : CourseJudge → CourseJudge → Reply → Type 0
+HearsReply j k r = (p : Point) (before : List Reply) (sent : List Sent) (replies : List Reply) → HasHeard j p before sent replies → HasHeard k p before sent (replies ++ r ∷ [])
+
+-- a reset of the job was told, behind some lines that it dropped; no record of it counts
+abbrev pub HearsReset : CourseJudge → CourseJudge → ℕ → Type 0
+HearsReset j k dropped = (lines : List (List ℕ)) → dropped ≡ length lines → HearsSent j k (map a_text lines ++ a_stop ∷ [])
+
+-- ---- what may not come
+
+-- No line may be begun where it stands, answered or not.
+abbrev pub HearsNoLine : CourseJudge → Type 0
+HearsNoLine j = (p : Point) (before : List Reply) (sent : List Sent) (replies : List Reply) (h : HasHeard j p before sent replies) (kept : List ℕ) (o : Outcome) → (IsPassed h.point kept o → ⊥) × (IsBroken h.point kept o → ⊥)
+
+-- No reset may come, told with or without its alarm.
+abbrev pub HearsNoReset : CourseJudge → Bool → Type 0
+HearsNoReset j alarm = (p : Point) (before : List Reply) (sent : List Sent) (replies : List Reply) (h : HasHeard j p before sent replies) (more : List Sent) (r : Reset) → r.alarm ≡ alarm → IsReset h.point more r → ⊥
