@@ -172,7 +172,7 @@ others_tell p point kept waiting (a_reset r ∷ ps) rest f rebases waits none wi
 others_tell p point kept waiting (a_line o ∷ ps) rest f rebases waits none with_line = with_line o ps refl f.0
 others_tell p point kept waiting (a_broken o ∷ []) rest f rebases waits none with_line =
     let w = waits (ap (λ (x : Point). x.unanswered) f.1.0) in
-    differ (sym (subst (λ (ss : List Sent). has_reset ss ≡ true) f.1.1 w.0))
+    differ (sym (subst (λ (ss : List Sent). has_reset ss ≡ true) f.1.1 w.is.comes))
 others_tell p point kept waiting (a_broken o ∷ a_cut k at ∷ ps) rest f rebases waits none with_line = absurd rebases
 others_tell p point kept waiting (a_broken o ∷ a_reset r ∷ ps) rest f rebases waits none with_line = differ (sym f.1.0.comes)
 others_tell p point kept waiting (a_broken o ∷ a_line x ∷ ps) rest f rebases waits none with_line = absurd f.1
@@ -204,7 +204,7 @@ no_records_course point waiting more s (a_broken o ∷ []) e f made then = by_ot
   by_others [] g rebases =
       let unanswered : point.unanswered ≡ true = ap (λ (x : Point). x.unanswered) (g.0 ∙ f.1.0) in
       let w = s.waits unanswered in
-      differ (sym (subst (λ (ss : List Sent). has_reset ss ≡ true) (g.1 ∙ f.1.1) w.0))
+      differ (sym (subst (λ (ss : List Sent). has_reset ss ≡ true) (g.1 ∙ f.1.1) w.is.comes))
   by_others (a_cut k at ∷ ps) g rebases = absurd rebases
   by_others (a_reset r ∷ ps) g rebases = differ (sym (subst (λ (ss : List Sent). has_reset ss ≡ true) f.1.1 g.0.comes))
   by_others (a_line x ∷ ps) g rebases = absurd (subst (λ (ss : List Sent). LeadsTo s.between ss (a_line x ∷ ps) point waiting) f.1.1 g)

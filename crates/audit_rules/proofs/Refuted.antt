@@ -84,7 +84,7 @@ one_line_course p point kept waiting (a_cut k at ∷ ps) rest records f waits ma
 one_line_course p point kept waiting (a_reset r ∷ ps) rest records f waits made inside none with_line = differ (sym f.0.comes)
 one_line_course p point kept waiting (a_broken o ∷ []) rest records f waits made inside none with_line =
     let w = waits (ap (λ (x : Point). x.unanswered) f.1.0) in
-    differ (sym (subst (λ (ss : List Sent). has_reset ss ≡ true) f.1.1 w.0))
+    differ (sym (subst (λ (ss : List Sent). has_reset ss ≡ true) f.1.1 w.is.comes))
 one_line_course p point kept waiting (a_broken o ∷ a_cut k at ∷ ps) rest records f waits made inside none with_line =
     none_closed (record { lines = []; begun = o ∷ []; ending = by_cut k at }) (parts_of ps) records refl inside (closed origin (record { lines = []; begun = o ∷ []; ending = by_cut k at }) (parts_of ps) records (some_part ps) made)
 one_line_course p point kept waiting (a_broken o ∷ a_reset r ∷ ps) rest records f waits made inside none with_line = differ (sym f.1.0.comes)

@@ -7,7 +7,7 @@ use Rattle.status_report.specs.Replies.{reply_text}
 use Rattle.status_report.specs.declared.Reply.{Reply}
 use Rattle.status_report.specs.declared.Reply.TheVariants.{Banner}
 use Rattle.run_rules.specs.Told.{replies_text}
-use Rattle.audit_rules.specs.Consoles.{IsOnConsole, Tells, GoesOnWith}
+use Rattle.audit_rules.specs.Consoles.{IsOnConsole, Tells, TellsNext, GoesOnWith}
 
 -- ---- lists
 
@@ -85,25 +85,41 @@ in_turn console first second rest t =
 
 -- ---- what comes next
 
-all_reports : (reports : List Reply) → without_reports reports ≡ [] → AllByRecursion (λ r. is_report r ≡ true) reports
-all_reports [] e = tt
-all_reports (r ∷ rs) e = by_kind (is_report r) refl (λ f. all_reports rs f) where
-  by_kind : (b : Bool) → is_report r ≡ b → (without_reports rs ≡ [] → AllByRecursion (λ r. is_report r ≡ true) rs) → AllByRecursion (λ r. is_report r ≡ true) (r ∷ rs)
-  by_kind true report again = (report, again (sym (left_out r rs (ap not report)) ∙ e))
-  by_kind false plain again = absurd (let f : r ∷ without_reports rs ≡ [] = sym (kept r rs (ap not plain)) ∙ e in cc)
+-- reports before replies are left out
+pub behind_none : (reports rs : List Reply) → without_reports reports ≡ [] → without_reports (reports ++ rs) ≡ without_reports rs
+behind_none [] rs none = refl
+behind_none (r ∷ reports) rs none = by_kind (is_plain r) refl (λ f. behind_none reports rs f) where
+  by_kind : (b : Bool) → is_plain r ≡ b → (without_reports reports ≡ [] → without_reports (reports ++ rs) ≡ without_reports rs) → without_reports (r ∷ (reports ++ rs)) ≡ without_reports rs
+  by_kind true plain again = absurd (let f : r ∷ without_reports reports ≡ [] = sym (kept r reports plain) ∙ none in cc)
+  by_kind false report again = left_out r (reports ++ rs) report ∙ again (sym (left_out r reports report) ∙ none)
 
--- behind reports a text goes on as it does
-pub behind_reports : (reports : List Reply) (rest : List ℕ) (reply : Reply) → without_reports reports ≡ [] → AllByRecursion IsOnConsole reports → GoesOnWith rest reply → GoesOnWith (replies_text reports ++ rest) reply
-behind_reports reports rest reply none each g = record {
-  reports = reports ++ g.reports;
-  later = g.later;
+-- so a text that tells replies tells the same behind them
+pub tells_behind : (reports : List Reply) (rest : List ℕ) (told : List Reply) (later : List ℕ) → without_reports reports ≡ [] → AllByRecursion IsOnConsole reports → TellsNext rest told later → TellsNext (replies_text reports ++ rest) told later
+tells_behind reports rest told later none each t = record {
+  replies = reports ++ t.replies;
   text =
-      ap (λ (bytes : List ℕ). replies_text reports ++ bytes) g.text
-      ∙ sym (append_assoc (replies_text reports) (replies_text g.reports) (reply_text reply ++ g.later))
-      ∙ ap (λ (bytes : List ℕ). bytes ++ (reply_text reply ++ g.later)) (sym (flat_map-append reply_text reports g.reports));
-  each = all_joined IsOnConsole reports g.reports each g.each;
-  are = all_joined (λ r. is_report r ≡ true) reports g.reports (all_reports reports none) g.are;
+      ap (λ (bytes : List ℕ). replies_text reports ++ bytes) t.text
+      ∙ sym (append_assoc (replies_text reports) (replies_text t.replies) later)
+      ∙ ap (λ (bytes : List ℕ). bytes ++ later) (sym (flat_map-append reply_text reports t.replies));
+  each = all_joined IsOnConsole reports t.replies each t.each;
+  are = behind_none reports t.replies none ∙ t.are;
 }
+
+-- of what a text tells it tells the first half next, and is left to tell the second
+pub tells_first : (replies first second : List Reply) (rest : List ℕ) → without_reports replies ≡ first ++ second → AllByRecursion IsOnConsole replies → (later : List ℕ) × TellsNext (replies_text replies ++ rest) first later
+tells_first replies first second rest e each =
+    let h = in_halves replies first second e in (
+      replies_text h.back ++ rest,
+      record {
+        replies = h.front;
+        text =
+            ap (λ (rs : List Reply). replies_text rs ++ rest) h.is
+            ∙ ap (λ (bytes : List ℕ). bytes ++ rest) (flat_map-append reply_text h.front h.back)
+            ∙ append_assoc (replies_text h.front) (replies_text h.back) rest;
+        each = all_first IsOnConsole h.front h.back (subst (λ (rs : List Reply). AllByRecursion IsOnConsole rs) h.is each);
+        are = h.first_is;
+      },
+    )
 
 -- the first reply that is no report comes next
 pub comes_next : (replies : List Reply) (reply : Reply) (more : List Reply) (rest : List ℕ) → without_reports replies ≡ reply ∷ more → AllByRecursion IsOnConsole replies → GoesOnWith (replies_text replies ++ rest) reply

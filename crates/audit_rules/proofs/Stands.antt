@@ -1,27 +1,25 @@
 -- Records that stand, from the left.
-use Rattle.std.proofs.Common.{◌≡◌, ℕ, List, [], ◌∷◌, ◌++◌, append-nil, append_assoc, true, false, Bool, cond, sym, refl, ap, ◌∙◌, subst}
+use Rattle.std.proofs.Common.{◌≡◌, ℕ, List, [], ◌∷◌, ◌++◌, append-nil, append_assoc, true, false, sym, refl, ap, ◌∙◌, subst}
 use Rattle.std.specs.List.{AllByRecursion}
 use Rattle.std.proofs.lemmas.List.Concat.{flat_map-append}
 use Rattle.flight.specs.Places.{origin}
 use Rattle.status_report.specs.Answering.{without_reports}
 use Rattle.status_report.specs.declared.Reply.{Reply}
-use Rattle.status_report.specs.declared.Reply.TheVariants.{Banner, Alarm, Message}
-use Rattle.status_report.specs.declared.Message.TheVariants.{Locked}
 use Rattle.step_line.specs.declared.Record.{Record}
 use Rattle.run_rules.specs.Told.{replies_text}
-use Rattle.run_texts.specs.Courses.{Passed, Reset, behind_cut, behind_the_reset}
+use Rattle.run_texts.specs.Courses.{Passed, IsReset, behind_cut, behind_the_reset}
 use Rattle.run_texts.specs.Courses.Passed.{a_line, a_broken, a_cut, a_reset}
 use Rattle.run_texts.specs.Parts.{Part, parts_of}
 use Rattle.run_texts.specs.Points.{Point, opening, behind_line, behind_broken}
-use Rattle.run_texts.specs.Sent.{Sent, has_reset, behind_reset}
+use Rattle.run_texts.specs.Sent.{Sent, behind_reset}
 use Rattle.run_texts.specs.Sent.Sent.{a_text, a_stop}
 use Rattle.run_texts.specs.SoFar.{LeadsTo, AreMadeSoFar}
 use Rattle.run_texts.specs.Told.{told_in, told_of, told_at_reset}
 use Rattle.run_texts.proofs.Leading.{onto_none}
-use Rattle.audit_rules.specs.Consoles.{IsOnConsole, Tells, GoesOnAnew}
+use Rattle.audit_rules.specs.Consoles.{IsOnConsole, Tells}
 use Rattle.audit_rules.specs.Standing.{MayWait, Stand}
 use Rattle.audit_rules.proofs.Fronts.{front_made}
-use Rattle.audit_rules.proofs.Replies.{in_turn, behind_reports, comes_next}
+use Rattle.audit_rules.proofs.Replies.{in_turn, tells_behind, tells_first}
 
 -- ---- a point between
 
@@ -51,23 +49,18 @@ between p last (a_text line ∷ sent) rest (a_broken o ∷ ps) qs f =
 both : {A : Type 0} → true ≡ false → A
 both e = absurd cc
 
--- a reset tells `ALARM:3` or the banner first
-anew : (r : Reset) (alarm : Bool) → r.alarm ≡ alarm → (back more : List Reply) (rest : List ℕ) → without_reports back ≡ told_at_reset r ++ more → AllByRecursion IsOnConsole back → GoesOnAnew (replies_text back ++ rest)
-anew r true is back more rest e each =
-    let told : without_reports back ≡ Alarm 3 ∷ (Banner ∷ cond r.locked (Message Locked ∷ []) [] ++ more) = e ∙ ap (λ (b : Bool). (cond b (Alarm 3 ∷ []) [] ++ Banner ∷ cond r.locked (Message Locked ∷ []) []) ++ more) is in
-    (Alarm 3, refl, comes_next back (Alarm 3) (Banner ∷ cond r.locked (Message Locked ∷ []) [] ++ more) rest told each)
-anew r false is back more rest e each =
-    let told : without_reports back ≡ Banner ∷ (cond r.locked (Message Locked ∷ []) [] ++ more) = e ∙ ap (λ (b : Bool). (cond b (Alarm 3 ∷ []) [] ++ Banner ∷ cond r.locked (Message Locked ∷ []) []) ++ more) is in
-    (Banner, refl, comes_next back Banner (cond r.locked (Message Locked ∷ []) [] ++ more) rest told each)
-
 waits_before : (p point : Point) (sent left : List Sent) (later : List Passed) (back : List Reply) (rest : List ℕ)
     → LeadsTo p sent later point left → without_reports back ≡ told_in later → AllByRecursion IsOnConsole back → MayWait point left rest → MayWait p sent (replies_text back ++ rest)
 waits_before p point sent left [] back rest f e each waits unanswered =
     let w = waits (ap (λ (x : Point). x.unanswered) f.0 ∙ unanswered) in
-    let anew = w.1 in
-    (subst (λ (ss : List Sent). has_reset ss ≡ true) f.1 w.0, (anew.0, anew.1, behind_reports back rest anew.0 e each anew.2))
-waits_before p point sent left (a_cut k at ∷ ps) back rest f e each waits unanswered = waits_before (behind_cut at p) point sent left ps back rest f.1 e each waits unanswered
-waits_before p point sent left (a_reset r ∷ ps) back rest f e each waits unanswered = (f.0.comes, anew r r.alarm refl back (told_in ps) rest e each)
+    let comes : IsReset p left w.reset = subst (λ (x : Point). IsReset x left w.reset) f.0 w.is in
+    record { reset = w.reset; is = subst (λ (ss : List Sent). IsReset p ss w.reset) f.1 comes; later = w.later; tells = tells_behind back rest (told_at_reset w.reset) w.later e each w.tells }
+waits_before p point sent left (a_cut k at ∷ ps) back rest f e each waits unanswered =
+    let w = waits_before (behind_cut at p) point sent left ps back rest f.1 e each waits unanswered in
+    record { reset = w.reset; is = record { free = w.is.free; comes = w.is.comes; number = w.is.number; dropped = w.is.dropped; cause = w.is.cause; locked = w.is.locked }; later = w.later; tells = w.tells }
+waits_before p point sent left (a_reset r ∷ ps) back rest f e each waits unanswered =
+    let t = tells_first back (told_at_reset r) (told_in ps) rest e each in
+    record { reset = r; is = f.0; later = t.0; tells = t.1 }
 waits_before p point [] left (a_line o ∷ ps) back rest f e each waits unanswered = absurd f
 waits_before p point (a_stop ∷ sent) left (a_line o ∷ ps) back rest f e each waits unanswered = absurd f
 waits_before p point (a_text line ∷ sent) left (a_line o ∷ ps) back rest f e each waits unanswered = both (sym unanswered ∙ f.0.answered)

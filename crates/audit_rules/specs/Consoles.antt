@@ -39,3 +39,10 @@ is_of_reset _ = false
 -- what is left of a console goes on with what is told at a reset
 abbrev pub GoesOnAnew : List ℕ → Type 0
 GoesOnAnew rest = (reply : Reply) × (is_of_reset reply ≡ true) × GoesOnWith rest reply
+
+-- it tells this next, reports aside, and then this is left of it
+pub record TellsNext (rest : List ℕ) (told : List Reply) (later : List ℕ) : Type 0 where
+  pub replies : List Reply
+  pub text : rest ≡ replies_text replies ++ later
+  pub each : AllByRecursion IsOnConsole replies
+  pub are : without_reports replies ≡ told

@@ -1,11 +1,7 @@
 -- How a course that stands goes on behind another one, on one console and one job.
-use Rattle.std.specs.Prelude.{◌≡◌, ℕ, Bool, true, false, List, [], ◌∷◌, ◌++◌}
-use Rattle.std.specs.List.{AllByRecursion}
+use Rattle.std.specs.Prelude.{ℕ, Bool, true, false, List, [], ◌∷◌, ◌++◌}
 use Rattle.flight.specs.Places.{origin}
-use Rattle.status_report.specs.Answering.{without_reports}
-use Rattle.status_report.specs.declared.Reply.{Reply}
 use Rattle.step_line.specs.declared.Record.{Record}
-use Rattle.run_rules.specs.Told.{replies_text}
 use Rattle.run_texts.specs.Courses.{Passed}
 use Rattle.run_texts.specs.Courses.Passed.{a_line, a_broken}
 use Rattle.run_texts.specs.Parts.{parts_of}
@@ -13,15 +9,8 @@ use Rattle.run_texts.specs.Points.{Point}
 use Rattle.run_texts.specs.Sent.{Sent}
 use Rattle.run_texts.specs.SoFar.{LeadsTo, AreMadeSoFar, RebasesNothing}
 use Rattle.run_texts.specs.Told.{told_in}
-use Rattle.audit_rules.specs.Consoles.{IsOnConsole}
+pub use Rattle.audit_rules.specs.Consoles.{TellsNext}
 use Rattle.audit_rules.specs.Standing.{MayWait}
-
--- A console tells this next, reports aside, and then this is left of it.
-pub record TellsNext (rest : List ℕ) (told : List Reply) (later : List ℕ) : Type 0 where
-  pub replies : List Reply
-  pub text : rest ≡ replies_text replies ++ later
-  pub each : AllByRecursion IsOnConsole replies
-  pub are : without_reports replies ≡ told
 
 -- From a point, where this is left of the job and of the console, a course that rebases nothing leads to another one.
 pub record GoesOnTo (p : Point) (left : List Sent) (rest : List ℕ) (q : Point) (gone : List Sent) (later : List ℕ) : Type 0 where

@@ -4,20 +4,27 @@ use Rattle.flight.specs.Places.{origin}
 use Rattle.step_line.specs.declared.Record.{Record}
 use Rattle.run_rules.specs.declared.State.{State}
 use Rattle.run_rules.specs.States.{IsOpening}
-use Rattle.run_texts.specs.Courses.{Passed}
+use Rattle.run_texts.specs.Courses.{Passed, Reset, IsReset}
 use Rattle.run_texts.specs.Parts.{parts_of}
 use Rattle.run_texts.specs.Points.{Point, opening}
-use Rattle.run_texts.specs.Sent.{Sent, has_reset}
+use Rattle.run_texts.specs.Sent.{Sent}
 use Rattle.run_texts.specs.SoFar.{LeadsTo, AreMadeSoFar}
-use Rattle.run_texts.specs.Told.{told_in}
-use Rattle.audit_rules.specs.Consoles.{Tells, GoesOnAnew}
+use Rattle.run_texts.specs.Told.{told_in, told_at_reset}
+use Rattle.audit_rules.specs.Consoles.{Tells, TellsNext}
 use Rattle.audit_rules.specs.StepTexts.{AreLinesOf, lines_text, records_of, heading, form_of, body_of}
 use Rattle.step_record.specs.declared.forms.Line.{Line}
 use Rattle.step_record.specs.Forms.{line_text}
 
--- A line may be left unanswered where a reset of the job comes, and is what the console tells next.
+-- a reset of the job comes, and the console tells next what is told at it
+pub record GoesOnWithReset (p : Point) (left : List Sent) (rest : List ℕ) : Type 0 where
+  pub reset : Reset
+  pub is : IsReset p left reset
+  pub later : List ℕ
+  pub tells : TellsNext rest (told_at_reset reset) later
+
+-- a line may be left unanswered where that is so
 abbrev pub MayWait : Point → List Sent → List ℕ → Type 0
-MayWait p left rest = p.unanswered ≡ true → (has_reset left ≡ true) × GoesOnAnew rest
+MayWait p left rest = p.unanswered ≡ true → GoesOnWithReset p left rest
 
 -- These records break no rule: a course of the job leads to a point, the console tells what this course tells and then goes
 -- on, and the records are those that its parts make, all ended but the last. Which line ends a part is not known before its
