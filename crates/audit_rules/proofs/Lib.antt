@@ -3,6 +3,7 @@ pub mod Replies
 pub mod Stands
 pub mod Lines
 pub mod Places
+pub mod UpTo
 pub mod Fitting
 pub mod Fitted
 pub mod Alarmed

@@ -55,3 +55,22 @@ pub record StandTo (sent : List Sent) (console steps : List ℕ) : Type 0 where
 -- where the first line behind them begins
 abbrev pub place_behind : List ℕ → List Line → ℕ
 place_behind steps done = length (heading (form_of steps)) + length (lines_text done)
+
+-- Steps were read up to a record: these lines, and this is left of the text. Of their records some stand, but not with the next one,
+-- or, if that is none, not with the records of the line that comes next.
+pub record StandRead (sent : List Sent) (console steps : List ℕ) (lines : List Line) (rest : List ℕ) (records left : List Record) : Type 0 where
+  pub text : body_of steps ≡ lines_text lines ++ rest
+  pub are : AreLinesOf (form_of steps) lines
+  pub records_are : records ++ left ≡ records_of lines
+  pub stand : Stand sent console records
+  pub no_record : (r : Record) (others : List Record) → left ≡ r ∷ others → Stand sent console (records ++ r ∷ []) → ⊥
+  pub no_line : left ≡ [] → (line : Line) (more : List ℕ) → rest ≡ line_text line ++ more → AreLinesOf (form_of steps) (lines ++ line ∷ []) → Stand sent console (records_of (lines ++ line ∷ [])) → ⊥
+
+-- Some of the lines stand, and behind them the line that holds the next record, if there is one.
+pub record AreUpTo (done lines : List Line) (records left : List Record) : Type 0 where
+  pub behind : List Line
+  pub part : List Record
+  pub lines_are : lines ≡ done ++ behind
+  pub records_are : records ≡ records_of done ++ part
+  pub none : left ≡ [] → (behind ≡ []) × (part ≡ [])
+  pub some : (r : Record) (others : List Record) → left ≡ r ∷ others → (line : Line) × (more : List Line) × (tail : List Record) × (behind ≡ line ∷ more) × (records_of (line ∷ []) ≡ part ++ r ∷ tail)

@@ -6,7 +6,7 @@ ghost use Rattle.step_line.specs.declared.Record.{Record as AnyRecord};
 ghost use Rattle.audit_rules.specs.declared.Audit.{Audit as AnyAudit};
 ghost use Rattle.audit_rules.specs.Findings.{Finds, FitsWith, BreaksAt, IsForeign, HasForeign, IsTooLong, exit_of};
 ghost use Rattle.audit_rules.specs.Scanned.{sent_in};
-ghost use Rattle.audit_rules.specs.Standing.{Stand, StandTo};
+ghost use Rattle.audit_rules.specs.Standing.{Stand, StandTo, StandRead, AreUpTo};
 ghost use Rattle.audit_rules.specs.StepTexts.{IsLineOf, FollowsLast, AreLinesOf, IsStepText, last_of, form_of, records_of};
 ghost use Rattle.step_line.specs.Records.{IsRecord};
 ghost use Rattle.step_record.specs.Forms.{text_in};
@@ -35,6 +35,13 @@ pub fn step_texts_go_on_line_by_line()
 pub fn records_stand_from_the_left()
     ensures before { (sent : List Sent) (console : List ℕ) (records : List AnyRecord) (r : AnyRecord) → Stand sent console (records ++ r ∷ []) → Stand sent console records }
     ensures place { (sent : List Sent) (console steps : List ℕ) (x y : StandTo sent console steps) → (x.done ≡ y.done) × (x.rest ≡ y.rest) }
+{}
+
+/// Where steps were read up to a record with which the records before it stand no more, the lines that stand are found: those
+/// before the line that holds that record.
+pub fn steps_that_were_read_stand_up_to_a_line()
+    ensures { (sent : List Sent) (console steps : List ℕ) (lines : List Line) (rest : List ℕ) (records left : List AnyRecord) →
+        StandRead sent console steps lines rest records left → (z : StandTo sent console steps) × AreUpTo z.done lines records left }
 {}
 
 /// Of texts that fit the console stands, no reply is bad and no record breaks a rule. If they end with the alarm of a soft
