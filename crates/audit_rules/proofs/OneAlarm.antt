@@ -21,8 +21,8 @@ use Rattle.audit_rules.specs.Consoles.{IsOnConsole, Tells, GoesOnWith}
 use Rattle.audit_rules.specs.StepTexts.{records_of}
 use Rattle.audit_rules.specs.Telling.{HasAlarm}
 use Rattle.audit_rules.proofs.OneLine.{one_point, goes_up_to}
-use Rattle.audit_rules.proofs.OneText.{ToldAlike, EndsTelling, one_sign}
-use Rattle.audit_rules.proofs.OneWay.{Goes, both, sign_of}
+use Rattle.audit_rules.proofs.OneText.{ToldOn, NoneBetween, one_sign, told_on}
+use Rattle.audit_rules.proofs.OneWay.{Goes, TellOn, both, sign_of}
 use Rattle.audit_rules.proofs.Places.{one_place}
 use Rattle.audit_rules.proofs.Replies.{all_joined, left_out}
 
@@ -77,8 +77,8 @@ not_alarm (Modes m) e f = omega (arith, f)
 not_alarm (Offset row at) e f = omega (arith, f)
 not_alarm Bye e f = omega (arith, f)
 
-alarm_ends : (later : List ℕ) → EndsTelling IsBefore (reply_text (Alarm soft_limit) ++ later)
-alarm_ends later r rest may e = not_alarm r may.1 (one_sign (Alarm soft_limit) r later rest tt may.0 e)
+alarm_ends : (x later : List ℕ) → NoneBetween IsBefore x (reply_text (Alarm soft_limit) ++ later)
+alarm_ends x later r between may e = not_alarm r may.1 (one_sign (Alarm soft_limit) r later (between ++ x) tt may.0 e)
 
 one_before : (r : Reply) (rs : List Reply) → IsOnConsole r → NoLimits (without_reports (r ∷ rs)) → (NoLimits (without_reports rs) → AllByRecursion IsBefore rs) → AllByRecursion IsBefore (r ∷ rs)
 one_before (Report q) rs on calm again = ((on, refl), again calm)
@@ -122,20 +122,23 @@ up_to_alarm console rest us t g calm =
           ∙ ap (λ (bytes : List ℕ). reply_text Banner ++ bytes) (sym (append_assoc (replies_text t.behind) (replies_text g.reports) tail) ∙ ap (λ (bytes : List ℕ). bytes ++ tail) (sym (flat_map-append reply_text t.behind g.reports)));
     }
 
-alike_before : (console : List ℕ) (us vs : List Reply) → UpToAlarm console us → UpToAlarm console vs → ToldAlike IsBefore us vs
-alike_before console us vs a b = record {
+-- what is left there
+abbrev from_alarm : (console : List ℕ) (us : List Reply) → UpToAlarm console us → List ℕ
+from_alarm console us a = reply_text (Alarm soft_limit) ++ a.later
+
+told_before : (console : List ℕ) (us vs : List Reply) (a : UpToAlarm console us) (b : UpToAlarm console vs) → ToldOn IsBefore (from_alarm console us a) (from_alarm console vs b) us vs
+told_before console us vs a b = record {
   one = a.told;
   other = b.told;
   one_may = a.may;
   other_may = b.may;
   one_is = a.are;
   other_is = b.are;
-  x = reply_text (Alarm soft_limit) ++ a.later;
-  y = reply_text (Alarm soft_limit) ++ b.later;
-  x_ends = alarm_ends a.later;
-  y_ends = alarm_ends b.later;
-  text = append_cancel_left (reply_text Banner) (replies_text a.told ++ (reply_text (Alarm soft_limit) ++ a.later)) (replies_text b.told ++ (reply_text (Alarm soft_limit) ++ b.later)) (sym a.text ∙ b.text);
+  text = append_cancel_left (reply_text Banner) (replies_text a.told ++ from_alarm console us a) (replies_text b.told ++ from_alarm console vs b) (sym a.text ∙ b.text);
 }
+
+before_on : (console : List ℕ) (us vs : List Reply) (a : UpToAlarm console us) (b : UpToAlarm console vs) → TellOn (ToldOn IsBefore (from_alarm console us a) (from_alarm console vs b))
+before_on console us vs a b = told_on IsBefore (λ r may. may.0) (from_alarm console us a) (from_alarm console vs b) (alarm_ends (from_alarm console us a) b.later)
 
 -- ---- the line
 
@@ -148,6 +151,9 @@ stands_calmly sent console steps k x =
 pub one_alarm : (sent : List Sent) (console steps : List ℕ) (k l : ℕ) → HasAlarm sent console steps k → HasAlarm sent console steps l → k ≡ l
 one_alarm sent console steps k l x y =
     let done = one_place sent console steps x.steps_stand y.steps_stand in
-    let told = alike_before console _ _ (stands_calmly sent console steps k x) (stands_calmly sent console steps l y) in
-    let s = one_point sent console _ _ (ap records_of done.done) x.point y.point _ _ x.rest y.rest x.stands y.stands IsBefore (λ r may. may.0) told x.passed.answered y.passed.answered in
+    let us = told_in (x.stands.course ++ x.stands.others) in
+    let vs = told_in (y.stands.course ++ y.stands.others) in
+    let a = stands_calmly sent console steps k x in
+    let b = stands_calmly sent console steps l y in
+    let s = one_point sent console _ _ (ap records_of done.done) x.point y.point _ _ x.rest y.rest x.stands y.stands _ _ (before_on console us vs a b) (before_on console vs us b a) (told_before console us vs a b) (told_before console vs us b a) x.passed.answered y.passed.answered in
     sym x.number ∙ ap (λ (p : Point). p.before.number) s.point ∙ y.number

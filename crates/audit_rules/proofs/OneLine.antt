@@ -1,6 +1,6 @@
 -- One line has the bad reply.
-use Rattle.std.proofs.Common.{◌≡◌, ℕ, List, [], ◌∷◌, ◌++◌, false, sym, ap, ◌∙◌, subst}
-use Rattle.std.proofs.lemmas.List.{append_cancel_left, append_cancel_right}
+use Rattle.std.proofs.Common.{◌≡◌, ◌≤◌, ℕ, List, ◌++◌, length, append_assoc, length-append, false, sym, ap, ◌∙◌, subst, arith}
+use Rattle.std.proofs.lemmas.List.{append_cancel_left}
 use Rattle.flight.specs.Places.{origin}
 use Rattle.status_report.specs.Replies.{reply_text}
 use Rattle.status_report.specs.declared.Reply.{Reply}
@@ -22,34 +22,45 @@ use Rattle.audit_rules.specs.Telling.{StandsUpTo, StandsNoFurther, IsLineAtFault
 use Rattle.audit_rules.specs.Telling.IsLineAtFault.{at_line, behind_alarm, at_none}
 use Rattle.audit_rules.specs.Telling.HasBadReply.{at_once, behind}
 use Rattle.audit_rules.proofs.BadReplies.{no_banner, one_rest}
-use Rattle.audit_rules.proofs.OneText.{ToldAlike, CanStand, some_text, told_alike}
-use Rattle.audit_rules.proofs.OneWay.{Goes, both, meet}
+use Rattle.audit_rules.proofs.OneText.{ToldOn, NoneBetween, begins_so, no_bye, told_on}
+use Rattle.audit_rules.proofs.OneWay.{Goes, TellOn, both, meet}
 use Rattle.audit_rules.proofs.Places.{one_place}
 use Rattle.audit_rules.proofs.StopsMade.{same_stops, goes_on}
 
 -- ---- a console that stands up to a point with its lines answered
 
--- a whole text tells the same of two courses
-told_same : (console rest : List ℕ) (us vs : List Reply) → Tells console us rest → Tells console vs rest → ToldAlike IsOnConsole us vs
-told_same console rest us vs a b =
-    let whole : replies_text (Banner ∷ a.behind) ≡ replies_text (Banner ∷ b.behind) = append_cancel_right (replies_text (Banner ∷ a.behind)) (replies_text (Banner ∷ b.behind)) rest (sym a.text ∙ b.text) in
-    record {
-      one = a.behind;
-      other = b.behind;
-      one_may = a.each;
-      other_may = b.each;
-      one_is = a.are;
-      other_is = b.are;
-      x = [];
-      y = [];
-      x_ends = λ r more on e. some_text r more on e;
-      y_ends = λ r more on e. some_text r more on e;
-      text = ap (λ (t : List ℕ). t ++ []) (append_cancel_left (reply_text Banner) (replies_text a.behind) (replies_text b.behind) whole);
-    }
+-- what is told of a console up to one place and another
+told_further : (console rest later : List ℕ) (us vs : List Reply) → Tells console us rest → Tells console vs later → ToldOn IsOnConsole rest later us vs
+told_further console rest later us vs a b = record {
+  one = a.behind;
+  other = b.behind;
+  one_may = a.each;
+  other_may = b.each;
+  one_is = a.are;
+  other_is = b.are;
+  text = append_cancel_left (reply_text Banner) (replies_text a.behind ++ rest) (replies_text b.behind ++ later) (sym (append_assoc (reply_text Banner) (replies_text a.behind) rest) ∙ sym a.text ∙ b.text ∙ append_assoc (reply_text Banner) (replies_text b.behind) later);
+}
+
+-- what leaves less tells no less
+none_between : (rest later : List ℕ) → length later ≤ length rest → NoneBetween IsOnConsole rest later
+none_between rest later few r between on e =
+    let long : length later ≡ length (reply_text r ++ (between ++ rest)) = ap length e in
+    let text = begins_so r (no_bye r on) in
+    omega (arith, few, long, ap length text.1, length-append (reply_text r) (between ++ rest), length-append between rest)
 
 pub goes_up_to : (sent : List Sent) (console : List ℕ) (records : List Record) (p : Point) (left : List Sent) (rest : List ℕ) (s : StandsUpTo sent console records p left rest) → p.unanswered ≡ false
     → Goes (opening s.first) sent (stops_of s.course) (s.course ++ s.others) p left
 goes_up_to sent console records p left rest s answered = goes_on (opening s.first) s.between p sent s.waiting left s.course s.others s.leads s.goes_on s.rebases answered
+
+-- another one goes from the same opening, with the same cuts and resets first
+goes_beside : (sent : List Sent) (console : List ℕ) (records others : List Record) → records ≡ others → (p q : Point) (left gone : List Sent) (rest more : List ℕ) (x : StandsUpTo sent console records p left rest) (y : StandsUpTo sent console others q gone more) → q.unanswered ≡ false
+    → Goes (opening x.first) sent (stops_of x.course) (y.course ++ y.others) q gone
+goes_beside sent console records others same p q left gone rest more x y answered =
+    let first : x.first ≡ y.first = one_opening x.first y.first x.opens y.opens in
+    let stops : stops_of x.course ≡ stops_of y.course = same_stops x.course y.course origin records x.made (subst (λ (rs : List Record). AreMadeSoFar origin (parts_of y.course) rs) (sym same) y.made) in
+    let there : Goes (opening y.first) sent (stops_of y.course) (y.course ++ y.others) q gone = goes_up_to sent console others q gone more y answered in
+    subst (λ (s : State). Goes (opening s) sent (stops_of x.course) (y.course ++ y.others) q gone) (sym first)
+    (subst (λ (ss : List Stop). Goes (opening y.first) sent ss (y.course ++ y.others) q gone) (sym stops) there)
 
 pub record OnePoint (p q : Point) (left gone : List Sent) (course other : List Passed) : Type 0 where
   pub point : p ≡ q
@@ -57,16 +68,12 @@ pub record OnePoint (p q : Point) (left gone : List Sent) (course other : List P
   pub last : last_answered 1 0 course ≡ last_answered 1 0 other
 
 pub one_point : (sent : List Sent) (console : List ℕ) (records others : List Record) → records ≡ others → (p q : Point) (left gone : List Sent) (rest more : List ℕ) (x : StandsUpTo sent console records p left rest) (y : StandsUpTo sent console others q gone more)
-    → (May : Reply → Type 0) → CanStand May → ToldAlike May (told_in (x.course ++ x.others)) (told_in (y.course ++ y.others)) → p.unanswered ≡ false → q.unanswered ≡ false → OnePoint p q left gone (x.course ++ x.others) (y.course ++ y.others)
-one_point sent console records others same p q left gone rest more x y May can told p_answered q_answered =
-    let first : x.first ≡ y.first = one_opening x.first y.first x.opens y.opens in
-    let stops : stops_of x.course ≡ stops_of y.course = same_stops x.course y.course origin records x.made (subst (λ (rs : List Record). AreMadeSoFar origin (parts_of y.course) rs) (sym same) y.made) in
-    let here : Goes (opening x.first) sent (stops_of x.course) (x.course ++ x.others) p left = goes_up_to sent console records p left rest x p_answered in
-    let there : Goes (opening y.first) sent (stops_of y.course) (y.course ++ y.others) q gone = goes_up_to sent console others q gone more y q_answered in
-    let back : Goes (opening x.first) sent (stops_of x.course) (y.course ++ y.others) q gone =
-    subst (λ (s : State). Goes (opening s) sent (stops_of x.course) (y.course ++ y.others) q gone) (sym first)
-    (subst (λ (ss : List Stop). Goes (opening y.first) sent ss (y.course ++ y.others) q gone) (sym stops) there) in
-    let m = meet (ToldAlike May) (told_alike May can) (opening x.first) p q sent left gone (stops_of x.course) (x.course ++ x.others) (y.course ++ y.others) here back told in
+    → (R S : List Reply → List Reply → Type 0) → TellOn R → TellOn S → R (told_in (x.course ++ x.others)) (told_in (y.course ++ y.others)) → S (told_in (y.course ++ y.others)) (told_in (x.course ++ x.others))
+    → p.unanswered ≡ false → q.unanswered ≡ false → OnePoint p q left gone (x.course ++ x.others) (y.course ++ y.others)
+one_point sent console records others same p q left gone rest more x y R S on back told turned p_answered q_answered =
+    let here = goes_up_to sent console records p left rest x p_answered in
+    let there = goes_beside sent console records others same p q left gone rest more x y q_answered in
+    let m = meet R S on back (opening x.first) p q sent left gone (stops_of x.course) (x.course ++ x.others) (y.course ++ y.others) here there told turned in
     record { point = m.point; waiting = m.rest; last = m.last 0 }
 
 -- ---- the line at fault
@@ -89,9 +96,12 @@ no_further sent console steps k l x y =
     let a = x.stands in
     let b = y.stands in
     let records : records_of x.steps_stand.done ≡ records_of y.steps_stand.done = ap records_of done.done in
-    let told : ToldAlike IsOnConsole (told_in (a.course ++ a.others)) (told_in (b.course ++ b.others)) =
-    told_same console x.rest (told_in (a.course ++ a.others)) (told_in (b.course ++ b.others)) a.told (subst (λ (more : List ℕ). Tells console (told_in (b.course ++ b.others)) more) (sym rest) b.told) in
-    let s = one_point sent console (records_of x.steps_stand.done) (records_of y.steps_stand.done) records x.point y.point x.left y.left x.rest y.rest a b IsOnConsole (λ r on. on) told x.answered y.answered in
+    let none = none_between x.rest x.rest (omega arith) in
+    let on = told_on IsOnConsole (λ r on. on) x.rest x.rest none in
+    let first : Tells console (told_in (a.course ++ a.others)) x.rest = a.told in
+    let second : Tells console (told_in (b.course ++ b.others)) x.rest = subst (λ (more : List ℕ). Tells console (told_in (b.course ++ b.others)) more) (sym rest) b.told in
+    let s = one_point sent console (records_of x.steps_stand.done) (records_of y.steps_stand.done) records x.point y.point x.left y.left x.rest y.rest a b (ToldOn IsOnConsole x.rest x.rest) (ToldOn IsOnConsole x.rest x.rest) on on
+    (told_further console x.rest x.rest _ _ first second) (told_further console x.rest x.rest _ _ second first) x.answered y.answered in
     let n = last_answered 1 0 (a.course ++ a.others) in
     one_fault x.point x.left x.rest n k l x.is
     (subst (λ (z : Point). IsLineAtFault z x.left x.rest n l) (sym s.point)

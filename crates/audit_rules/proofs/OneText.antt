@@ -1,6 +1,6 @@
--- Replies with one text are told alike.
+-- Of replies that one text tells, those up to a later place go on where the others end.
 use Rattle.std.specs.Prelude.{if◌then◌else◌, ◌==◌, codes, decimal, ◌/◌, ◌%◌}
-use Rattle.std.proofs.Common.{◌≡◌, ℕ, zero, suc, ◌+◌, ◌≤◌, ℤ, pos, negsuc, nat_abs, nat_eq, nat_lt, List, [], ◌∷◌, ◌++◌, drop, append_assoc, true, false, Bool, cond, not, Some, None, sym, refl, ap, ◌∙◌, subst, arith}
+use Rattle.std.proofs.Common.{◌≡◌, ℕ, zero, suc, ◌+◌, ◌≤◌, ◌⊎◌, inl, inr, ℤ, pos, negsuc, nat_abs, nat_eq, nat_lt, List, [], ◌∷◌, ◌++◌, drop, append_assoc, true, false, Bool, cond, not, Some, None, sym, refl, ap, ◌∙◌, subst, arith}
 use Rattle.std.specs.declared.option.Option.{Option}
 use Rattle.std.specs.Fmt.{digits, digits_onto, digit_glyph}
 use Rattle.std.specs.List.{AllByRecursion, list_all, join_with_byte}
@@ -24,7 +24,7 @@ use Rattle.status_report.specs.declared.reports.State.{State}
 use Rattle.status_report.specs.declared.reports.State.TheVariants as states
 use Rattle.run_rules.specs.Told.{replies_text}
 use Rattle.audit_rules.specs.Consoles.{IsOnConsole}
-use Rattle.audit_rules.proofs.OneWay.{TellAlike, sign_of, first_sign}
+use Rattle.audit_rules.proofs.OneWay.{TellOn, sign_of, first_sign}
 use Rattle.audit_rules.proofs.Replies.{all_joined}
 
 -- ---- numbers and reports have no CR
@@ -170,11 +170,6 @@ pub no_bye : (r : Reply) → IsOnConsole r → is_bye r ≡ false
 no_bye Bye on = absurd on
 no_bye _ on = refl
 
-pub some_text : {A : Type 0} (r : Reply) (x : List ℕ) → IsOnConsole r → ◌≡◌ {A = List ℕ} [] (reply_text r ++ x) → A
-some_text r x on e =
-    let a = begins_so r (no_bye r on) in
-    absurd (let f : [] ≡ first_byte r ∷ (a.0 ++ x) = e ∙ ap (λ (t : List ℕ). t ++ x) a.1 in cc)
-
 -- a report, or not; an alarm, or not
 report_byte : (r : Reply) → is_report r ≡ true → (first_byte r ≡ 60) × ((q : AnyReport) × (r ≡ Report q))
 report_byte (Report q) e = (refl, (q, refl))
@@ -294,25 +289,28 @@ one_sign r s x y r_on s_on e = by_kinds (signed r r_on) (signed s s_on) where
   by_kinds (by_byte on sign none) (an_alarm m s_is) = absurd (none (byte ∙ ap first_byte s_is))
   by_kinds (by_byte r_some r_sign r_none) (by_byte s_some s_sign s_none) = r_sign ∙ byte ∙ sym s_sign
 
--- ---- told alike
+-- ---- told on
 
--- no reply of these begins a text
-abbrev pub EndsTelling : (Reply → Type 0) → List ℕ → Type 0
-EndsTelling May text = (r : Reply) (rest : List ℕ) → May r → text ≡ reply_text r ++ rest → ⊥
+-- What leaves x of a text tells no reply of these beyond what leaves y.
+abbrev pub NoneBetween : (Reply → Type 0) → List ℕ → List ℕ → Type 0
+NoneBetween May x y = (r : Reply) (between : List ℕ) → May r → y ≡ reply_text r ++ (between ++ x) → ⊥
 
--- Replies are told alike that a console with one text tells, reports aside, up to what no reply of these begins.
-pub record ToldAlike (May : Reply → Type 0) (us vs : List Reply) : Type 0 where
+-- A text tells these replies, reports aside, up to x, and those up to y.
+pub record ToldOn (May : Reply → Type 0) (x y : List ℕ) (us vs : List Reply) : Type 0 where
   pub one : List Reply
   pub other : List Reply
   pub one_may : AllByRecursion May one
   pub other_may : AllByRecursion May other
   pub one_is : without_reports one ≡ us
   pub other_is : without_reports other ≡ vs
-  pub x : List ℕ
-  pub y : List ℕ
-  pub x_ends : EndsTelling May x
-  pub y_ends : EndsTelling May y
   pub text : replies_text one ++ x ≡ replies_text other ++ y
+
+-- From x on these replies are told, reports aside, up to y.
+pub record ToldThen (May : Reply → Type 0) (x y : List ℕ) (vs : List Reply) : Type 0 where
+  pub replies : List Reply
+  pub may : AllByRecursion May replies
+  pub are : without_reports replies ≡ vs
+  pub text : x ≡ replies_text replies ++ y
 
 -- these can stand on a console
 abbrev pub CanStand : (Reply → Type 0) → Type 0
@@ -327,22 +325,19 @@ same_report r s x y r_is s_is e =
 report_alone : {A : Type 0} (r s : Reply) (x y : List ℕ) → IsOnConsole r → IsOnConsole s → is_report r ≡ true → is_report s ≡ false → reply_text r ++ x ≡ reply_text s ++ y → A
 report_alone r s x y r_on s_on r_is s_is e = absurd (no_report_byte s s_is (sym (one_first r s x y (no_bye r r_on) (no_bye s s_on) e) ∙ (report_byte r r_is).0))
 
-module _ (May : Reply → Type 0) (can : CanStand May) where
+module _ (May : Reply → Type 0) (can : CanStand May) (x y : List ℕ) (none : NoneBetween May x y) where
   -- what stands behind the reports that come first
   data Front (us vs : List Reply) : Type 0 where
-    no_more : us ≡ [] → vs ≡ [] → Front us vs
-    some_more : (r s : Reply) (more less : List Reply) → May r → May s → us ≡ r ∷ more → vs ≡ s ∷ less → (x y : List ℕ) → reply_text r ++ x ≡ reply_text s ++ y
-        → ((x ≡ y) → ToldAlike May more less) → Front us vs
+    no_more : us ≡ [] → ToldThen May x y vs → Front us vs
+    some_more : (r s : Reply) (more less : List Reply) → May r → May s → us ≡ r ∷ more → vs ≡ s ∷ less → (t u : List ℕ) → reply_text r ++ t ≡ reply_text s ++ u
+        → ((t ≡ u) → ToldOn May x y more less) → Front us vs
 
-  front_of : (us vs one other : List Reply) (x y : List ℕ) → AllByRecursion May one → AllByRecursion May other → without_reports one ≡ us → without_reports other ≡ vs
-      → EndsTelling May x → EndsTelling May y → replies_text one ++ x ≡ replies_text other ++ y → Front us vs
-  front_of us vs [] [] x y one_may other_may one_is other_is x_ends y_ends text = no_more (sym one_is) (sym other_is)
-  front_of us vs [] (s ∷ other) x y one_may other_may one_is other_is x_ends y_ends text =
-      absurd (x_ends s (replies_text other ++ y) other_may.0 (text ∙ append_assoc (reply_text s) (replies_text other) y))
-  front_of us vs (r ∷ one) [] x y one_may other_may one_is other_is x_ends y_ends text =
-      absurd (y_ends r (replies_text one ++ x) one_may.0 (sym text ∙ append_assoc (reply_text r) (replies_text one) x))
-  front_of us vs (r ∷ one) (s ∷ other) x y one_may other_may one_is other_is x_ends y_ends text =
-      by_kinds (is_report r) (is_report s) refl refl one_is other_is (λ a b e. front_of us vs one other x y one_may.1 other_may.1 a b x_ends y_ends e) where
+  front_of : (us vs one other : List Reply) → AllByRecursion May one → AllByRecursion May other → without_reports one ≡ us → without_reports other ≡ vs → replies_text one ++ x ≡ replies_text other ++ y → Front us vs
+  front_of us vs [] other one_may other_may one_is other_is text = no_more (sym one_is) (record { replies = other; may = other_may; are = other_is; text = text })
+  front_of us vs (r ∷ one) [] one_may other_may one_is other_is text =
+      absurd (none r (replies_text one) one_may.0 (sym text ∙ append_assoc (reply_text r) (replies_text one) x))
+  front_of us vs (r ∷ one) (s ∷ other) one_may other_may one_is other_is text =
+      by_kinds (is_report r) (is_report s) refl refl one_is other_is (λ a b e. front_of us vs one other one_may.1 other_may.1 a b e) where
         whole : reply_text r ++ (replies_text one ++ x) ≡ reply_text s ++ (replies_text other ++ y)
         whole = sym (append_assoc (reply_text r) (replies_text one) x) ∙ text ∙ append_assoc (reply_text s) (replies_text other) y
 
@@ -355,50 +350,34 @@ module _ (May : Reply → Type 0) (can : CanStand May) where
             report_alone s r (replies_text other ++ y) (replies_text one ++ x) (can s other_may.0) (can r one_may.0) s_is r_is (sym whole)
         by_kinds false false r_is s_is one_here other_here again =
             some_more r s (without_reports one) (without_reports other) one_may.0 other_may.0 (sym one_here) (sym other_here) (replies_text one ++ x) (replies_text other ++ y) whole
-            (λ e. record { one = one; other = other; one_may = one_may.1; other_may = other_may.1; one_is = refl; other_is = refl; x = x; y = y; x_ends = x_ends; y_ends = y_ends; text = e })
+            (λ e. record { one = one; other = other; one_may = one_may.1; other_may = other_may.1; one_is = refl; other_is = refl; text = e })
 
-  front : (us vs : List Reply) → ToldAlike May us vs → Front us vs
-  front us vs t = front_of us vs t.one t.other t.x t.y t.one_may t.other_may t.one_is t.other_is t.x_ends t.y_ends t.text
+  front : (us vs : List Reply) → ToldOn May x y us vs → Front us vs
+  front us vs t = front_of us vs t.one t.other t.one_may t.other_may t.one_is t.other_is t.text
 
   -- behind the first of each, if their texts leave the same
-  behind_first : (z w : Reply) (us vs : List Reply) → ((x y : List ℕ) → reply_text z ++ x ≡ reply_text w ++ y → x ≡ y) → Front (z ∷ us) (w ∷ vs) → ToldAlike May us vs
-  behind_first z w us vs leave (no_more a b) = absurd cc
-  behind_first z w us vs leave (some_more r s more less r_may s_may one_is other_is x y text on) =
+  behind_first : (z w : Reply) (us vs : List Reply) → ((t u : List ℕ) → reply_text z ++ t ≡ reply_text w ++ u → t ≡ u) → Front (z ∷ us) (w ∷ vs) → ToldOn May x y us vs
+  behind_first z w us vs leave (no_more a after) = absurd cc
+  behind_first z w us vs leave (some_more r s more less r_may s_may one_is other_is t u text on) =
       let first : z ≡ r = cc in
       let second : w ≡ s = cc in
       let us_is : us ≡ more = cc in
       let vs_is : vs ≡ less = cc in
-      subst (λ (rs : List Reply). ToldAlike May rs vs) (sym us_is)
-      (subst (λ (rs : List Reply). ToldAlike May more rs) (sym vs_is) (on (leave x y (ap (λ (q : Reply). reply_text q ++ x) first ∙ text ∙ sym (ap (λ (q : Reply). reply_text q ++ y) second)))))
+      subst (λ (rs : List Reply). ToldOn May x y rs vs) (sym us_is)
+      (subst (λ (rs : List Reply). ToldOn May x y more rs) (sym vs_is) (on (leave t u (ap (λ (q : Reply). reply_text q ++ t) first ∙ text ∙ sym (ap (λ (q : Reply). reply_text q ++ u) second)))))
 
-  behind_all : (zs us vs : List Reply) → ToldAlike May (zs ++ us) (zs ++ vs) → ToldAlike May us vs
+  behind_all : (zs us vs : List Reply) → ToldOn May x y (zs ++ us) (zs ++ vs) → ToldOn May x y us vs
   behind_all [] us vs t = t
-  behind_all (z ∷ zs) us vs t = behind_all zs us vs (behind_first z z (zs ++ us) (zs ++ vs) (λ x y e. append_cancel_left (reply_text z) x y e) (front (z ∷ (zs ++ us)) (z ∷ (zs ++ vs)) t))
+  behind_all (z ∷ zs) us vs t = behind_all zs us vs (behind_first z z (zs ++ us) (zs ++ vs) (λ a b e. append_cancel_left (reply_text z) a b e) (front (z ∷ (zs ++ us)) (z ∷ (zs ++ vs)) t))
 
-  first_alike : (us vs : List Reply) → Front us vs → first_sign us ≡ first_sign vs
-  first_alike us vs (no_more a b) = ap first_sign a ∙ sym (ap first_sign b)
-  first_alike us vs (some_more r s more less r_may s_may one_is other_is x y text on) =
-      ap first_sign one_is ∙ one_sign r s x y (can r r_may) (can s s_may) text ∙ sym (ap first_sign other_is)
+  first_signs : (us vs : List Reply) → Front us vs → (us ≡ []) ⊎ (first_sign us ≡ first_sign vs)
+  first_signs us vs (no_more a after) = inl a
+  first_signs us vs (some_more r s more less r_may s_may one_is other_is t u text on) =
+      inr (ap first_sign one_is ∙ one_sign r s t u (can r r_may) (can s s_may) text ∙ sym (ap first_sign other_is))
 
-  turn : (us vs : List Reply) → ToldAlike May us vs → ToldAlike May vs us
-  turn us vs t = record {
-    one = t.other;
-    other = t.one;
-    one_may = t.other_may;
-    other_may = t.one_may;
-    one_is = t.other_is;
-    other_is = t.one_is;
-    x = t.y;
-    y = t.x;
-    x_ends = t.y_ends;
-    y_ends = t.x_ends;
-    text = sym t.text;
-  }
-
-  pub told_alike : TellAlike (ToldAlike May)
-  told_alike = record {
-    turned = turn;
-    first = λ us vs t. first_alike us vs (front us vs t);
+  pub told_on : TellOn (ToldOn May x y)
+  told_on = record {
+    first = λ us vs t. first_signs us vs (front us vs t);
     behind = behind_all;
     errors = λ n m us vs t. behind_first (Error n) (Error m) us vs (two_errors n m) (front (Error n ∷ us) (Error m ∷ vs) t);
   }
