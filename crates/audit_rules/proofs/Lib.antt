@@ -17,4 +17,5 @@ pub mod StopsMade
 pub mod OneText
 pub mod BadReplies
 pub mod OneLine
+pub mod GoesOn
 pub mod OneAlarm

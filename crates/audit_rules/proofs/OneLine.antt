@@ -30,7 +30,7 @@ use Rattle.audit_rules.proofs.StopsMade.{same_stops, goes_on}
 -- ---- a console that stands up to a point with its lines answered
 
 -- what is told of a console up to one place and another
-told_further : (console rest later : List ℕ) (us vs : List Reply) → Tells console us rest → Tells console vs later → ToldOn IsOnConsole rest later us vs
+pub told_further : (console rest later : List ℕ) (us vs : List Reply) → Tells console us rest → Tells console vs later → ToldOn IsOnConsole rest later us vs
 told_further console rest later us vs a b = record {
   one = a.behind;
   other = b.behind;
@@ -42,7 +42,7 @@ told_further console rest later us vs a b = record {
 }
 
 -- what leaves less tells no less
-none_between : (rest later : List ℕ) → length later ≤ length rest → NoneBetween IsOnConsole rest later
+pub none_between : (rest later : List ℕ) → length later ≤ length rest → NoneBetween IsOnConsole rest later
 none_between rest later few r between on e =
     let long : length later ≡ length (reply_text r ++ (between ++ rest)) = ap length e in
     let text = begins_so r (no_bye r on) in
@@ -53,7 +53,7 @@ pub goes_up_to : (sent : List Sent) (console : List ℕ) (records : List Record)
 goes_up_to sent console records p left rest s answered = goes_on (opening s.first) s.between p sent s.waiting left s.course s.others s.leads s.goes_on s.rebases answered
 
 -- another one goes from the same opening, with the same cuts and resets first
-goes_beside : (sent : List Sent) (console : List ℕ) (records others : List Record) → records ≡ others → (p q : Point) (left gone : List Sent) (rest more : List ℕ) (x : StandsUpTo sent console records p left rest) (y : StandsUpTo sent console others q gone more) → q.unanswered ≡ false
+pub goes_beside : (sent : List Sent) (console : List ℕ) (records others : List Record) → records ≡ others → (p q : Point) (left gone : List Sent) (rest more : List ℕ) (x : StandsUpTo sent console records p left rest) (y : StandsUpTo sent console others q gone more) → q.unanswered ≡ false
     → Goes (opening x.first) sent (stops_of x.course) (y.course ++ y.others) q gone
 goes_beside sent console records others same p q left gone rest more x y answered =
     let first : x.first ≡ y.first = one_opening x.first y.first x.opens y.opens in

@@ -381,3 +381,10 @@ module _ (May : Reply → Type 0) (can : CanStand May) (x y : List ℕ) (none : 
     behind = behind_all;
     errors = λ n m us vs t. behind_first (Error n) (Error m) us vs (two_errors n m) (front (Error n ∷ us) (Error m ∷ vs) t);
   }
+
+  -- what is told besides
+  pub told_then : (vs : List Reply) → ToldOn May x y [] vs → ToldThen May x y vs
+  told_then vs t = by_front (front [] vs t) where
+    by_front : Front [] vs → ToldThen May x y vs
+    by_front (no_more a after) = after
+    by_front (some_more r s more less r_may s_may one_is other_is u v text on) = absurd cc

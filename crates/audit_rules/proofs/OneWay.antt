@@ -68,7 +68,7 @@ way_of replies = sign_way (first_sign replies)
 -- ---- a course
 
 -- a reset is the next of these, or there is none and it leaves the position as it is
-abbrev NextReset : Point → Reset → List Stop → List Stop → Type 0
+abbrev pub NextReset : Point → Reset → List Stop → List Stop → Type 0
 NextReset p r stops more = (stops ≡ reset_at r.number r.at ∷ more) ⊎ ((stops ≡ []) × (more ≡ []) × (r.at ≡ position p))
 
 -- A course leads to a point at which all lines are answered. These cuts and resets come first, and then resets that leave the
@@ -160,7 +160,7 @@ same_stop (x ∷ xs) more less s t e f =
     let rest : more ≡ less = cc in
     (first, rest)
 
-no_stop : {A : Type 0} (stops more : List Stop) (s : Stop) → stops ≡ [] → stops ≡ s ∷ more → A
+pub no_stop : {A : Type 0} (stops more : List Stop) (s : Stop) → stops ≡ [] → stops ≡ s ∷ more → A
 no_stop [] more s e f = absurd cc
 no_stop (x ∷ xs) more s e f = absurd cc
 

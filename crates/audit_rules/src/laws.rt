@@ -1,10 +1,12 @@
 //! Laws of audits.
 
-ghost use Rattle.std.specs.Prelude.{◌≡◌, ◌↔◌, ◌+◌, true, ℕ, List, [], ◌∷◌, ◌++◌, All};
+ghost use Rattle.std.specs.Prelude.{◌≡◌, ◌↔◌, ◌≤◌, ◌+◌, true, false, ℕ, List, [], ◌∷◌, ◌++◌, length, All};
+ghost use Rattle.run_texts.specs.Points.{Point};
 ghost use Rattle.run_texts.specs.Sent.{Sent};
 ghost use Rattle.step_line.specs.declared.Record.{Record as AnyRecord};
 ghost use Rattle.audit_rules.specs.declared.Audit.{Audit as AnyAudit};
 ghost use Rattle.audit_rules.specs.Findings.{Finds, FitsWith, BreaksAt, IsForeign, HasForeign, IsTooLong, exit_of};
+ghost use Rattle.audit_rules.specs.Onward.{GoesOnTo};
 ghost use Rattle.audit_rules.specs.Scanned.{sent_in};
 ghost use Rattle.audit_rules.specs.Standing.{Stand, StandTo, StandRead, AreUpTo};
 ghost use Rattle.audit_rules.specs.StepTexts.{IsLineOf, FollowsLast, AreLinesOf, IsStepText, last_of, form_of, records_of};
@@ -12,7 +14,7 @@ ghost use Rattle.step_line.specs.Records.{IsRecord};
 ghost use Rattle.step_record.specs.Forms.{text_in};
 ghost use Rattle.step_record.specs.declared.forms.Form.{Form};
 ghost use Rattle.step_record.specs.declared.forms.Line.{Line};
-ghost use Rattle.audit_rules.specs.Telling.{ConsoleStands, StandsNoFurther, HasNoBanner, HasBadReply, HasAlarm};
+ghost use Rattle.audit_rules.specs.Telling.{StandsUpTo, ConsoleStands, StandsNoFurther, HasNoBanner, HasBadReply, HasAlarm, last_answered};
 
 /// A text of steps is the lines of one list at most.
 pub fn step_texts_have_one_list()
@@ -59,6 +61,19 @@ pub fn texts_that_fit_stand()
 pub fn bad_replies_stand_at_one_place()
     ensures no_banner { (sent : List Sent) (console steps : List ℕ) (line : ℕ) → HasNoBanner console → HasBadReply sent console steps line → line ≡ 1 }
     ensures rest { (sent : List Sent) (console steps : List ℕ) (line other : ℕ) (x : StandsNoFurther sent console steps line) (y : StandsNoFurther sent console steps other) → x.rest ≡ y.rest }
+{}
+
+/// Of two courses that stand on one console, of the same records and with their lines answered, the one that leaves less of it goes
+/// on behind the other, without cuts and with resets that leave the position as it is (`course`). The last line that it answers is
+/// the last that this course answers, or else that of the other (`last`).
+pub fn who_tells_more_goes_on()
+    ensures course { (sent : List Sent) (console : List ℕ) (records : List AnyRecord) (p q : Point) (left gone : List Sent) (rest later : List ℕ) →
+        StandsUpTo sent console records p left rest → StandsUpTo sent console records q gone later → p.unanswered ≡ false → q.unanswered ≡ false →
+        length later ≤ length rest → GoesOnTo p left rest q gone later }
+    ensures last { (sent : List Sent) (console : List ℕ) (records : List AnyRecord) (p q : Point) (left gone : List Sent) (rest later : List ℕ)
+        (x : StandsUpTo sent console records p left rest) (y : StandsUpTo sent console records q gone later) → p.unanswered ≡ false → q.unanswered ≡ false →
+        length later ≤ length rest → (g : GoesOnTo p left rest q gone later) ×
+        (last_answered 1 0 (y.course ++ y.others) ≡ last_answered p.before.number (last_answered 1 0 (x.course ++ x.others)) g.course) }
 {}
 
 /// A console's text leaves no choice of what became of the lines up to what is left of it where it stands no further. So one
