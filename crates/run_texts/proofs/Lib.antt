@@ -20,6 +20,7 @@ pub mod Asking
 pub mod Kept
 pub mod Slow
 pub mod SoFar
+pub mod Reaching
 pub mod Tasks
 pub mod Reach
 pub mod Bounds
