@@ -19,3 +19,5 @@ pub mod BadReplies
 pub mod OneLine
 pub mod GoesOn
 pub mod OneAlarm
+pub mod NoFurther
+pub mod NoAlarm

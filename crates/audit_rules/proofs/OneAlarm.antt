@@ -42,7 +42,7 @@ reset_calm true false = (refl, (refl, tt))
 reset_calm false true = (refl, (refl, tt))
 reset_calm false false = (refl, tt)
 
-course_calm : (p last : Point) (sent left : List Sent) (stops : List Stop) (ps : List Passed) → Goes p sent stops ps last left → last.before.alarmed ≡ false → NoLimits (told_in ps)
+pub course_calm : (p last : Point) (sent left : List Sent) (stops : List Stop) (ps : List Passed) → Goes p sent stops ps last left → last.before.alarmed ≡ false → NoLimits (told_in ps)
 course_calm p last sent left stops [] g free = tt
 course_calm p last sent left stops (a_broken o ∷ ps) g free = course_calm (behind_broken p o) last g.1 left stops ps g.4 free
 course_calm p last sent left stops (a_cut k at ∷ ps) g free = course_calm (behind_cut at p) last sent left g.0 ps g.3 free
@@ -65,7 +65,7 @@ no_sign true reset e f = cc
 no_sign false true e f = omega (arith, f)
 no_sign false false e f = omega (arith, f)
 
-not_alarm : (r : Reply) → is_limit r ≡ false → 1 ≡ sign_of r → ⊥
+pub not_alarm : (r : Reply) → is_limit r ≡ false → 1 ≡ sign_of r → ⊥
 not_alarm (Alarm n) e f = no_sign (nat_eq n soft_limit) (nat_eq n 3) e f
 not_alarm Banner e f = omega (arith, f)
 not_alarm Ok e f = omega (arith, f)

@@ -316,13 +316,13 @@ pub record ToldThen (May : Reply → Type 0) (x y : List ℕ) (vs : List Reply) 
 abbrev pub CanStand : (Reply → Type 0) → Type 0
 CanStand May = (r : Reply) → May r → IsOnConsole r
 
-same_report : (r s : Reply) (x y : List ℕ) → is_report r ≡ true → is_report s ≡ true → reply_text r ++ x ≡ reply_text s ++ y → x ≡ y
+pub same_report : (r s : Reply) (x y : List ℕ) → is_report r ≡ true → is_report s ≡ true → reply_text r ++ x ≡ reply_text s ++ y → x ≡ y
 same_report r s x y r_is s_is e =
     let a = report_byte r r_is in
     let b = report_byte s s_is in
     two_reports a.1.0 b.1.0 x y (sym (ap (λ (q : Reply). reply_text q ++ x) a.1.1) ∙ e ∙ ap (λ (q : Reply). reply_text q ++ y) b.1.1)
 
-report_alone : {A : Type 0} (r s : Reply) (x y : List ℕ) → IsOnConsole r → IsOnConsole s → is_report r ≡ true → is_report s ≡ false → reply_text r ++ x ≡ reply_text s ++ y → A
+pub report_alone : {A : Type 0} (r s : Reply) (x y : List ℕ) → IsOnConsole r → IsOnConsole s → is_report r ≡ true → is_report s ≡ false → reply_text r ++ x ≡ reply_text s ++ y → A
 report_alone r s x y r_on s_on r_is s_is e = absurd (no_report_byte s s_is (sym (one_first r s x y (no_bye r r_on) (no_bye s s_on) e) ∙ (report_byte r r_is).0))
 
 module _ (May : Reply → Type 0) (can : CanStand May) (x y : List ℕ) (none : NoneBetween May x y) where

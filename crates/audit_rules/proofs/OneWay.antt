@@ -545,3 +545,12 @@ meet R S on back p s t sent left gone stops ps qs e f told same =
       rest = sym there.1;
       last = λ l. sym (g.last l ∙ ap (λ (ms : List Passed). last_answered s.before.number (last_answered p.before.number l ps) ms) none);
     }
+
+-- ---- a course that tells nothing
+
+pub none_passed : (p last : Point) (sent left : List Sent) (ps : List Passed) → Goes p sent [] ps last left → told_in ps ≡ [] → ps ≡ []
+none_passed p last sent left [] g none = refl
+none_passed p last sent left (a_cut k at ∷ ps) g none = no_stop [] g.0 (cut_at k at) refl g.1
+none_passed p last sent left (a_line o ∷ ps) g none = end_line (sym (ap way_of none) ∙ line_way p g.0 o (told_in ps) g.3.becomes)
+none_passed p last sent left (a_broken o ∷ ps) g none = end_anew (sym (ap way_of none) ∙ waits_way (behind_broken p o) last g.1 left [] ps g.4 refl)
+none_passed p last sent left (a_reset r ∷ ps) g none = end_anew (sym (ap way_of none) ∙ reset_way r.alarm _ (told_in ps))

@@ -1,14 +1,22 @@
 -- How a course that stands goes on behind another one, on one console and one job.
-use Rattle.std.specs.Prelude.{ℕ, Bool, true, false, List, [], ◌∷◌, ◌++◌}
+use Rattle.std.specs.Prelude.{◌≡◌, ℕ, Bool, true, false, List, [], ◌∷◌, ◌++◌}
 use Rattle.flight.specs.Places.{origin}
+use Rattle.status_report.specs.Answering.{is_report}
+use Rattle.status_report.specs.Replies.{reply_text}
+use Rattle.status_report.specs.declared.Reply.{Reply}
+use Rattle.status_report.specs.declared.Reply.TheVariants.{Alarm}
 use Rattle.step_line.specs.declared.Record.{Record}
-use Rattle.run_texts.specs.Courses.{Passed}
+use Rattle.run_rules.specs.Reports.{raises_alarm}
+use Rattle.run_rules.specs.Work.{Outcome, soft_limit, tells}
+use Rattle.run_texts.specs.Courses.{Passed, Reset, IsReset}
 use Rattle.run_texts.specs.Courses.Passed.{a_line, a_broken}
 use Rattle.run_texts.specs.Parts.{parts_of}
-use Rattle.run_texts.specs.Points.{Point}
+use Rattle.run_texts.specs.Points.{Point, IsPassed, IsBroken, behind_broken}
 use Rattle.run_texts.specs.Sent.{Sent}
+use Rattle.run_texts.specs.Sent.Sent.{a_text}
 use Rattle.run_texts.specs.SoFar.{LeadsTo, AreMadeSoFar, RebasesNothing}
-use Rattle.run_texts.specs.Told.{told_in}
+use Rattle.run_texts.specs.Told.{told_in, told_at_reset}
+use Rattle.audit_rules.specs.Consoles.{IsOnConsole, GoesOnWith}
 pub use Rattle.audit_rules.specs.Consoles.{TellsNext}
 use Rattle.audit_rules.specs.Standing.{MayWait}
 
@@ -36,3 +44,26 @@ begins_with_line [] = false
 begins_with_line (a_line o ∷ ps) = true
 begins_with_line (a_broken o ∷ ps) = true
 begins_with_line (_ ∷ ps) = false
+
+-- ---- where nothing can be told
+
+-- What is left of the console tells nothing that the next line may become.
+abbrev pub TellsNoLine : Point → List Sent → List ℕ → Type 0
+TellsNoLine p left rest = (kept : List ℕ) (more : List Sent) (o : Outcome) (later : List ℕ) → left ≡ a_text kept ∷ more → IsPassed p kept o → TellsNext rest (tells o.work) later → ⊥
+
+-- Nor does it tell a reset that may come, whether or not that keeps the next line from its answer.
+pub record TellsNoReset (p : Point) (left : List Sent) (rest : List ℕ) : Type 0 where
+  pub here : (r : Reset) (later : List ℕ) → IsReset p left r → TellsNext rest (told_at_reset r) later → ⊥
+  pub behind : (kept : List ℕ) (more : List Sent) (o : Outcome) (r : Reset) (later : List ℕ) → left ≡ a_text kept ∷ more → IsBroken p kept o → IsReset (behind_broken p o) more r
+      → TellsNext rest (told_at_reset r) later → ⊥
+
+-- Neither, and it begins with no report.
+pub record TellsNothing (p : Point) (left : List Sent) (rest : List ℕ) : Type 0 where
+  pub answered : p.unanswered ≡ false
+  pub line : TellsNoLine p left rest
+  pub reset : TellsNoReset p left rest
+  pub no_report : (report : Reply) (later : List ℕ) → is_report report ≡ true → IsOnConsole report → rest ≡ reply_text report ++ later → ⊥
+
+-- It does not go on with the alarm of a soft limit, where the next line may raise that.
+abbrev pub TellsNoAlarm : Point → List Sent → List ℕ → Type 0
+TellsNoAlarm p left rest = (kept : List ℕ) (more : List Sent) (o : Outcome) → left ≡ a_text kept ∷ more → IsPassed p kept o → raises_alarm o ≡ true → GoesOnWith rest (Alarm soft_limit) → ⊥

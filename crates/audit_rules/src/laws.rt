@@ -6,7 +6,7 @@ ghost use Rattle.run_texts.specs.Sent.{Sent};
 ghost use Rattle.step_line.specs.declared.Record.{Record as AnyRecord};
 ghost use Rattle.audit_rules.specs.declared.Audit.{Audit as AnyAudit};
 ghost use Rattle.audit_rules.specs.Findings.{Finds, FitsWith, BreaksAt, IsForeign, HasForeign, IsTooLong, exit_of};
-ghost use Rattle.audit_rules.specs.Onward.{GoesOnTo};
+ghost use Rattle.audit_rules.specs.Onward.{GoesOnTo, TellsNothing, TellsNoAlarm};
 ghost use Rattle.audit_rules.specs.Scanned.{sent_in};
 ghost use Rattle.audit_rules.specs.Standing.{Stand, StandTo, StandRead, AreUpTo};
 ghost use Rattle.audit_rules.specs.StepTexts.{IsLineOf, FollowsLast, AreLinesOf, IsStepText, last_of, form_of, records_of};
@@ -14,7 +14,7 @@ ghost use Rattle.step_line.specs.Records.{IsRecord};
 ghost use Rattle.step_record.specs.Forms.{text_in};
 ghost use Rattle.step_record.specs.declared.forms.Form.{Form};
 ghost use Rattle.step_record.specs.declared.forms.Line.{Line};
-ghost use Rattle.audit_rules.specs.Telling.{StandsUpTo, ConsoleStands, StandsNoFurther, HasNoBanner, HasBadReply, HasAlarm, last_answered};
+ghost use Rattle.audit_rules.specs.Telling.{StandsUpTo, ConsoleStands, StandsNoFurther, HasNoBanner, HasBadReply, HasAlarm, IsLineAtFault, IsOver, last_answered};
 
 /// A text of steps is the lines of one list at most.
 pub fn step_texts_have_one_list()
@@ -80,6 +80,16 @@ pub fn who_tells_more_goes_on()
 /// line has the bad reply.
 pub fn one_line_has_the_bad_reply()
     ensures { (sent : List Sent) (console steps : List ℕ) (k l : ℕ) → HasBadReply sent console steps k → HasBadReply sent console steps l → k ≡ l }
+{}
+
+/// Where a console stands up to a point, by the records that stand, and what is left of it tells nothing that may come there, it
+/// stands no further. Unless that is all that is told of the job, the line at fault there has the bad reply (`bad`). No line raises
+/// the alarm of a soft limit, if none has up to the point, and what is left does not go on with that of the next line (`alarm`).
+pub fn a_console_stands_no_further_than_it_tells()
+    ensures bad { (sent : List Sent) (console steps : List ℕ) (z : StandTo sent console steps) (p : Point) (left : List Sent) (rest : List ℕ) (s : StandsUpTo sent console (records_of z.done) p left rest) →
+        TellsNothing p left rest → (rest ≡ [] → IsOver p left → ⊥) → (line : ℕ) → IsLineAtFault p left rest (last_answered 1 0 (s.course ++ s.others)) line → HasBadReply sent console steps line }
+    ensures alarm { (sent : List Sent) (console steps : List ℕ) (z : StandTo sent console steps) (p : Point) (left : List Sent) (rest : List ℕ) → StandsUpTo sent console (records_of z.done) p left rest →
+        TellsNothing p left rest → p.before.alarmed ≡ false → TellsNoAlarm p left rest → (k : ℕ) → HasAlarm sent console steps k → ⊥ }
 {}
 
 /// And one line raises the alarm of a soft limit.
