@@ -140,12 +140,12 @@ waiting_on [] more e = absurd cc
 waiting_on (a_text line ∷ sent) more e = ap (λ (ls : List (List ℕ)). line ∷ ls) (waiting_on sent more e)
 waiting_on (a_stop ∷ sent) more e = refl
 
-behind_on : (sent more : List Sent) → has_reset sent ≡ true → behind_reset (sent ++ more) ≡ behind_reset sent ++ more
+pub behind_on : (sent more : List Sent) → has_reset sent ≡ true → behind_reset (sent ++ more) ≡ behind_reset sent ++ more
 behind_on [] more e = absurd cc
 behind_on (a_text line ∷ sent) more e = behind_on sent more e
 behind_on (a_stop ∷ sent) more e = refl
 
-reset_on : (p : Point) (sent more : List Sent) (r : Reset) → IsReset p sent r → IsReset p (sent ++ more) r
+pub reset_on : (p : Point) (sent more : List Sent) (r : Reset) → IsReset p sent r → IsReset p (sent ++ more) r
 reset_on p sent more r is = record {
   free = is.free;
   comes = has_on sent more is.comes;

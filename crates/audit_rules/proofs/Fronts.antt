@@ -57,7 +57,7 @@ close place p ps records s c =
 -- ---- a front
 
 -- what is made of some lines is made of more
-more_made : (since begun : List Outcome) (mine : List Record) (m : Making) → IsMade since mine m → (n : Making) × IsMade (since ++ begun) mine n
+pub more_made : (since begun : List Outcome) (mine : List Record) (m : Making) → IsMade since mine m → (n : Making) × IsMade (since ++ begun) mine n
 more_made since [] mine m is = (m, subst (λ (lines : List Outcome). IsMade lines mine m) (sym (append-nil since)) is)
 more_made since (o ∷ begun) mine m is =
     let more = more_made (since ++ o ∷ []) begun mine (with_line o m) (line_made since mine m o is) in

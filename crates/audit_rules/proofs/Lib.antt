@@ -21,3 +21,7 @@ pub mod GoesOn
 pub mod OneAlarm
 pub mod NoFurther
 pub mod NoAlarm
+pub mod BehindText
+pub mod BehindCourses
+pub mod BehindMade
+pub mod Behind

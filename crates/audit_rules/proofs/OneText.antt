@@ -60,7 +60,7 @@ onto_inside (suc k) n acc inside =
     let more : IsInside (glyph ∷ acc) = both_true (is_inside glyph) (list_all is_inside acc) (high glyph (glyph_high (nat_lt (n % 10) 10) (n % 10))) inside in
     by_choice (n / 10 == 0) (glyph ∷ acc) (digits_onto k 10 false (n / 10) (glyph ∷ acc)) more (onto_inside k (n / 10) (glyph ∷ acc) more)
 
-decimal_inside : (n : ℕ) → IsInside (decimal n)
+pub decimal_inside : (n : ℕ) → IsInside (decimal n)
 unfolding digits
 decimal_inside n = onto_inside 64 n [] refl
 
@@ -217,7 +217,7 @@ ends_with : (text rest : List ℕ) → (text ++ codes "\r\n") ++ rest ≡ text +
 ends_with text rest = append_assoc text (codes "\r\n") rest
 
 -- texts without CR, and what stands behind them
-same_ended : (xs ys x y : List ℕ) → IsInside xs → IsInside ys → (xs ++ codes "\r\n") ++ x ≡ (ys ++ codes "\r\n") ++ y → (xs ≡ ys) × (x ≡ y)
+pub same_ended : (xs ys x y : List ℕ) → IsInside xs → IsInside ys → (xs ++ codes "\r\n") ++ x ≡ (ys ++ codes "\r\n") ++ y → (xs ≡ ys) × (x ≡ y)
 same_ended xs ys x y xs_in ys_in e =
     let parts = parted is_inside xs ys 13 13 (10 ∷ x) (10 ∷ y) xs_in ys_in refl refl (sym (ends_with xs x) ∙ e ∙ ends_with ys y) in
     (parts.0, ap (drop 2) parts.1)

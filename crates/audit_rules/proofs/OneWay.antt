@@ -149,7 +149,7 @@ same_way R on us vs w told e some = ap sign_way (sym (same_sign R on us vs w tol
 
 -- ---- cuts and resets in turn
 
-abbrev stop_number : Stop → ℕ
+abbrev pub stop_number : Stop → ℕ
 stop_number (cut_at k at) = k
 stop_number (reset_at k at) = k
 
@@ -257,12 +257,12 @@ refused_second R on p kept n x y xs ys x_is e told =
     let answer = error_answer p.before x xs (line_answers true p kept x x_is) first in
     two_errors R on p kept answer.0 n x y xs ys (line_error true p kept x answer.0 x_is answer.1) e told
 
-locked_begun : (p : Point) (kept : List ℕ) (o : Outcome) → p.locked ≡ true → BecomesAt true p kept o → BecomesAt false p kept o
+pub locked_begun : (p : Point) (kept : List ℕ) (o : Outcome) → p.locked ≡ true → BecomesAt true p kept o → BecomesAt false p kept o
 locked_begun p kept o locked is =
     subst (λ (c : Bool). either c (BecomesLocked p.before kept o) (Becomes false p.before kept o)) (sym locked)
     (subst (λ (c : Bool). either c (BecomesLocked p.before kept o) (Becomes true p.before kept o)) locked is)
 
-free_becomes : (p : Point) (kept : List ℕ) (o : Outcome) → p.locked ≡ false → BecomesAt true p kept o → Becomes true p.before kept o
+pub free_becomes : (p : Point) (kept : List ℕ) (o : Outcome) → p.locked ≡ false → BecomesAt true p kept o → Becomes true p.before kept o
 free_becomes p kept o free is = subst (λ (c : Bool). either c (BecomesLocked p.before kept o) (Becomes true p.before kept o)) free is
 
 -- what is told of a line says what it leaves

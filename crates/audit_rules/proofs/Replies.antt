@@ -85,6 +85,13 @@ in_turn console first second rest t =
 
 -- ---- what comes next
 
+pub all_reports : (reports : List Reply) → without_reports reports ≡ [] → AllByRecursion (λ r. is_report r ≡ true) reports
+all_reports [] e = tt
+all_reports (r ∷ rs) e = by_kind (is_report r) refl (λ f. all_reports rs f) where
+  by_kind : (b : Bool) → is_report r ≡ b → (without_reports rs ≡ [] → AllByRecursion (λ r. is_report r ≡ true) rs) → AllByRecursion (λ r. is_report r ≡ true) (r ∷ rs)
+  by_kind true report again = (report, again (sym (left_out r rs (ap not report)) ∙ e))
+  by_kind false plain again = absurd (let f : r ∷ without_reports rs ≡ [] = sym (kept r rs (ap not plain)) ∙ e in cc)
+
 -- reports before replies are left out
 pub behind_none : (reports rs : List Reply) → without_reports reports ≡ [] → without_reports (reports ++ rs) ≡ without_reports rs
 behind_none [] rs none = refl

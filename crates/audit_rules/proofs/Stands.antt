@@ -1,10 +1,11 @@
 -- Records that stand, from the left.
-use Rattle.std.proofs.Common.{◌≡◌, ℕ, List, [], ◌∷◌, ◌++◌, append-nil, append_assoc, true, false, sym, refl, ap, ◌∙◌, subst}
+use Rattle.std.proofs.Common.{◌≡◌, ℕ, List, [], ◌∷◌, ◌++◌, append-nil, append_assoc, Bool, cond, true, false, sym, refl, ap, ◌∙◌, subst}
 use Rattle.std.specs.List.{AllByRecursion}
 use Rattle.std.proofs.lemmas.List.Concat.{flat_map-append}
 use Rattle.flight.specs.Places.{origin}
 use Rattle.status_report.specs.Answering.{without_reports}
 use Rattle.status_report.specs.declared.Reply.{Reply}
+use Rattle.status_report.specs.declared.Reply.TheVariants.{Banner, Alarm}
 use Rattle.step_line.specs.declared.Record.{Record}
 use Rattle.run_rules.specs.Told.{replies_text}
 use Rattle.run_texts.specs.Courses.{Passed, IsReset, behind_cut, behind_the_reset}
@@ -16,10 +17,10 @@ use Rattle.run_texts.specs.Sent.Sent.{a_text, a_stop}
 use Rattle.run_texts.specs.SoFar.{LeadsTo, AreMadeSoFar}
 use Rattle.run_texts.specs.Told.{told_in, told_of, told_at_reset}
 use Rattle.run_texts.proofs.Leading.{onto_none}
-use Rattle.audit_rules.specs.Consoles.{IsOnConsole, Tells}
-use Rattle.audit_rules.specs.Standing.{MayWait, Stand}
+use Rattle.audit_rules.specs.Consoles.{IsOnConsole, Tells, GoesOnAnew}
+use Rattle.audit_rules.specs.Standing.{MayWait, GoesOnWithReset, Stand}
 use Rattle.audit_rules.proofs.Fronts.{front_made}
-use Rattle.audit_rules.proofs.Replies.{in_turn, tells_behind, tells_first}
+use Rattle.audit_rules.proofs.Replies.{in_turn, comes_next, tells_behind, tells_first}
 
 -- ---- a point between
 
@@ -49,7 +50,15 @@ between p last (a_text line ∷ sent) rest (a_broken o ∷ ps) qs f =
 both : {A : Type 0} → true ≡ false → A
 both e = absurd cc
 
-waits_before : (p point : Point) (sent left : List Sent) (later : List Passed) (back : List Reply) (rest : List ℕ)
+-- what is told at a reset begins with `ALARM:3` or the banner
+tells_anew : (alarm : Bool) (more : List Reply) (replies : List Reply) (later : List ℕ) → without_reports replies ≡ cond alarm (Alarm 3 ∷ []) [] ++ Banner ∷ more → AllByRecursion IsOnConsole replies → GoesOnAnew (replies_text replies ++ later)
+tells_anew true more replies later e each = (Alarm 3, refl, comes_next replies (Alarm 3) (Banner ∷ more) later e each)
+tells_anew false more replies later e each = (Banner, refl, comes_next replies Banner more later e each)
+
+pub goes_on_anew : (p : Point) (left : List Sent) (rest : List ℕ) → GoesOnWithReset p left rest → GoesOnAnew rest
+goes_on_anew p left rest w = let t = w.tells in subst GoesOnAnew (sym t.text) (tells_anew w.reset.alarm _ t.replies w.later t.are t.each)
+
+pub waits_before : (p point : Point) (sent left : List Sent) (later : List Passed) (back : List Reply) (rest : List ℕ)
     → LeadsTo p sent later point left → without_reports back ≡ told_in later → AllByRecursion IsOnConsole back → MayWait point left rest → MayWait p sent (replies_text back ++ rest)
 waits_before p point sent left [] back rest f e each waits unanswered =
     let w = waits (ap (λ (x : Point). x.unanswered) f.0 ∙ unanswered) in

@@ -26,7 +26,7 @@ use Rattle.audit_rules.proofs.OneWay.{Goes}
 -- ---- of records
 
 -- the cuts and resets among records that begin at a place, each where the events before it have led
-abbrev stops_by : Steps3 → List Record → List Stop
+abbrev pub stops_by : Steps3 → List Record → List Stop
 stops_by place [] = []
 stops_by place (kinds.Event b ∷ rs) = stops_by (stepped place b) rs
 stops_by place (kinds.Head h ∷ rs) = stops_by place rs
@@ -52,12 +52,24 @@ none_inside (kinds.Mark (Spindle code speed) ∷ rs) rest place inside = none_in
 none_inside (kinds.Mark (Coolant on) ∷ rs) rest place inside = none_inside rs rest place inside.1
 none_inside (kinds.End ∷ rs) rest place inside = differ inside.0
 
-no_stops : (mine : List Record) (place : Steps3) → Inside mine → stops_by place mine ≡ []
+pub no_stops : (mine : List Record) (place : Steps3) → Inside mine → stops_by place mine ≡ []
 no_stops mine place inside = ap (stops_by place) (sym (append-nil mine)) ∙ none_inside mine [] place inside
+
+-- those of more records come behind
+pub stops_both : (xs ys : List Record) (place : Steps3) → stops_by place (xs ++ ys) ≡ stops_by place xs ++ stops_by (moved_by place xs) ys
+stops_both [] ys place = refl
+stops_both (kinds.Event b ∷ rs) ys place = stops_both rs ys (stepped place b)
+stops_both (kinds.Head h ∷ rs) ys place = stops_both rs ys place
+stops_both (kinds.Mark (Cut k) ∷ rs) ys place = ap (λ (ss : List Stop). cut_at k place ∷ ss) (stops_both rs ys place)
+stops_both (kinds.Mark (ResetMark k) ∷ rs) ys place = ap (λ (ss : List Stop). reset_at k place ∷ ss) (stops_both rs ys place)
+stops_both (kinds.Mark (Dwell ms) ∷ rs) ys place = stops_both rs ys place
+stops_both (kinds.Mark (Spindle code speed) ∷ rs) ys place = stops_both rs ys place
+stops_both (kinds.Mark (Coolant on) ∷ rs) ys place = stops_both rs ys place
+stops_both (kinds.End ∷ rs) ys place = stops_both rs ys place
 
 -- ---- of a course
 
-stops_made : (course : List Passed) (since begun : List Outcome) (place : Steps3) (records : List Record) → AreMadeSoFar place (behind_lines since begun (parts_of course)) records → stops_of course ≡ stops_by place records
+pub stops_made : (course : List Passed) (since begun : List Outcome) (place : Steps3) (records : List Record) → AreMadeSoFar place (behind_lines since begun (parts_of course)) records → stops_of course ≡ stops_by place records
 stops_made [] since begun place records all = sym (no_stops records place all.1.inside)
 stops_made (a_line o ∷ ps) since begun place records all = stops_made ps (since ++ o ∷ []) begun place records (subst (λ (qs : List Part). AreMadeSoFar place qs records) (onto_more since begun o (parts_of ps)) all)
 stops_made (a_broken o ∷ ps) since begun place records all = stops_made ps since (begun ++ o ∷ []) place records (subst (λ (qs : List Part). AreMadeSoFar place qs records) (onto_begun since begun o (parts_of ps)) all)

@@ -1,22 +1,26 @@
 -- How a course that stands goes on behind another one, on one console and one job.
 use Rattle.std.specs.Prelude.{◌≡◌, ℕ, Bool, true, false, List, [], ◌∷◌, ◌++◌}
+use Rattle.units.specs.declared.Steps3.{Steps3}
 use Rattle.flight.specs.Places.{origin}
 use Rattle.status_report.specs.Answering.{is_report}
 use Rattle.status_report.specs.Replies.{reply_text}
 use Rattle.status_report.specs.declared.Reply.{Reply}
 use Rattle.status_report.specs.declared.Reply.TheVariants.{Alarm}
 use Rattle.step_line.specs.declared.Record.{Record}
+use Rattle.run_rules.specs.declared.State.{State}
+use Rattle.run_rules.specs.States.{IsOpening}
 use Rattle.run_rules.specs.Reports.{raises_alarm}
 use Rattle.run_rules.specs.Work.{Outcome, soft_limit, tells}
 use Rattle.run_texts.specs.Courses.{Passed, Reset, IsReset}
 use Rattle.run_texts.specs.Courses.Passed.{a_line, a_broken}
+use Rattle.run_texts.specs.Making.{Making, IsMade}
 use Rattle.run_texts.specs.Parts.{parts_of}
 use Rattle.run_texts.specs.Points.{Point, IsPassed, IsBroken, behind_broken}
 use Rattle.run_texts.specs.Sent.{Sent}
 use Rattle.run_texts.specs.Sent.Sent.{a_text}
-use Rattle.run_texts.specs.SoFar.{LeadsTo, AreMadeSoFar, RebasesNothing}
+use Rattle.run_texts.specs.SoFar.{LeadsTo, AreMadeSoFar, Reaches, RebasesNothing}
 use Rattle.run_texts.specs.Told.{told_in, told_at_reset}
-use Rattle.audit_rules.specs.Consoles.{IsOnConsole, GoesOnWith}
+use Rattle.audit_rules.specs.Consoles.{IsOnConsole, GoesOnWith, Tells}
 pub use Rattle.audit_rules.specs.Consoles.{TellsNext}
 use Rattle.audit_rules.specs.Standing.{MayWait}
 
@@ -44,6 +48,26 @@ begins_with_line [] = false
 begins_with_line (a_line o ∷ ps) = true
 begins_with_line (a_broken o ∷ ps) = true
 begins_with_line (_ ∷ ps) = false
+
+-- A course has come so far: from an opening it leads to a point, where this is left of the job, a console tells what it tells
+-- and has this left, and its parts make these records. The last part has made `made` of its lines: of those that are
+-- answered, and of the one that was begun, which stands only where a line is not answered.
+pub record HasCome (sent : List Sent) (console : List ℕ) (records : List Record) (since begun : List Outcome) (made : List Record) : Type 0 where
+  pub first : State
+  pub opens : IsOpening first
+  pub point : Point
+  pub front : List Sent
+  pub left : List Sent
+  pub whole : sent ≡ front ++ left
+  pub place : Steps3
+  pub told : List Reply
+  pub reached : Reaches first front told records point since begun place made
+  pub rest : List ℕ
+  pub tells : Tells console told rest
+  pub waits : MayWait point left rest
+  pub none_begun : point.unanswered ≡ false → begun ≡ []
+  pub making : Making
+  pub is_made : IsMade (since ++ begun) made making
 
 -- ---- where nothing can be told
 

@@ -3,10 +3,15 @@
 ghost use Rattle.std.specs.Prelude.{◌≡◌, ◌↔◌, ◌≤◌, ◌+◌, true, false, ℕ, List, [], ◌∷◌, ◌++◌, length, All};
 ghost use Rattle.run_texts.specs.Points.{Point};
 ghost use Rattle.run_texts.specs.Sent.{Sent};
+ghost use Rattle.step_line.specs.declared.Mark.TheVariants.{Cut, Reset as ResetMark};
 ghost use Rattle.step_line.specs.declared.Record.{Record as AnyRecord};
+ghost use Rattle.step_line.specs.declared.Record.TheVariants as kinds;
+ghost use Rattle.run_rules.specs.Work.{Outcome};
+ghost use Rattle.run_texts.specs.Making.{Making, IsMade};
+ghost use Rattle.run_texts.specs.Parts.{is_ending};
 ghost use Rattle.audit_rules.specs.declared.Audit.{Audit as AnyAudit};
 ghost use Rattle.audit_rules.specs.Findings.{Finds, FitsWith, BreaksAt, IsForeign, HasForeign, IsTooLong, exit_of};
-ghost use Rattle.audit_rules.specs.Onward.{GoesOnTo, TellsNothing, TellsNoAlarm};
+ghost use Rattle.audit_rules.specs.Onward.{GoesOnTo, HasCome, StandsBehind, TellsNothing, TellsNoAlarm, begins_with_line};
 ghost use Rattle.audit_rules.specs.Scanned.{sent_in};
 ghost use Rattle.audit_rules.specs.Standing.{Stand, StandTo, StandRead, AreUpTo};
 ghost use Rattle.audit_rules.specs.StepTexts.{IsLineOf, FollowsLast, AreLinesOf, IsStepText, last_of, form_of, records_of};
@@ -44,6 +49,20 @@ pub fn records_stand_from_the_left()
 pub fn steps_that_were_read_stand_up_to_a_line()
     ensures { (sent : List Sent) (console steps : List ℕ) (lines : List Line) (rest : List ℕ) (records left : List AnyRecord) →
         StandRead sent console steps lines rest records left → (z : StandTo sent console steps) × AreUpTo z.done lines records left }
+{}
+
+/// Where a course has come so far, records stand that go on behind its own only by what goes on behind it. A record that ends no
+/// part is made of the lines of the last part, with more lines (`part`); where these have no tick left, by a course that goes on
+/// with a line (`line`). A cut and a reset of no earlier line stand by a course that goes on behind it (`cut`, `reset`).
+pub fn records_stand_behind_a_course()
+    ensures part { (sent : List Sent) (console : List ℕ) (records others made : List AnyRecord) (since begun : List Outcome) (r : AnyRecord) → HasCome sent console records since begun made → is_ending r ≡ false →
+        Stand sent console (records ++ r ∷ others) → (more : List Outcome) × (m : Making) × IsMade ((since ++ begun) ++ more) (made ++ r ∷ []) m }
+    ensures line { (sent : List Sent) (console : List ℕ) (records others made : List AnyRecord) (since begun : List Outcome) (r : AnyRecord) (c : HasCome sent console records since begun made) → c.making.owed ≡ [] → is_ending r ≡ false →
+        Stand sent console (records ++ r ∷ others) → (b : StandsBehind c.reached.course c.point c.left c.rest (records ++ r ∷ others)) × (begins_with_line b.more ≡ true) }
+    ensures cut { (sent : List Sent) (console : List ℕ) (records others made : List AnyRecord) (since begun : List Outcome) (k : ℕ) (c : HasCome sent console records since begun made) → c.point.before.number ≤ k + 1 →
+        Stand sent console (records ++ kinds.Mark (Cut k) ∷ others) → StandsBehind c.reached.course c.point c.left c.rest (records ++ kinds.Mark (Cut k) ∷ others) }
+    ensures reset { (sent : List Sent) (console : List ℕ) (records others made : List AnyRecord) (since begun : List Outcome) (k : ℕ) (c : HasCome sent console records since begun made) → c.point.before.number ≤ k + 1 →
+        Stand sent console (records ++ kinds.Mark (ResetMark k) ∷ others) → StandsBehind c.reached.course c.point c.left c.rest (records ++ kinds.Mark (ResetMark k) ∷ others) }
 {}
 
 /// Of texts that fit the console stands, no reply is bad and no record breaks a rule. If they end with the alarm of a soft
