@@ -53,7 +53,7 @@ ahead p last (a_text line ∷ sent) left (a_broken o ∷ ps) s others more f e l
     let on : stop_number s + 2 ≤ p.before.number + 1 = omega (arith, late) in
     ahead (behind_broken p o) last sent left ps s others more f.1 e on
 
-line_ahead : (p last : Point) (sent left : List Sent) (o : Outcome) (ps : List Passed) (s : Stop) (others more : List Stop) → LeadsTo p sent (a_line o ∷ ps) last left → s ∷ others ≡ stops_of ps ++ more → p.before.number ≡ stop_number s + 1
+pub line_ahead : (p last : Point) (sent left : List Sent) (o : Outcome) (ps : List Passed) (s : Stop) (others more : List Stop) → LeadsTo p sent (a_line o ∷ ps) last left → s ∷ others ≡ stops_of ps ++ more → p.before.number ≡ stop_number s + 1
     → IsPassedBy s others more last
 line_ahead p last [] left o ps s others more f e number = absurd f
 line_ahead p last (a_stop ∷ sent) left o ps s others more f e number = absurd f
@@ -61,7 +61,7 @@ line_ahead p last (a_text line ∷ sent) left o ps s others more f e number =
     let on : stop_number s + 2 ≤ p.before.number + 1 = omega (arith, number) in
     ahead (behind_line p line o) last sent left ps s others more f.1 e on
 
-broken_ahead : (p last : Point) (sent left : List Sent) (o : Outcome) (ps : List Passed) (s : Stop) (others more : List Stop) → LeadsTo p sent (a_broken o ∷ ps) last left → s ∷ others ≡ stops_of ps ++ more → p.before.number ≡ stop_number s + 1
+pub broken_ahead : (p last : Point) (sent left : List Sent) (o : Outcome) (ps : List Passed) (s : Stop) (others more : List Stop) → LeadsTo p sent (a_broken o ∷ ps) last left → s ∷ others ≡ stops_of ps ++ more → p.before.number ≡ stop_number s + 1
     → IsPassedBy s others more last
 broken_ahead p last [] left o ps s others more f e number = absurd f
 broken_ahead p last (a_stop ∷ sent) left o ps s others more f e number = absurd f
@@ -70,7 +70,7 @@ broken_ahead p last (a_text line ∷ sent) left o ps s others more f e number =
     ahead (behind_broken p o) last sent left ps s others more f.1 e on
 
 -- so a course that begins with a line has no cut and no reset that could come before it
-nothing_passed : {A : Type 0} (s : Stop) (others : List Stop) (last : Point) → IsPassedBy s others [] last → A
+pub nothing_passed : {A : Type 0} (s : Stop) (others : List Stop) (last : Point) → IsPassedBy s others [] last → A
 nothing_passed s others last is = absurd (let e = is.next in cc)
 
 -- ---- how two courses compare
@@ -97,7 +97,7 @@ none_first : (xs ys : List Stop) → [] ≡ xs ++ ys → xs ≡ []
 none_first [] ys e = refl
 none_first (x ∷ xs) ys e = absurd cc
 
-with_none : (s : Stop) (others xs : List Stop) → xs ≡ s ∷ others → s ∷ others ≡ xs ++ []
+pub with_none : (s : Stop) (others xs : List Stop) → xs ≡ s ∷ others → s ∷ others ≡ xs ++ []
 with_none s others xs e = sym e ∙ sym (append-nil xs)
 
 -- ---- resets

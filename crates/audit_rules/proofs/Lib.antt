@@ -25,3 +25,4 @@ pub mod BehindText
 pub mod BehindCourses
 pub mod BehindMade
 pub mod Behind
+pub mod BehindStops

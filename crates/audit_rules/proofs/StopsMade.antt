@@ -41,7 +41,7 @@ differ : {A : Type 0} → true ≡ false → A
 differ e = absurd cc
 
 -- none are inside a part
-none_inside : (mine rest : List Record) (place : Steps3) → Inside mine → stops_by place (mine ++ rest) ≡ stops_by (moved_by place mine) rest
+pub none_inside : (mine rest : List Record) (place : Steps3) → Inside mine → stops_by place (mine ++ rest) ≡ stops_by (moved_by place mine) rest
 none_inside [] rest place inside = refl
 none_inside (kinds.Event b ∷ rs) rest place inside = none_inside rs rest (stepped place b) inside.1
 none_inside (kinds.Head h ∷ rs) rest place inside = none_inside rs rest place inside.1

@@ -7,11 +7,18 @@ ghost use Rattle.step_line.specs.declared.Mark.TheVariants.{Cut, Reset as ResetM
 ghost use Rattle.step_line.specs.declared.Record.{Record as AnyRecord};
 ghost use Rattle.step_line.specs.declared.Record.TheVariants as kinds;
 ghost use Rattle.run_rules.specs.Work.{Outcome};
+ghost use Rattle.run_texts.specs.Courses.{Reset, IsCut, IsReset};
+ghost use Rattle.run_texts.specs.Left.{part_of};
 ghost use Rattle.run_texts.specs.Making.{Making, IsMade};
 ghost use Rattle.run_texts.specs.Parts.{is_ending};
+ghost use Rattle.run_texts.specs.Parts.Ending.{by_cut, by_reset};
+ghost use Rattle.run_texts.specs.Recorded.{IsRecorded};
+ghost use Rattle.run_texts.specs.Told.{told_at_reset};
+ghost use Rattle.status_report.specs.declared.Reply.{Reply};
+ghost use Rattle.units.specs.declared.Steps3.{Steps3};
 ghost use Rattle.audit_rules.specs.declared.Audit.{Audit as AnyAudit};
 ghost use Rattle.audit_rules.specs.Findings.{Finds, FitsWith, BreaksAt, IsForeign, HasForeign, IsTooLong, exit_of};
-ghost use Rattle.audit_rules.specs.Onward.{GoesOnTo, HasCome, StandsBehind, TellsNothing, TellsNoAlarm, begins_with_line};
+ghost use Rattle.audit_rules.specs.Onward.{GoesOnTo, HasCome, StandsBehind, TellsNext, TellsNothing, TellsNoAlarm, begins_with_line};
 ghost use Rattle.audit_rules.specs.Scanned.{sent_in};
 ghost use Rattle.audit_rules.specs.Standing.{Stand, StandTo, StandRead, AreUpTo};
 ghost use Rattle.audit_rules.specs.StepTexts.{IsLineOf, FollowsLast, AreLinesOf, IsStepText, last_of, form_of, records_of};
@@ -63,6 +70,21 @@ pub fn records_stand_behind_a_course()
         Stand sent console (records ++ kinds.Mark (Cut k) ∷ others) → StandsBehind c.reached.course c.point c.left c.rest (records ++ kinds.Mark (Cut k) ∷ others) }
     ensures reset { (sent : List Sent) (console : List ℕ) (records others made : List AnyRecord) (since begun : List Outcome) (k : ℕ) (c : HasCome sent console records since begun made) → c.point.before.number ≤ k + 1 →
         Stand sent console (records ++ kinds.Mark (ResetMark k) ∷ others) → StandsBehind c.reached.course c.point c.left c.rest (records ++ kinds.Mark (ResetMark k) ∷ others) }
+{}
+
+/// Where a cut or a reset is the next record, it comes at the point of a course that has passed the line of its number: the cut
+/// there (`cut`), or a reset that the console tells next (`reset`), and the last part is recorded so far. Behind an earlier line
+/// a course goes on with a line (`cut_later`, `reset_later`).
+pub fn cuts_and_resets_come_behind_their_lines()
+    ensures cut { (sent : List Sent) (console : List ℕ) (records others made : List AnyRecord) (since begun : List Outcome) (k : ℕ) (c : HasCome sent console records since begun made) → c.point.before.number ≡ k + 1 →
+        Stand sent console (records ++ kinds.Mark (Cut k) ∷ others) → (at : Steps3) × IsCut c.point k × IsRecorded c.place (part_of since begun (by_cut k at)) made }
+    ensures cut_later { (sent : List Sent) (console : List ℕ) (records others made : List AnyRecord) (since begun : List Outcome) (k : ℕ) (c : HasCome sent console records since begun made) → c.point.before.number ≤ k →
+        Stand sent console (records ++ kinds.Mark (Cut k) ∷ others) → (b : StandsBehind c.reached.course c.point c.left c.rest (records ++ kinds.Mark (Cut k) ∷ others)) × (begins_with_line b.more ≡ true) }
+    ensures reset { (sent : List Sent) (console : List ℕ) (records others made : List AnyRecord) (since begun : List Outcome) (k : ℕ) (c : HasCome sent console records since begun made) → c.point.before.number ≡ k + 1 →
+        Stand sent console (records ++ kinds.Mark (ResetMark k) ∷ others) →
+        (r : Reset) × (r.number ≡ k) × IsReset c.point c.left r × IsRecorded c.place (part_of since begun (by_reset r)) made × (told : List Reply) × (later : List ℕ) × TellsNext c.rest (told_at_reset r ++ told) later }
+    ensures reset_later { (sent : List Sent) (console : List ℕ) (records others made : List AnyRecord) (since begun : List Outcome) (k : ℕ) (c : HasCome sent console records since begun made) → c.point.before.number ≤ k →
+        Stand sent console (records ++ kinds.Mark (ResetMark k) ∷ others) → (b : StandsBehind c.reached.course c.point c.left c.rest (records ++ kinds.Mark (ResetMark k) ∷ others)) × (begins_with_line b.more ≡ true) }
 {}
 
 /// Of texts that fit the console stands, no reply is bad and no record breaks a rule. If they end with the alarm of a soft
