@@ -29,7 +29,9 @@ use Rattle.run_texts.specs.Recorded.{ticks_for_all}
 use Rattle.run_texts.specs.Points.{Point, BecomesAt, behind_line, behind_broken, opening}
 use Rattle.run_texts.specs.Sent.{Sent}
 use Rattle.run_texts.specs.Sent.Sent.{a_text}
+use Rattle.run_texts.specs.SoFar.{Reaches}
 use Rattle.run_texts.proofs.Making.{line_made}
+use Rattle.run_texts.proofs.Reaching.{reaches_broken, reaches_line}
 use Rattle.audit_course.specs.declared.Progress.{Progress}
 use Rattle.audit_course.specs.declared.judge.CourseJudge.{CourseJudge}
 use Rattle.audit_course.specs.declared.ticks.Ticks.{Ticks}
@@ -186,9 +188,12 @@ line_begun j k kept o w first sent replies records s b judged kind settles jogge
       let before = s.numbered in
       omega (arith, one, here, before));
   whole = ap (λ (x : CourseJudge). x.place) is ∙ s.whole;
+  reached =
+      subst (λ (rs : List Reply). Reaches first (sent ++ a_text kept ∷ []) rs records (behind_line s.point kept o) (s.since ++ o ∷ []) s.begun s.from s.made)
+      (ap (λ (rs : List Reply). rs ++ tells o.work) none_before ∙ ap (λ (rs : List Reply). replies ++ rs) (sym tell))
+      (reaches_line first sent (replies ++ left_to_tell j) records s.point s.since s.begun s.from s.made kept o s.reached (record { free = no_alarm j s.point s.hand s.line b; answered = s.unanswered ∙ b.answered; becomes = judged.becomes }));
   back = λ n more told rest last g.
       let cuts : k.cuts ≡ j.cuts = ap (λ (x : CourseJudge). x.cuts) is in
-      let tell : left_to_tell k ≡ tells o.work = ap (λ (u : Bool). cond u [] (tells k.work.left)) answered ∙ ap tells left in
       let before = s.back n (a_text kept ∷ more) (tells o.work ++ told) rest last (by_line s.point last s.since s.begun s.from n kept o more told (s.made ++ rest) (record { free = no_alarm j s.point s.hand s.line b; answered = s.unanswered ∙ b.answered; becomes = judged.becomes }) g) in
       subst (λ (c : ℕ). GoesTo (opening first) [] [] origin (n + c) ((sent ++ a_text kept ∷ []) ++ more) (replies ++ (left_to_tell k ++ told)) (records ++ rest) last) (sym cuts)
       (subst (λ (ss : List Sent). GoesTo (opening first) [] [] origin (n + j.cuts) ss (replies ++ (left_to_tell k ++ told)) (records ++ rest) last) (sym (append_assoc sent (a_text kept ∷ []) more))
@@ -196,7 +201,6 @@ line_begun j k kept o w first sent replies records s b judged kind settles jogge
       (ap (λ (rs : List Reply). rs ++ (tells o.work ++ told)) (none_to_tell j b) ∙ ap (λ (rs : List Reply). rs ++ told) (sym tell)) before));
   forth = λ n more told rest last may g.
       let cuts : k.cuts ≡ j.cuts = ap (λ (x : CourseJudge). x.cuts) is in
-      let tell : left_to_tell k ≡ tells o.work = ap (λ (u : Bool). cond u [] (tells k.work.left)) answered ∙ ap tells left in
       let late : EndsLate (j.work.number + 1) rest = subst (λ (m : ℕ). EndsLate m rest) (ap (λ (i : Interpreting). i.number) work) may.late in
       forced_line s.point last s.since s.begun s.from n kept o more told (s.made ++ rest) (no_alarm j s.point s.hand s.line b) judged.becomes
       (behind_made (s.point.before.number + 1) s.made rest s.is_made.inside (subst (λ (m : ℕ). EndsLate (m + 1) rest) (sym s.number) late))
@@ -215,6 +219,12 @@ line_begun j k kept o w first sent replies records s b judged kind settles jogge
 
   answered : k.unanswered ≡ false
   answered = ap (λ (x : CourseJudge). x.unanswered) is ∙ b.answered
+
+  tell : left_to_tell k ≡ tells o.work
+  tell = ap (λ (u : Bool). cond u [] (tells k.work.left)) answered ∙ ap tells left
+
+  none_before : replies ++ left_to_tell j ≡ replies
+  none_before = ap (λ (rs : List Reply). replies ++ rs) (none_to_tell j b) ∙ append-nil replies
 
   is_made : IsMade ((s.since ++ o ∷ []) ++ s.begun) s.made (making k.part (s.ticks ++ ticks_for o) (s.moves ++ moves_of (asks o.work)))
   is_made =
@@ -300,9 +310,11 @@ line_broken j k kept o w first sent replies records s b judged kind settles is =
       let before = s.numbered in
       omega (arith, one, here, before));
   whole = ap (λ (x : CourseJudge). x.place) is ∙ s.whole;
+  reached =
+      subst (λ (rs : List Reply). Reaches first (sent ++ a_text kept ∷ []) (replies ++ rs) records (behind_broken s.point o) s.since (s.begun ++ o ∷ []) s.from s.made) (none_to_tell j b ∙ sym tell)
+      (reaches_broken first sent (replies ++ left_to_tell j) records s.point s.since s.begun s.from s.made kept o s.reached (record { free = no_alarm j s.point s.hand s.line b; answered = s.unanswered ∙ b.answered; becomes = judged.becomes }));
   back = λ n more told rest last g.
       let cuts : k.cuts ≡ j.cuts = ap (λ (x : CourseJudge). x.cuts) is in
-      let tell : left_to_tell k ≡ [] = ap (λ (u : Bool). cond u [] (tells k.work.left)) broken in
       let before = s.back n (a_text kept ∷ more) told rest last (by_broken s.point last s.since s.begun s.from n kept o more told (s.made ++ rest) (record { free = no_alarm j s.point s.hand s.line b; answered = s.unanswered ∙ b.answered; becomes = judged.becomes }) g) in
       subst (λ (c : ℕ). GoesTo (opening first) [] [] origin (n + c) ((sent ++ a_text kept ∷ []) ++ more) (replies ++ (left_to_tell k ++ told)) (records ++ rest) last) (sym cuts)
       (subst (λ (ss : List Sent). GoesTo (opening first) [] [] origin (n + j.cuts) ss (replies ++ (left_to_tell k ++ told)) (records ++ rest) last) (sym (append_assoc sent (a_text kept ∷ []) more))
@@ -310,7 +322,6 @@ line_broken j k kept o w first sent replies records s b judged kind settles is =
       (none_to_tell j b ∙ sym tell) before));
   forth = λ n more told rest last may g.
       let cuts : k.cuts ≡ j.cuts = ap (λ (x : CourseJudge). x.cuts) is in
-      let tell : left_to_tell k ≡ [] = ap (λ (u : Bool). cond u [] (tells k.work.left)) broken in
       let late : EndsLate (j.work.number + 1) rest = subst (λ (m : ℕ). EndsLate m rest) (ap (λ (i : Interpreting). i.number) work) may.late in
       forced_broken s.point last s.since s.begun s.from n kept o more told (s.made ++ rest) (no_alarm j s.point s.hand s.line b) judged.becomes
       (behind_made (s.point.before.number + 1) s.made rest s.is_made.inside (subst (λ (m : ℕ). EndsLate (m + 1) rest) (sym s.number) late)) (may.resets broken)
@@ -329,6 +340,9 @@ line_broken j k kept o w first sent replies records s b judged kind settles is =
 
   broken : k.unanswered ≡ true
   broken = ap (λ (x : CourseJudge). x.unanswered) is
+
+  tell : left_to_tell k ≡ []
+  tell = ap (λ (u : Bool). cond u [] (tells k.work.left)) broken
 
   same : with_line o (making j.part s.ticks s.moves) ≡ making k.part (s.ticks ++ ticks_for o) (s.moves ++ moves_of (asks o.work))
   same = making_more j.part s.ticks (ticks_for o) s.moves (moves_of (asks o.work)) o refl refl ∙ ap (λ (x : Known). making x (s.ticks ++ ticks_for o) (s.moves ++ moves_of (asks o.work))) (sym (ap (λ (x : CourseJudge). x.part) is))

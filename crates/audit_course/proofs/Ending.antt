@@ -32,8 +32,10 @@ use Rattle.run_texts.specs.Points.{Point, opening}
 use Rattle.run_texts.specs.Recorded.{IsRecorded, settled_ticks}
 use Rattle.run_texts.specs.Sent.{Sent, waiting_in, has_reset, behind_reset}
 use Rattle.run_texts.specs.Sent.Sent.{a_text, a_stop}
+use Rattle.run_texts.specs.SoFar.{Reaches}
 use Rattle.run_texts.specs.Told.{told_at_reset}
 use Rattle.run_texts.proofs.Making.{begins, finishes}
+use Rattle.run_texts.proofs.Reaching.{reaches_cut, reaches_reset}
 use Rattle.audit_course.specs.declared.Progress.{Progress}
 use Rattle.audit_course.specs.declared.judge.CourseJudge.{CourseJudge}
 use Rattle.audit_course.specs.declared.ticks.Ticks.TheVariants as standing
@@ -137,6 +139,9 @@ part_cut j k w state first sent replies records s may state_is same_left number_
   counted = ap (λ (c : ℕ). c + 1) s.counted ∙ sym (cuts_at_cut records k);
   numbered = number_is ∙ s.numbered;
   whole = s.whole ∙ sym (moved_on origin records (ending_record (by_cut k j.place) ∷ []));
+  reached =
+      subst (λ (rs : List Reply). Reaches first sent (replies ++ rs) (records ++ ending_record (by_cut k j.place) ∷ []) (behind_cut j.place s.point) [] [] j.place []) (to_tell j may.ends.done ∙ sym left_none)
+      (reaches_cut first sent (replies ++ left_to_tell j) records s.point s.since s.begun s.from s.made k j.place s.reached is_cut recorded);
   back = λ n more told rest last g.
       let before = s.back (n + 1) more told (ending_record (by_cut k j.place) ∷ rest) last
       (by_a_cut s.point last s.since s.begun s.from n k j.place more told s.made rest is_cut recorded g) in
@@ -291,6 +296,12 @@ part_reset j k dropped alarm locked lines w state first sent replies records s m
       let before = s.numbered in
       omega (arith, here, both, some, last, before, count));
   whole = s.whole ∙ sym (moved_on origin records (kinds.Mark (ResetMark k) ∷ []));
+  reached =
+      let r = reset_here j k dropped alarm locked in
+      let lines_and_stop = map a_text lines ++ a_stop ∷ [] in
+      subst (λ (rs : List Reply). Reaches first (sent ++ lines_and_stop) rs (records ++ kinds.Mark (ResetMark k) ∷ []) (behind_the_reset r s.point) [] [] j.place [])
+      (ap (λ (rs : List Reply). (replies ++ rs) ++ told_at_reset r) (to_tell j may.ends.done) ∙ ap (λ (rs : List Reply). rs ++ told_at_reset r) (append-nil replies) ∙ ap (λ (rs : List Reply). replies ++ rs) (sym greets))
+      (reaches_reset first sent lines_and_stop (replies ++ left_to_tell j) records s.point s.since s.begun s.from s.made r s.reached (is_reset []) (behind_so lines []) recorded);
   back = λ n more told rest last g.
       let on : GoesTo (behind_the_reset (reset_here j k dropped alarm locked) s.point) [] [] j.place n (behind_reset (map a_text lines ++ a_stop ∷ more)) told rest last =
       subst (λ (ss : List Sent). GoesTo (behind_the_reset (reset_here j k dropped alarm locked) s.point) [] [] j.place n ss told rest last) (sym (behind_so lines more)) g in

@@ -14,7 +14,9 @@ use Rattle.line_interpreter.specs.declared.desk.Accepted.TheVariants.{Neither}
 use Rattle.part_making.specs.Judging.{Known, nothing_known, making}
 use Rattle.run_texts.specs.Making.{IsMade}
 use Rattle.run_texts.specs.Points.{opening}
+use Rattle.run_texts.specs.SoFar.{Reaches}
 use Rattle.run_texts.proofs.Making.{begins}
+use Rattle.run_texts.proofs.Reaching.{reaches_opening}
 use Rattle.audit_course.specs.declared.Progress.{Progress}
 use Rattle.audit_course.specs.declared.judge.CourseJudge.{CourseJudge}
 use Rattle.audit_course.specs.declared.ticks.Ticks.TheVariants as standing
@@ -95,6 +97,7 @@ opens_so_far first w state part line state_is work number left part_is new settl
   counted = refl;
   numbered = number;
   whole = refl;
+  reached = subst (λ (rs : List Reply). Reaches first [] rs [] (opening first) [] [] origin []) (sym (ap tells left)) (reaches_opening first);
   back = λ n more told rest last g.
       subst (λ (rs : List Reply). GoesTo (opening first) [] [] origin (n + 0) more (rs ++ told) rest last) (sym (ap tells left))
       (subst (λ (c : ℕ). GoesTo (opening first) [] [] origin c more told rest last) (plus_none n) g);

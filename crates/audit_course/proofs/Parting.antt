@@ -23,6 +23,7 @@ use Rattle.run_texts.specs.Recorded.{ticks_for_all}
 use Rattle.run_texts.specs.Parts.{is_ending}
 use Rattle.run_texts.specs.Points.{Point, opening}
 use Rattle.run_texts.specs.Sent.{Sent}
+use Rattle.run_texts.proofs.Reaching.{reaches_record}
 use Rattle.part_making.proofs.Refused.{made_on}
 use Rattle.audit_course.proofs.Counting.{cuts_behind}
 use Rattle.audit_course.proofs.Forced.{behind_made}
@@ -129,6 +130,7 @@ record_taken j r part place events touched idle answered code settled first sent
   counted = s.counted ∙ sym (cuts_behind records r (goes_inside j.part part r goes));
   numbered = s.numbered;
   whole = here ∙ ap (λ (x : Steps3). moved_by x (r ∷ [])) s.whole ∙ sym (moved_on origin records (r ∷ []));
+  reached = reaches_record first sent (replies ++ left_to_tell j) records s.point s.since s.begun s.from s.made r s.reached;
   back = λ n more told rest last g.
       subst (λ (rs : List Record). GoesTo (opening first) [] [] origin (n + j.cuts) (sent ++ more) (replies ++ (left_to_tell j ++ told)) rs last) (sym (append_assoc records (r ∷ []) rest))
       (s.back n more told (r ∷ rest) last (subst (λ (rs : List Record). GoesTo s.point s.since s.begun s.from n more told rs last) (append_assoc s.made (r ∷ []) rest) g));
@@ -230,6 +232,7 @@ line_closed j l moved jog_moved answered code settled first sent replies records
   counted = s.counted;
   numbered = s.numbered;
   whole = s.whole;
+  reached = s.reached;
   back = s.back;
   forth = λ n more told rest last may. s.forth n more told rest last (record { late = may.late; resets = may.resets });
 } where

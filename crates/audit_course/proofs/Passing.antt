@@ -31,6 +31,7 @@ use Rattle.run_texts.specs.Recorded.{ticks_for_all}
 use Rattle.run_texts.specs.Parts.{is_ending}
 use Rattle.run_texts.specs.Points.{Point, opening}
 use Rattle.run_texts.specs.Sent.{Sent}
+use Rattle.run_texts.specs.SoFar.{Reaches}
 use Rattle.audit_course.specs.declared.Progress.{Progress}
 use Rattle.audit_course.specs.declared.judge.CourseJudge.{CourseJudge}
 use Rattle.audit_course.specs.Progressing.{asks_ticks, has_some, has_ticks, is_code, is_whole, ticks_to, is_halt, has_halt, ends_none, Counts, IsUnseen, IsItemOf}
@@ -133,6 +134,9 @@ task_done j t w l part lost first sent replies now records ticks moves s next is
   counted = s.counted;
   numbered = ap (λ (i : Interpreting). i.number) is ∙ s.numbered;
   whole = s.whole;
+  reached =
+      subst (λ (rs : List Reply). Reaches first sent rs records s.point s.since s.begun s.from s.made)
+      (ap (λ (rs : List Reply). replies ++ rs) (tell_now ∙ ap (λ (ts : List Task). now ++ cond j.unanswered [] (tells ts)) (sym left)) ∙ sym (append_assoc replies now (cond j.unanswered [] (tells w.left)))) s.reached;
   back = λ n more told rest last g.
       subst (λ (rs : List Reply). GoesTo (opening first) [] [] origin (n + j.cuts) (sent ++ more) rs (records ++ rest) last) (same told) (s.back n more told rest last g);
   forth = λ n more told rest last may g.
