@@ -206,7 +206,7 @@ part_cut j k w state first sent replies records s may state_is same_left number_
 
 -- ---- a reset
 
-waits_so : (lines : List (List ℕ)) (more : List Sent) → waiting_in (map a_text lines ++ a_stop ∷ more) ≡ lines
+pub waits_so : (lines : List (List ℕ)) (more : List Sent) → waiting_in (map a_text lines ++ a_stop ∷ more) ≡ lines
 waits_so [] more = refl
 waits_so (l ∷ ls) more = ap (λ (xs : List (List ℕ)). l ∷ xs) (waits_so ls more)
 

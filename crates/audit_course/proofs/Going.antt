@@ -1,5 +1,5 @@
 -- What goes on from a point, goes on from the one before it.
-use Rattle.std.proofs.Common.{ℕ, ◌+◌, List, [], ◌∷◌, ◌++◌, sym, refl, ap, subst, arith}
+use Rattle.std.proofs.Common.{ℕ, ◌+◌, List, [], ◌∷◌, ◌++◌, sym, refl, ap, subst, append-nil, arith}
 use Rattle.units.specs.declared.Steps3.{Steps3}
 use Rattle.status_report.specs.declared.Reply.{Reply}
 use Rattle.step_line.specs.declared.Record.{Record}
@@ -8,7 +8,7 @@ use Rattle.run_rules.specs.Work.{Outcome, tells}
 use Rattle.run_texts.specs.Courses.{Reset, IsCut, IsReset, IsLeft, behind_cut, behind_the_reset}
 use Rattle.run_texts.specs.Courses.Passed.{a_line, a_broken, a_cut, a_reset}
 use Rattle.run_texts.specs.Left.{part_of}
-use Rattle.run_texts.specs.Parts.{Part, parts_of, ending_record}
+use Rattle.run_texts.specs.Parts.{Ending, Part, parts_of, ending_record}
 use Rattle.run_texts.specs.Parts.Ending.{by_cut, by_reset, by_end}
 use Rattle.run_texts.specs.Points.{Point, IsPassed, IsBroken, behind_line, behind_broken}
 use Rattle.run_texts.specs.Recorded.{IsRecorded, AreRecorded}
@@ -18,6 +18,12 @@ use Rattle.run_texts.specs.Told.{told_at_reset}
 use Rattle.run_texts.proofs.Leading.{onto_none, onto_more, onto_begun}
 use Rattle.run_texts.proofs.Left.{recorded_again}
 use Rattle.audit_course.specs.SoFar.{GoesTo}
+
+-- a part that no line was added to
+pub recorded_bare : (place : Steps3) (since begun : List Outcome) (ending : Ending) (mine : List Record) → IsRecorded place (part_of (since ++ []) (begun ++ []) ending) mine → IsRecorded place (part_of since begun ending) mine
+recorded_bare place since begun ending mine are =
+    subst (λ (lines : List Outcome). IsRecorded place (part_of since lines ending) mine) (append-nil begun)
+    (subst (λ (lines : List Outcome). IsRecorded place (part_of lines (begun ++ []) ending) mine) (append-nil since) are)
 
 pub by_line : (p last : Point) (since begun : List Outcome) (place : Steps3) (cuts : ℕ) (kept : List ℕ) (o : Outcome) (more : List Sent) (told : List Reply) (records : List Record)
     → IsPassed p kept o → GoesTo (behind_line p kept o) (since ++ o ∷ []) begun place cuts more told records last → GoesTo p since begun place cuts (a_text kept ∷ more) (tells o.work ++ told) records last

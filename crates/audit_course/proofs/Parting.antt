@@ -33,6 +33,7 @@ use Rattle.audit_course.specs.declared.judge.CourseJudge.{CourseJudge}
 use Rattle.audit_course.specs.declared.ticks.Ticks.{Ticks}
 use Rattle.audit_course.specs.declared.ticks.Ticks.TheVariants as standing
 use Rattle.audit_course.specs.Progressing.{has_ticks, has_halt, ends_none, is_code, is_whole, behind_record, ticks_to, moved_now, fresh}
+use Rattle.audit_course.specs.Here.{StandsAlike}
 use Rattle.audit_course.specs.SoFar.{GoesTo, HasJudged, KnowsTicks, AreSo, AreNow, OfLine, IsNoLine, OwesBehind, IsIdle, left_to_tell}
 
 -- ---- a record
@@ -252,25 +253,33 @@ idle_owes j first sent replies records s i =
 
 -- ---- as the code has it
 
-pub closes : (j : CourseJudge) (now : Ticks) (l : Progress) (moved jog_moved : Bool) (answered code settled : Ticks) (first : State) (sent : List Sent) (replies : List Reply) (records : List Record) → HasJudged j first sent replies records
+pub closes : (j : CourseJudge) (now : Ticks) (l : Progress) (moved jog_moved : Bool) (answered code settled : Ticks) (first : State) (sent : List Sent) (replies : List Reply) (records : List Record) (s : HasJudged j first sent replies records)
     → j.work.left ≡ [] → AreNow now j → l ≡ fresh j.line.halts
     → answered ≡ cond ((j.in_hand && not j.unanswered) && true) now j.answered
     → code ≡ cond ((j.in_hand && not j.unanswered) && (not (accepted_jog (kind_told j.line.accepted)) && j.line.asks)) now j.code
     → settled ≡ cond ((j.in_hand && not j.unanswered) && j.line.settles) now j.settled
     → moved ≡ moved_now (accepted_code (kind_told j.line.accepted)) j.line j.moved → jog_moved ≡ moved_now (accepted_jog (kind_told j.line.accepted)) j.line j.jog_moved
-    → HasJudged (record j { line = l; in_hand = false; moved = moved; jog_moved = jog_moved; answered = answered; code = code; settled = settled }) first sent replies records
-closes j now l moved jog_moved answered code settled first sent replies records s done stands new answered_is code_is settled_is moved_is jog_is =
-    line_closed j l moved jog_moved answered code settled first sent replies records s done new moved_is jog_is
-    (λ u e. s.owes_behind u (sym (ap is_whole (answered_is ∙ ap (λ (b : Bool). cond b now j.answered) (not_here j.in_hand j.unanswered u))) ∙ e))
-    (subst (λ (x : Ticks). KnowsTicks (record j { answered = x; code = code; settled = settled }) s.since [] s.made) (sym answered_is)
-    (subst (λ (x : Ticks). KnowsTicks (record j { answered = cond ((j.in_hand && not j.unanswered) && true) now j.answered; code = x; settled = settled }) s.since [] s.made) (sym code_is)
-    (subst (λ (x : Ticks). KnowsTicks (record j {
-      answered = cond ((j.in_hand && not j.unanswered) && true) now j.answered;
-      code = cond ((j.in_hand && not j.unanswered) && (not (accepted_jog (kind_told j.line.accepted)) && j.line.asks)) now j.code;
-      settled = x;
-    }) s.since [] s.made) (sym settled_is)
-    (ticks_closed j now first sent replies records s done stands j.in_hand j.unanswered refl refl)))) where
-      not_here : (b u : Bool) → u ≡ true → ((b && not u) && true) ≡ false
-      not_here true true e = refl
-      not_here true false e = absurd cc
-      not_here false u e = refl
+    → StandsAlike j (record j { line = l; in_hand = false; moved = moved; jog_moved = jog_moved; answered = answered; code = code; settled = settled }) first sent replies records s
+unfolding line_closed
+closes j now l moved jog_moved answered code settled first sent replies records s done stands new answered_is code_is settled_is moved_is jog_is = record {
+  there =
+      line_closed j l moved jog_moved answered code settled first sent replies records s done new moved_is jog_is
+      (λ u e. s.owes_behind u (sym (ap is_whole (answered_is ∙ ap (λ (b : Bool). cond b now j.answered) (not_here j.in_hand j.unanswered u))) ∙ e))
+      (subst (λ (x : Ticks). KnowsTicks (record j { answered = x; code = code; settled = settled }) s.since [] s.made) (sym answered_is)
+      (subst (λ (x : Ticks). KnowsTicks (record j { answered = cond ((j.in_hand && not j.unanswered) && true) now j.answered; code = x; settled = settled }) s.since [] s.made) (sym code_is)
+      (subst (λ (x : Ticks). KnowsTicks (record j {
+        answered = cond ((j.in_hand && not j.unanswered) && true) now j.answered;
+        code = cond ((j.in_hand && not j.unanswered) && (not (accepted_jog (kind_told j.line.accepted)) && j.line.asks)) now j.code;
+        settled = x;
+      }) s.since [] s.made) (sym settled_is)
+      (ticks_closed j now first sent replies records s done stands j.in_hand j.unanswered refl refl))));
+  point = refl;
+  since = refl;
+  begun = refl;
+  from = refl;
+  made = refl;
+} where
+  not_here : (b u : Bool) → u ≡ true → ((b && not u) && true) ≡ false
+  not_here true true e = refl
+  not_here true false e = absurd cc
+  not_here false u e = refl

@@ -1,6 +1,7 @@
 -- What is refused: no texts fit that go on by it.
-use Rattle.std.proofs.Common.{◌≡◌, ℕ, ◌+◌, Bool, true, false, cond, List, [], ◌∷◌, ◌++◌, length, length-append, append-nil, append_assoc, refl, sym, ap, ◌∙◌, subst, ◌≤◌, arith}
+use Rattle.std.proofs.Common.{◌≡◌, ℕ, ◌+◌, Bool, true, false, List, [], ◌∷◌, ◌++◌, length, length-append, append-nil, append_assoc, refl, sym, ap, ◌∙◌, subst, ◌≤◌, arith}
 use Rattle.std.specs.List.{list_any}
+use Rattle.units.specs.declared.Steps3.{Steps3}
 use Rattle.legal_heads.specs.Speeds.{MayStop}
 use Rattle.flight.specs.Places.{origin}
 use Rattle.status_report.specs.declared.Reply.{Reply}
@@ -13,16 +14,15 @@ use Rattle.part_making.specs.Judging.{Refuses, making, rest_of, all_ticks, comin
 use Rattle.part_making.proofs.Ending.{entered, settled_made}
 use Rattle.part_making.proofs.Refused.{never_made}
 use Rattle.run_rules.specs.Outcomes.{either}
-use Rattle.line_interpreter.specs.Interpreting.{Interpreting}
 use Rattle.run_rules.specs.Reports.{raises_alarm}
-use Rattle.run_rules.specs.Work.{Outcome, tells}
+use Rattle.run_rules.specs.Work.{Outcome}
 use Rattle.run_rules.specs.Cuts.{LosesJogsAlone}
-use Rattle.run_texts.specs.Courses.{Passed, Follows}
+use Rattle.run_texts.specs.Courses.{Passed, Follows, IsCut}
 use Rattle.run_texts.specs.Courses.Passed.{a_line, a_broken, a_cut, a_reset}
-use Rattle.run_texts.specs.Left.{behind_lines}
+use Rattle.run_texts.specs.Left.{behind_lines, part_of}
 use Rattle.run_texts.specs.Making.{Making, IsMade, with_line}
-use Rattle.run_texts.specs.Recorded.{AreRecorded, ticks_for_all, settled_ticks}
-use Rattle.run_texts.specs.Parts.{parts_of, ending_record, is_ending, lines_counted}
+use Rattle.run_texts.specs.Recorded.{IsRecorded, AreRecorded, ticks_for_all, settled_ticks}
+use Rattle.run_texts.specs.Parts.{Ending, parts_of, ending_record, is_ending, lines_counted}
 use Rattle.run_texts.specs.Parts.Ending.{by_cut, by_end}
 use Rattle.run_texts.specs.Points.{Point, IsPassed, IsBroken, opening}
 use Rattle.run_texts.specs.Sent.{Sent}
@@ -31,18 +31,32 @@ use Rattle.run_texts.proofs.OneMaking.{one_making}
 use Rattle.run_texts.proofs.Stops.{same_split}
 use Rattle.audit_course.specs.declared.judge.CourseJudge.{CourseJudge}
 use Rattle.audit_course.specs.Progressing.{is_code, ticks_to}
-use Rattle.audit_course.specs.SoFar.{GoesTo, HasJudged, IsClosed, IsIdle, MayCut, MayEnd, MayFollow, RefusesEnd, RefusesLine, RefusesRecord, left_to_tell}
+use Rattle.audit_course.specs.Here.{CutsNot, MakesNot, StandsAlike, StandsAsBefore}
+use Rattle.audit_course.specs.SoFar.{GoesTo, HasJudged, IsClosed, IsIdle, MayCut, MayEnd, RefusesEnd, RefusesLine, RefusesRecord, left_to_tell}
 use Rattle.audit_course.proofs.Ending.{calm_line, code_is, point_halts, settled_are, to_tell}
 use Rattle.audit_course.proofs.Parting.{none_of}
 use Rattle.audit_course.proofs.Standing.{is_whole_so, jogs_to}
 use Rattle.audit_course.proofs.Forced.{broken_too_late, cut_is, first_ending, line_too_late}
+use Rattle.audit_course.proofs.Going.{recorded_bare}
 use Rattle.audit_course.proofs.FirstPart.{IsMadeOf, ending_ends, first_part, front_made, holds_front, made_behind}
 
--- from where it stands
+-- what is recorded of the part at hand is so where another judge stands, who is where this one is
+pub recorded_there : (j there : CourseJudge) (first : State) (sent : List Sent) (replies : List Reply) (records : List Record) (s : HasJudged j first sent replies records) (t : StandsAlike j there first sent replies records s) (e : Ending)
+    → IsRecorded s.from (part_of s.since s.begun e) s.made → IsRecorded t.there.from (part_of t.there.since t.there.begun e) t.there.made
+recorded_there j there first sent replies records s t e are =
+    subst (λ (x : Steps3). IsRecorded x (part_of t.there.since t.there.begun e) t.there.made) (sym t.from)
+    (subst (λ (os : List Outcome). IsRecorded s.from (part_of os t.there.begun e) t.there.made) (sym t.since)
+    (subst (λ (os : List Outcome). IsRecorded s.from (part_of s.since os e) t.there.made) (sym t.begun) (subst (IsRecorded s.from (part_of s.since s.begun e)) (sym t.made) are)))
+
+-- a record that the part does not take, whatever lines come
+pub makes_not : (j : CourseJudge) (r : Record) → Refuses j.part r → MakesNot j r
+makes_not j r refuses first sent replies records s more m is = never_made (s.since ++ s.begun) more s.made j.part s.ticks s.moves r m s.is_made refuses is
+
+-- nor from where it stands
 never_goes : (j : CourseJudge) (r : Record) (first : State) (sent : List Sent) (replies : List Reply) (records : List Record) (s : HasJudged j first sent replies records)
-    → Refuses j.part r → is_ending r ≡ false → (n : ℕ) (more : List Sent) (told : List Reply) (rest : List Record) (last : Point)
+    → MakesNot j r → is_ending r ≡ false → (n : ℕ) (more : List Sent) (told : List Reply) (rest : List Record) (last : Point)
     → GoesTo s.point s.since s.begun s.from n more told (s.made ++ r ∷ rest) last → ⊥
-never_goes j r first sent replies records s refuses inside n more told rest last g =
+never_goes j r first sent replies records s not_made inside n more told rest last g =
     let f = first_part s.from s.since s.begun g.course (s.made ++ r ∷ rest) g.recorded in
     let h = holds_front s.made f.mine rest f.behind r (ending_record f.part.ending) s.is_made.inside inside (ending_ends f.part.ending) f.split in
     let whole = finished s.from (record { lines = s.since ++ f.part.lines; begun = s.begun ++ f.part.begun; ending = f.part.ending }) f.mine f.is in
@@ -50,14 +64,10 @@ never_goes j r first sent replies records s refuses inside n more told rest last
     subst (IsMadeOf (lines_counted (record { lines = s.since ++ f.part.lines; begun = s.begun ++ f.part.begun; ending = f.part.ending }))) (h.are ∙ sym (append_assoc s.made (r ∷ []) h.more)) (whole.making, whole.is) in
     let front = front_made (lines_counted (record { lines = s.since ++ f.part.lines; begun = s.begun ++ f.part.begun; ending = f.part.ending })) (s.made ++ r ∷ []) h.more all in
     let b = made_behind s.point last more g.course s.since s.begun f.part f.later (s.made ++ r ∷ []) j.unanswered g.follows f.parts s.unanswered s.none_begun front in
-    never_made (s.since ++ s.begun) b.more s.made j.part s.ticks s.moves r b.is.0 s.is_made refuses b.is.1
+    not_made first sent replies records s b.more b.is.0 b.is.1
 
-pub never_follows : (j : CourseJudge) (r : Record) (first : State) (sent : List Sent) (replies : List Reply) (records : List Record) → HasJudged j first sent replies records
-    → Refuses j.part r → is_ending r ≡ false → (n : ℕ) (more : List Sent) (told : List Reply) (rest : List Record) (last : Point) → MayFollow j told (r ∷ rest)
-    → GoesTo (opening first) [] [] origin (n + j.cuts) (sent ++ more) (replies ++ (left_to_tell j ++ told)) (records ++ r ∷ rest) last → ⊥
-never_follows j r first sent replies records s refuses inside n more told rest last may g =
-    never_goes j r first sent replies records s refuses inside n more told rest last
-    (s.forth n more told (r ∷ rest) last may g)
+pub never_follows : (j : CourseJudge) (r : Record) → MakesNot j r → is_ending r ≡ false → RefusesRecord j r
+never_follows j r not_made inside first sent replies records s n more told rest last may g = never_goes j r first sent replies records s not_made inside n more told rest last (s.forth n more told (r ∷ rest) last may g)
 
 -- ---- the end
 
@@ -160,56 +170,58 @@ untouched_by j first sent replies records s m is out u = by j.touched refl where
       let all : length (ticks_for_all s.since) ≡ length (ticks_among s.made) + length m.owed = ap length is.ticks ∙ length-append (ticks_among s.made) m.owed in
       absurd (omega (arith, less, all))
 
-never_cut_by : (j : CourseJudge) (k : ℕ) (first : State) (sent : List Sent) (replies : List Reply) (records : List Record) (s : HasJudged j first sent replies records) (more : List Sent) (rest : List Record) (last : Point) (ps : List Passed)
-    → IsClosed j → j.work.number ≡ k + 1 → (MayCut j k → ⊥)
-    → Follows s.point more ps last → AreRecorded s.from (behind_lines s.since s.begun (parts_of ps)) (s.made ++ kinds.Mark (marks.Cut k) ∷ rest) → ⊥
-never_cut_by j k first sent replies records s more rest last [] closed number not_so f are =
-    let same = same_split s.made are.0 rest are.1 (kinds.Mark (marks.Cut k)) kinds.End s.is_made.inside are.3.inside refl refl are.2 in absurd (let g = same.ending in cc)
-never_cut_by j k first sent replies records s more rest last (a_reset r ∷ ps) closed number not_so f are =
-    let same = same_split s.made are.0 rest are.1 (kinds.Mark (marks.Cut k)) (kinds.Mark (marks.Reset r.number)) s.is_made.inside are.3.inside refl refl are.2 in absurd (let g = same.ending in cc)
-never_cut_by j k first sent replies records s more rest last (a_line o ∷ ps) closed number not_so f are =
-    let g = first_part s.from s.since s.begun (a_line o ∷ ps) (s.made ++ kinds.Mark (marks.Cut k) ∷ rest) are in
-    let same = same_split s.made g.mine rest g.behind (kinds.Mark (marks.Cut k)) (ending_record g.part.ending) s.is_made.inside g.is.inside refl (ending_ends g.part.ending) g.split in
-    let is = cut_is k g.part.ending same.ending in
-    line_too_late s.point last more o ps g.part.ending f (ap first_ending g.parts) is.0 (s.number ∙ number ∙ ap (λ (m : ℕ). m + 1) (sym is.1))
-never_cut_by j k first sent replies records s more rest last (a_broken o ∷ ps) closed number not_so f are =
-    let g = first_part s.from s.since s.begun (a_broken o ∷ ps) (s.made ++ kinds.Mark (marks.Cut k) ∷ rest) are in
-    let same = same_split s.made g.mine rest g.behind (kinds.Mark (marks.Cut k)) (ending_record g.part.ending) s.is_made.inside g.is.inside refl (ending_ends g.part.ending) g.split in
-    let is = cut_is k g.part.ending same.ending in
-    broken_too_late s.point last more o ps g.part.ending f (ap first_ending g.parts) is.0 (s.number ∙ number ∙ ap (λ (m : ℕ). m + 1) (sym is.1))
-never_cut_by j k first sent replies records s more rest last (a_cut i at ∷ ps) closed number not_so f are =
-    let same = same_split s.made are.0 rest are.1 (kinds.Mark (marks.Cut k)) (kinds.Mark (marks.Cut i)) s.is_made.inside are.3.inside refl refl are.2 in
-    let whole = finished s.from (record { lines = s.since ++ []; begun = s.begun ++ []; ending = by_cut i at }) are.0 are.3 in
-    let lines : (s.since ++ []) ++ [] ≡ s.since = append-nil (s.since ++ []) ∙ append-nil s.since in
-    let bare : IsMade s.since s.made whole.making =
-    subst (λ (rs : List Record). IsMade s.since rs whole.making) (sym same.front) (subst (λ (os : List Outcome). IsMade os are.0 whole.making) lines whole.is) in
+-- the part does not end so, where a cut is refused
+pub cuts_not : (j : CourseJudge) (k : ℕ) → IsClosed j → (MayCut j k → ⊥) → CutsNot j k
+cuts_not j k closed not_so first sent replies records s at is are =
+    let whole = finished s.from (part_of s.since s.begun (by_cut k at)) s.made are in
+    let bare : IsMade s.since s.made whole.making = subst (λ (os : List Outcome). IsMade os s.made whole.making) (append-nil s.since) whole.is in
     let with_begun = made_with s.since s.begun s.made whole.making bare in
     let m : with_begun.making ≡ making j.part s.ticks s.moves = one_making (s.since ++ s.begun) s.made with_begun.making (making j.part s.ticks s.moves) with_begun.is s.is_made in
     let out : coming_of j.part.latest ≡ [] = sym (ap (λ (x : Making). x.coming) m) ∙ with_begun.coming ∙ whole.may.0 in
-    let loses : LosesJogsAlone (length (ticks_among s.made)) s.since =
-    subst (λ (rs : List Record). LosesJogsAlone (length (ticks_among rs)) s.since) (sym same.front) (subst (LosesJogsAlone (length (ticks_among are.0))) lines whole.may.2) in
+    let loses : LosesJogsAlone (length (ticks_among s.made)) s.since = subst (LosesJogsAlone (length (ticks_among s.made))) (append-nil s.since) whole.may.2 in
     let code = is_whole_so j.code (ticks_to is_code s.since) j.part j.lost s.made (code_is j s.since s.hand s.made s.knows (s.line.none closed.closed).none) (jogs_to s.since (length (ticks_among s.made)) loses) in
     not_so (record {
       ends = closed;
       untouched = untouched_by j first sent replies records s whole.making bare out;
-      calm = calm_line j s.point s.hand s.line closed.done f.0.free;
-      has_line = sym s.has_line ∙ f.0.has_line;
-      number = number;
+      calm = calm_line j s.point s.hand s.line closed.done is.free;
+      has_line = sym s.has_line ∙ is.has_line;
+      number = sym s.number ∙ is.number;
       out = out;
       may = subst MayStop (sym with_begun.latest ∙ ap (λ (x : Making). x.latest) m) whole.may.1;
       code = code;
     })
 
-pub never_cut : (old mid : CourseJudge) (k : ℕ)
-    → ((first : State) (sent : List Sent) (replies : List Reply) (records : List Record) → HasJudged old first sent replies records → HasJudged mid first sent replies records)
-    → mid.work ≡ old.work → mid.unanswered ≡ old.unanswered → mid.cuts ≡ old.cuts → IsClosed mid → k + 1 ≤ old.work.number → (MayCut mid k → ⊥) → RefusesRecord old (kinds.Mark (marks.Cut k))
-never_cut old mid k stays work unanswered cuts closed late not_so first sent replies records s n more told rest last may g =
-    let here = stays first sent replies records s in
-    let same : left_to_tell mid ≡ left_to_tell old = ap (λ (u : Bool). cond u [] (tells mid.work.left)) unanswered ∙ ap (λ (i : Interpreting). cond old.unanswered [] (tells i.left)) work in
-    let soon : old.work.number ≤ k + 1 = may.late in
-    let number : mid.work.number ≡ k + 1 = ap (λ (i : Interpreting). i.number) work ∙ (let e : old.work.number ≡ k + 1 = omega (arith, late, soon) in e) in
-    let on = here.forth n more told (kinds.Mark (marks.Cut k) ∷ rest) last
-    (record { late = subst (λ (i : Interpreting). i.number ≤ k + 1) (sym work) soon; resets = λ u. may.resets (sym unanswered ∙ u) })
-    (subst (λ (c : ℕ). GoesTo (opening first) [] [] origin (n + c) (sent ++ more) (replies ++ (left_to_tell mid ++ told)) (records ++ kinds.Mark (marks.Cut k) ∷ rest) last) (sym cuts)
-    (subst (λ (rs : List Reply). GoesTo (opening first) [] [] origin (n + old.cuts) (sent ++ more) (replies ++ (rs ++ told)) (records ++ kinds.Mark (marks.Cut k) ∷ rest) last) (sym same) g)) in
-    never_cut_by mid k first sent replies records here more rest last on.course closed number not_so on.follows on.recorded
+-- nor where another judge stands, who is where it is
+pub cuts_not_there : (j there : CourseJudge) (k : ℕ) → StandsAsBefore j there → CutsNot there k → CutsNot j k
+cuts_not_there j there k stands not_so first sent replies records s at is are =
+    let t = stands first sent replies records s in
+    not_so first sent replies records t.there at (subst (λ (p : Point). IsCut p k) (sym t.point) is) (recorded_there j there first sent replies records s t (by_cut k at) are)
+
+never_cut_by : (j : CourseJudge) (k : ℕ) (first : State) (sent : List Sent) (replies : List Reply) (records : List Record) (s : HasJudged j first sent replies records) (more : List Sent) (rest : List Record) (last : Point) (ps : List Passed)
+    → j.work.number ≡ k + 1 → CutsNot j k
+    → Follows s.point more ps last → AreRecorded s.from (behind_lines s.since s.begun (parts_of ps)) (s.made ++ kinds.Mark (marks.Cut k) ∷ rest) → ⊥
+never_cut_by j k first sent replies records s more rest last [] number not_so f are =
+    let same = same_split s.made are.0 rest are.1 (kinds.Mark (marks.Cut k)) kinds.End s.is_made.inside are.3.inside refl refl are.2 in absurd (let g = same.ending in cc)
+never_cut_by j k first sent replies records s more rest last (a_reset r ∷ ps) number not_so f are =
+    let same = same_split s.made are.0 rest are.1 (kinds.Mark (marks.Cut k)) (kinds.Mark (marks.Reset r.number)) s.is_made.inside are.3.inside refl refl are.2 in absurd (let g = same.ending in cc)
+never_cut_by j k first sent replies records s more rest last (a_line o ∷ ps) number not_so f are =
+    let g = first_part s.from s.since s.begun (a_line o ∷ ps) (s.made ++ kinds.Mark (marks.Cut k) ∷ rest) are in
+    let same = same_split s.made g.mine rest g.behind (kinds.Mark (marks.Cut k)) (ending_record g.part.ending) s.is_made.inside g.is.inside refl (ending_ends g.part.ending) g.split in
+    let is = cut_is k g.part.ending same.ending in
+    line_too_late s.point last more o ps g.part.ending f (ap first_ending g.parts) is.0 (s.number ∙ number ∙ ap (λ (m : ℕ). m + 1) (sym is.1))
+never_cut_by j k first sent replies records s more rest last (a_broken o ∷ ps) number not_so f are =
+    let g = first_part s.from s.since s.begun (a_broken o ∷ ps) (s.made ++ kinds.Mark (marks.Cut k) ∷ rest) are in
+    let same = same_split s.made g.mine rest g.behind (kinds.Mark (marks.Cut k)) (ending_record g.part.ending) s.is_made.inside g.is.inside refl (ending_ends g.part.ending) g.split in
+    let is = cut_is k g.part.ending same.ending in
+    broken_too_late s.point last more o ps g.part.ending f (ap first_ending g.parts) is.0 (s.number ∙ number ∙ ap (λ (m : ℕ). m + 1) (sym is.1))
+never_cut_by j k first sent replies records s more rest last (a_cut i at ∷ ps) number not_so f are =
+    let same = same_split s.made are.0 rest are.1 (kinds.Mark (marks.Cut k)) (kinds.Mark (marks.Cut i)) s.is_made.inside are.3.inside refl refl are.2 in
+    let number_is : i ≡ k = (let g = same.ending in cc) in
+    let bare : IsRecorded s.from (part_of s.since s.begun (by_cut i at)) s.made = subst (IsRecorded s.from (part_of s.since s.begun (by_cut i at))) (sym same.front) (recorded_bare s.from s.since s.begun (by_cut i at) are.0 are.3) in
+    not_so first sent replies records s at (subst (IsCut s.point) number_is f.0) (subst (λ (n : ℕ). IsRecorded s.from (part_of s.since s.begun (by_cut n at)) s.made) number_is bare)
+
+pub never_cut : (j : CourseJudge) (k : ℕ) → CutsNot j k → k + 1 ≤ j.work.number → RefusesRecord j (kinds.Mark (marks.Cut k))
+never_cut j k not_so late first sent replies records s n more told rest last may g =
+    let soon : j.work.number ≤ k + 1 = may.late in
+    let on = s.forth n more told (kinds.Mark (marks.Cut k) ∷ rest) last may g in
+    never_cut_by j k first sent replies records s more rest last on.course (omega (arith, late, soon)) not_so on.follows on.recorded

@@ -14,6 +14,19 @@ use Rattle.run_texts.specs.Sent.{Sent}
 use Rattle.audit_course.specs.SoFar.{HasJudged}
 use Rattle.audit_course.specs.declared.judge.CourseJudge.{CourseJudge}
 
+-- Another judge of the same texts stands at the same point, where the part at hand has the same lines and records.
+pub record StandsAlike (j k : CourseJudge) (first : State) (sent : List Sent) (replies : List Reply) (records : List Record) (s : HasJudged j first sent replies records) : Type 0 where
+  pub there : HasJudged k first sent replies records
+  pub point : there.point ≡ s.point
+  pub since : there.since ≡ s.since
+  pub begun : there.begun ≡ s.begun
+  pub from : there.from ≡ s.from
+  pub made : there.made ≡ s.made
+
+-- nothing more was told, and it stands where it stood
+abbrev pub StandsAsBefore : CourseJudge → CourseJudge → Type 0
+StandsAsBefore j k = (first : State) (sent : List Sent) (replies : List Reply) (records : List Record) (s : HasJudged j first sent replies records) → StandsAlike j k first sent replies records s
+
 -- The part does not make this record next, whatever lines come.
 abbrev pub MakesNot : CourseJudge → Record → Type 0
 MakesNot j r = (first : State) (sent : List Sent) (replies : List Reply) (records : List Record) (s : HasJudged j first sent replies records) (more : List Outcome) (m : Making)

@@ -8,6 +8,7 @@ ghost use Rattle.legal_heads.specs.Speeds.{MayStop};
 ghost use Rattle.part_making.specs.Judging.{coming_of, head_of};
 ghost use Rattle.line_interpreter.specs.Lefts.{greeting};
 ghost use Rattle.audit_course.specs.Progressing.{is_whole};
+ghost use Rattle.audit_course.specs.Here.{CutsNot, ResetsNot};
 ghost use Rattle.audit_course.specs.SoFar.{left_to_tell, BeginsPart, AddsRecord, AddsReset, EndsSoFar, RefusesEnd, RefusesRecord, RefusesReset, IsClosed, IsIdle, MayCut, MayReset, MayEnd};
 
 use crate::{CourseJudge, Progress, Ticks};
@@ -108,9 +109,10 @@ impl CourseJudge {
     }
 
     /// The mark of a cut comes, behind this line: whether it may. The line may stay without its answer. If it may not, though the
-    /// last line is done and that is no later one, no texts fit that have this mark next; the machine is in its range, and one
-    /// more cut can be counted.
+    /// last line is done, the part may not be cut there behind this line; and if that is no later one, no texts fit that have this
+    /// mark next. The machine is in its range, and one more cut can be counted.
     pub fn cut(&mut self, k: u32) -> bool
+        ensures here { result ≡ false → self.old.work.left ≡ [] → IsPlace self.old.place → self.old.cuts + 1 < 2 ^ 32 → CutsNot self.old k }
         ensures no { result ≡ false → self.old.work.left ≡ [] → k + 1 ≤ self.old.work.number → IsPlace self.old.place → self.old.cuts + 1 < 2 ^ 32 → RefusesRecord self.old (kinds.Mark (CutMark k)) }
         ensures yes { IsTrue result → AddsRecord self.old self.new (kinds.Mark (CutMark k)) }
         ensures work { self.new.work.left ≡ self.old.work.left }
@@ -194,8 +196,9 @@ impl CourseJudge {
     }
 
     /// A reset comes of the job, which drops so many lines that are not begun, and its mark, behind this line: whether it
-    /// may. Then what is told at it is to be told, with or without the alarm. If it may not, though that is the last line, which is
-    /// done, no texts fit that have this reset next; the machine is in its range, and the lines can be counted.
+    /// may. Then what is told at it is to be told, with or without the alarm. If it may not, though the last line is done, no such
+    /// reset may end the part there; and if this is the last line, no texts fit that have this reset next. The machine is in its
+    /// range, and the lines can be counted.
     pub fn reset(&mut self, k: u32, dropped: u32, alarm: bool) -> bool
         ensures yes { IsTrue result → AddsReset self.old self.new k dropped }
         ensures greets { IsTrue result → left_to_tell self.new ≡ greeting alarm (alarm || self.old.locked) }
@@ -203,6 +206,7 @@ impl CourseJudge {
         ensures answered { IsTrue result → self.new.unanswered ≡ false }
         ensures calm { IsTrue result → self.new.line.halts ≡ false }
         ensures begins { IsTrue result → BeginsPart self.new }
+        ensures here { result ≡ false → self.old.work.left ≡ [] → IsPlace self.old.place → self.old.work.number + dropped < 2 ^ 32 → ResetsNot self.old k dropped alarm }
         ensures no { result ≡ false → self.old.work.left ≡ [] → self.old.work.number ≡ k + 1 → IsPlace self.old.place → self.old.work.number + dropped < 2 ^ 32 → RefusesReset self.old k dropped alarm }
     {
         if !self.work.is_done() {

@@ -7,6 +7,7 @@ ghost use Rattle.run_texts.specs.Sent.Sent.{a_text};
 ghost use Rattle.line_interpreter.specs.Desks.{kind_told};
 ghost use Rattle.line_interpreter.specs.Keeping.{IsKept};
 ghost use Rattle.audit_course.specs.Progressing.{moved_now, fresh};
+ghost use Rattle.audit_course.specs.Here.{StandsAsBefore};
 ghost use Rattle.audit_course.specs.SoFar.{StaysSoFar, AreNow, AddsSent, RefusesLine, MayBegin, IsIdle, FindsRight, FindsStill, TellsAlone, TellsFound, HasWorkOf};
 
 use crate::machines::unlocks;
@@ -110,6 +111,7 @@ impl CourseJudge {
     pub(crate) fn close(&mut self)
         requires { self.old.work.left ≡ [] }
         ensures stays { StaysSoFar self.old self.new }
+        ensures stands { StandsAsBefore self.old self.new }
         ensures closed { self.new.in_hand ≡ false }
         ensures work { self.new.work ≡ self.old.work }
         ensures unanswered { self.new.unanswered ≡ self.old.unanswered }

@@ -13,6 +13,7 @@ ghost use Rattle.step_line.specs.declared.Record.TheVariants as kinds;
 ghost use Rattle.step_line.specs.Places.{stepped};
 ghost use Rattle.run_texts.specs.Parts.{is_ending};
 ghost use Rattle.audit_course.specs.Progressing.{IsUnseen, IsItemOf, has_halt};
+ghost use Rattle.audit_course.specs.Here.{MakesNot};
 ghost use Rattle.audit_course.specs.SoFar.{StaysSoFar, SameLine, AddsRecord, RefusesRecord, left_to_tell};
 
 use crate::CourseJudge;
@@ -182,11 +183,12 @@ impl CourseJudge {
     }
 
     /// A record comes: whether it is the next one of the part. If not, no record is told any more. Where something is owed, the
-    /// machine is in its range and the events can be counted, no texts fit that have a record next that is refused and ends no
-    /// part.
+    /// machine is in its range and the events can be counted, the part makes no record next that is refused and ends none, whatever
+    /// lines come, and no texts fit that have it next.
     pub fn take(&mut self, given: &Record) -> bool
         ensures yes { IsTrue result → AddsRecord self.old self.new given.now }
         ensures no { result ≡ false → owed_of self.old.part ≢ [] → is_ending given.now ≡ false → IsPlace self.old.place → self.old.events + 1 < 2 ^ 64 → RefusesRecord self.old given.now }
+        ensures here { result ≡ false → owed_of self.old.part ≢ [] → is_ending given.now ≡ false → IsPlace self.old.place → self.old.events + 1 < 2 ^ 64 → MakesNot self.old given.now }
         ensures work { self.new.work ≡ self.old.work }
         ensures line { SameLine self.old self.new }
     {

@@ -2,13 +2,16 @@ use Rattle.std.proofs.Common.{rules, ◌≡◌, ◌+◌, Bool, not, ◌||◌, []
 use Rattle.flight.specs.Places.{moved_by}
 use Rattle.part_making.specs.Judging.{Goes, Refuses}
 use Rattle.audit_course.proofs.Parting.{record_taken, was_no, was_yes}
-use Rattle.audit_course.proofs.Refused.{never_follows}
+use Rattle.audit_course.proofs.Refused.{makes_not, never_follows}
 use Rattle.audit_course.proofs.judge.CourseJudge.take.Goals as goal
 
-pub returns-then-not-take-clause-no : goal.returns-then-not-take-clause-no
-returns-then-not-take-clause-no c = λ no owes inside place few first sent replies records s.
+pub returns-then-not-take-clause-here : goal.returns-then-not-take-clause-here
+returns-then-not-take-clause-here c = λ no owes inside place few.
     let refuses : Refuses c.args.self.now.part c.args.given.now = search rules in
-    never_follows c.args.self.now c.args.given.now first sent replies records s refuses inside
+    makes_not c.args.self.now c.args.given.now refuses
+
+pub returns-then-not-take-clause-no : goal.returns-then-not-take-clause-no
+returns-then-not-take-clause-no c = λ no owes inside place few. never_follows c.args.self.now c.args.given.now (returns-then-not-take-clause-here c no owes inside place few) inside
 
 pub returns-clause-yes : goal.returns-clause-yes
 returns-clause-yes c = λ yes first sent replies records s.
