@@ -36,11 +36,10 @@ use Rattle.run_texts.specs.SoFar.{Reaches}
 use Rattle.run_texts.specs.Told.{told_at_reset}
 use Rattle.run_texts.proofs.Making.{begins, finishes}
 use Rattle.run_texts.proofs.Reaching.{reaches_cut, reaches_reset}
-use Rattle.audit_course.specs.declared.Progress.{Progress}
 use Rattle.audit_course.specs.declared.judge.CourseJudge.{CourseJudge}
 use Rattle.audit_course.specs.declared.ticks.Ticks.TheVariants as standing
 use Rattle.audit_course.specs.Progressing.{has_ticks, has_halt, ends_none, is_code, ticks_to, fresh}
-use Rattle.audit_course.specs.SoFar.{GoesTo, HasJudged, IsBare, IsOver, AddsReset, OfLine, KnowsTicks, AreSo, MayCut, MayReset, MayEnd, left_to_tell}
+use Rattle.audit_course.specs.SoFar.{GoesTo, HasJudged, IsBare, IsOver, AddsReset, OfLine, KnowsTicks, AreSo, MayCut, MayReset, MayEnd, left_to_tell, opened_at}
 use Rattle.audit_course.proofs.Going.{by_a_cut, by_a_reset, at_end}
 use Rattle.audit_course.proofs.Forced.{forced_cut, forced_reset, reset_begins}
 use Rattle.audit_course.proofs.Counting.{cuts_at_cut, cuts_at_reset, lines_sent, texts_on}
@@ -406,16 +405,8 @@ cut_made j k w state part first sent replies records s may state_is work part_is
     (part_cut j k w state first sent replies records s may state_is (ap (λ (i : Interpreting). i.left) work) (ap (λ (i : Interpreting). i.number) work)
     (λ e. ap (λ (i : Interpreting). i.state) work ∙ ap (λ (x : State). record x { parser = rebased x.parser j.place x.settings.limits.per_mm }) (sym (s.same_state e)) ∙ sym state_is))
 
-pub reset_made : (j : CourseJudge) (k dropped : ℕ) (alarm locked : Bool) (w : Interpreting) (state : State) (part : Known) (line : Progress)
-    → MayReset j k alarm → locked ≡ (alarm || j.locked) → state ≡ reset_state j.place j.state
-    → w ≡ record { state = state; number = j.work.number + dropped; left = telling (greeting alarm locked) } → part ≡ nothing_known → line ≡ fresh false
-    → AddsReset j (record j { work = w; state = state; part = part; locked = locked; has_line = false; unanswered = false; lost = false; answered = standing.Whole; code = standing.Whole; settled = standing.Whole; moved = false; jog_moved = false; jogged = false; line = line }) k dropped
-reset_made j k dropped alarm locked w state part line may locked_is state_is opened part_is new lines count first sent replies records s =
+pub reset_made : (j : CourseJudge) (k dropped : ℕ) (alarm : Bool) → MayReset j k alarm → AddsReset j (opened_at j.place dropped alarm j) k dropped
+reset_made j k dropped alarm may lines count first sent replies records s =
     let number : j.work.number + dropped ≡ k + dropped + 1 = (let n = may.number in omega (arith, n)) in
-    let here : w ≡ record { state = state; number = k + dropped + 1; left = telling (greeting alarm locked) } =
-    opened ∙ ap (λ (n : ℕ). record { state = state; number = n; left = telling (greeting alarm locked) }) number in
-    subst (λ (x : Known). HasJudged (record j { work = w; state = state; part = x; locked = locked; has_line = false; unanswered = false; lost = false; answered = standing.Whole; code = standing.Whole; settled = standing.Whole; moved = false; jog_moved = false; jogged = false; line = line })
-    first (sent ++ (map a_text lines ++ a_stop ∷ [])) replies (records ++ kinds.Mark (ResetMark k) ∷ [])) (sym part_is)
-    (subst (λ (l : Progress). HasJudged (record j { work = w; state = state; part = nothing_known; locked = locked; has_line = false; unanswered = false; lost = false; answered = standing.Whole; code = standing.Whole; settled = standing.Whole; moved = false; jog_moved = false; jogged = false; line = l })
-    first (sent ++ (map a_text lines ++ a_stop ∷ [])) replies (records ++ kinds.Mark (ResetMark k) ∷ [])) (sym new)
-    (part_reset j k dropped alarm locked lines w state first sent replies records s may count locked_is state_is here))
+    part_reset j k dropped alarm (alarm || j.locked) lines (opened_at j.place dropped alarm j).work (reset_state j.place j.state) first sent replies records s may count refl refl
+    (ap (λ (n : ℕ). record { state = reset_state j.place j.state; number = n; left = telling (greeting alarm (alarm || j.locked)) }) number)

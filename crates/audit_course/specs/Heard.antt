@@ -1,5 +1,5 @@
 -- A course behind the first record that breaks a rule: records count no more, and what is told is heard.
-use Rattle.std.specs.Prelude.{◌≡◌, ◌++◌, ℕ, ◌+◌, Bool, true, false, List, [], ◌∷◌, length, map}
+use Rattle.std.specs.Prelude.{◌≡◌, ◌++◌, ℕ, ◌+◌, Bool, true, false, not, ◌&&◌, ◌||◌, List, [], ◌∷◌, length, map}
 use Rattle.status_report.specs.declared.Reply.{Reply}
 use Rattle.run_rules.specs.Work.{Outcome}
 use Rattle.run_texts.specs.Courses.{Passed, Reset, IsReset}
@@ -9,7 +9,7 @@ use Rattle.run_texts.specs.Sent.Sent.{a_text, a_stop}
 use Rattle.run_texts.specs.SoFar.{LeadsTo, RebasesNothing}
 use Rattle.run_texts.specs.Told.{told_in}
 use Rattle.audit_course.specs.Progressing.{has_halt}
-use Rattle.audit_course.specs.SoFar.{OfLine, left_to_tell, texts_among}
+use Rattle.audit_course.specs.SoFar.{OfLine, IsClosed, left_to_tell, texts_among}
 use Rattle.audit_course.specs.declared.judge.CourseJudge.{CourseJudge}
 
 -- Behind a point, at which this was told, the judge was told of these lines and resets, and of all these replies. A course that
@@ -48,6 +48,12 @@ HearsReply j k r = (p : Point) (before : List Reply) (sent : List Sent) (replies
 -- a reset of the job was told, behind some lines that it dropped; no record of it counts
 abbrev pub HearsReset : CourseJudge → CourseJudge → ℕ → Type 0
 HearsReset j k dropped = (lines : List (List ℕ)) → dropped ≡ length lines → HearsSent j k (map a_text lines ++ a_stop ∷ [])
+
+-- a reset that no record tells may be told, with or without its alarm
+pub record MayTellReset (j : CourseJudge) (alarm : Bool) : Type 0 where
+  pub ends : IsClosed j
+  pub calm : (not j.unanswered && j.line.halts) ≡ false
+  pub cause : alarm ≡ true → (j.moved || j.jog_moved) ≡ true
 
 -- ---- what may not come
 

@@ -16,11 +16,12 @@ use Rattle.run_rules.specs.declared.State.{State}
 use Rattle.run_rules.specs.declared.machine.Machine.{Machine}
 use Rattle.run_rules.specs.Finding.{Found}
 use Rattle.run_rules.specs.Reports.{raises_alarm, settles}
-use Rattle.run_rules.specs.Work.{Task, Outcome, tells, asks, has_moves, accepted_code, accepted_jog}
+use Rattle.run_rules.specs.Work.{Task, Outcome, tells, telling, asks, has_moves, accepted_code, accepted_jog}
 use Rattle.line_interpreter.specs.Desks.{kind_told}
+use Rattle.line_interpreter.specs.Lefts.{greeting}
 use Rattle.legal_heads.specs.Speeds.{MayStop}
-use Rattle.part_making.specs.Judging.{Known, Traced, making, owed_of, coming_of, head_of}
-use Rattle.run_texts.specs.Courses.{Passed, Follows, cuts_in}
+use Rattle.part_making.specs.Judging.{Known, Traced, nothing_known, making, owed_of, coming_of, head_of}
+use Rattle.run_texts.specs.Courses.{Passed, Follows, cuts_in, reset_state}
 use Rattle.run_texts.specs.Left.{behind_lines}
 use Rattle.run_texts.specs.Making.{Making, IsMade}
 use Rattle.run_texts.specs.Parts.{parts_of}
@@ -36,7 +37,7 @@ use Rattle.audit_course.specs.declared.Progress.{Progress}
 use Rattle.audit_course.specs.declared.ticks.Ticks.{Ticks}
 use Rattle.audit_course.specs.declared.ticks.Ticks.TheVariants as standing
 use Rattle.audit_course.specs.declared.judge.CourseJudge.{CourseJudge}
-use Rattle.audit_course.specs.Progressing.{has_ticks, has_halt, ends_none, is_code, is_whole, ticks_to}
+use Rattle.audit_course.specs.Progressing.{has_ticks, has_halt, ends_none, is_code, is_whole, ticks_to, fresh}
 
 -- What is left of texts that fit goes on to this point, from another one on: `GoesOn` of `run_texts`, with the point told.
 pub record GoesTo (p : Point) (since begun : List Outcome) (place : Steps3) (cuts : ℕ) (sent : List Sent) (replies : List Reply) (records : List Record) (last : Point) : Type 0 where
@@ -357,6 +358,25 @@ pub record MayReset (j : CourseJudge) (k : ℕ) (alarm : Bool) : Type 0 where
   pub number : k + 1 ≡ j.work.number
   pub settled : is_whole j.settled ≡ true
   pub cause : alarm ≡ true → (j.moved || j.jog_moved) ≡ true
+
+-- Behind a reset at a place, which drops so many lines, an epoch begins there, and nothing is known of its part.
+abbrev pub opened_at : Steps3 → ℕ → Bool → CourseJudge → CourseJudge
+opened_at at dropped alarm j = record j {
+  work = record { state = reset_state at j.state; number = j.work.number + dropped; left = telling (greeting alarm (alarm || j.locked)) };
+  state = reset_state at j.state;
+  part = nothing_known;
+  locked = alarm || j.locked;
+  has_line = false;
+  unanswered = false;
+  lost = false;
+  answered = standing.Whole;
+  code = standing.Whole;
+  settled = standing.Whole;
+  moved = false;
+  jog_moved = false;
+  jogged = false;
+  line = fresh false;
+}
 
 -- the end may come
 pub record MayEnd (j : CourseJudge) : Type 0 where

@@ -9,7 +9,8 @@ ghost use Rattle.part_making.specs.Judging.{coming_of, head_of};
 ghost use Rattle.line_interpreter.specs.Lefts.{greeting};
 ghost use Rattle.audit_course.specs.Progressing.{is_whole};
 ghost use Rattle.audit_course.specs.Here.{CutsNot, ResetsNot};
-ghost use Rattle.audit_course.specs.SoFar.{left_to_tell, BeginsPart, AddsRecord, AddsReset, EndsSoFar, RefusesEnd, RefusesRecord, RefusesReset, IsClosed, IsIdle, MayCut, MayReset, MayEnd};
+ghost use Rattle.audit_course.specs.Heard.{MayTellReset};
+ghost use Rattle.audit_course.specs.SoFar.{left_to_tell, opened_at, BeginsPart, AddsRecord, AddsReset, EndsSoFar, RefusesEnd, RefusesRecord, RefusesReset, IsClosed, IsIdle, MayCut, MayReset, MayEnd};
 
 use crate::{CourseJudge, Progress, Ticks};
 use part_making::PartJudge;
@@ -131,14 +132,21 @@ impl CourseJudge {
         true
     }
 
+    /// Whether so many lines can be counted besides.
+    fn can_count(&self, dropped: u32) -> bool
+        ensures few { IsTrue result → self.now.work.number + dropped < 2 ^ 32 }
+        ensures no { result ≡ false → self.now.work.number + dropped < 2 ^ 32 → ⊥ }
+    {
+        u64::from(self.work.number()) + u64::from(dropped) <= u64::from(u32::MAX)
+    }
+
     /// Whether the machine is in its range, and so many lines can be counted besides.
     fn can_drop(&self, dropped: u32) -> bool
         ensures place { IsTrue result → IsPlace self.now.place }
         ensures few { IsTrue result → self.now.work.number + dropped < 2 ^ 32 }
         ensures no { result ≡ false → IsPlace self.now.place → self.now.work.number + dropped < 2 ^ 32 → ⊥ }
     {
-        u64::from(self.work.number()) + u64::from(dropped) <= u64::from(u32::MAX)
-            && is_place(&self.place)
+        self.can_count(dropped) && is_place(&self.place)
     }
 
     /// Whether a reset may have its alarm, if it has one: something has moved.
@@ -164,22 +172,21 @@ impl CourseJudge {
             && self.has_moved_for(alarm)
     }
 
-    /// A reset ends the part, where the machine is, and drops so many lines.
-    fn make_reset(&mut self, k: u32, dropped: u32, alarm: bool)
-        requires may { MayReset self.old k alarm }
-        requires place { IsPlace self.old.place }
+    /// A reset opens an epoch at a place, and drops so many lines.
+    fn open_epoch(&mut self, at: Steps3, dropped: u32, alarm: bool)
+        requires place { IsPlace at }
         requires few { self.old.work.number + dropped < 2 ^ 32 }
-        ensures adds { AddsReset self.old self.new k dropped }
+        ensures opens { self.new ≡ opened_at at dropped alarm self.old }
         ensures greets { left_to_tell self.new ≡ greeting alarm (alarm || self.old.locked) }
         ensures short { length self.new.work.left ≤ 3 }
         ensures answered { self.new.unanswered ≡ false }
         ensures calm { self.new.line.halts ≡ false }
-        ensures begins { BeginsPart self.new }
+        ensures begins { self.old.in_hand ≡ false → BeginsPart self.new }
     {
         let locked = locks(alarm, self.locked);
-        let state = self.state.anew(self.place);
+        let state = self.state.anew(at);
         self.work
-            .open_behind(self.state.state(), self.place, dropped, alarm, locked);
+            .open_behind(self.state.state(), at, dropped, alarm, locked);
         self.state = state;
         self.part = PartJudge::new();
         self.locked = locked;
@@ -216,28 +223,39 @@ impl CourseJudge {
         if !self.may_reset(k, dropped, alarm) {
             return false;
         }
-        self.make_reset(k, dropped, alarm);
+        let place = self.place;
+        self.open_epoch(place, dropped, alarm);
         true
     }
 
-    /// A reset comes of the job that is not recorded, and drops so many lines: whether it may. The machine stays where the
-    /// lines have led. No record is told behind it any more.
-    pub fn reset_unrecorded(&mut self, dropped: u32, alarm: bool) -> bool {
-        let at = self.state.state().parser.pos_steps;
-        if !self.work.is_done() || self.work.number() > u32::MAX - dropped || !is_place(&at) {
+    /// Whether a reset that is not recorded may come, with or without its alarm, and drop so many lines.
+    fn may_tell_reset(&self, dropped: u32, alarm: bool) -> bool
+        requires { IsClosed self.now }
+        ensures yes { IsTrue result → MayTellReset self.now alarm }
+        ensures few { IsTrue result → self.now.work.number + dropped < 2 ^ 32 }
+        ensures no { result ≡ false → self.now.work.number + dropped < 2 ^ 32 → MayTellReset self.now alarm → ⊥ }
+    {
+        self.can_count(dropped) && !self.has_alarm() && self.has_moved_for(alarm)
+    }
+
+    /// A reset comes of the job that is not recorded, and drops so many lines that are not begun: whether it may. Then what is
+    /// told at it is to be told, with or without the alarm, and the machine stays where the lines have led. Call it behind a
+    /// record that breaks a rule: no record counts behind it any more.
+    pub fn reset_unrecorded(&mut self, dropped: u32, alarm: bool) -> bool
+        ensures greets { IsTrue result → left_to_tell self.new ≡ greeting alarm (alarm || self.old.locked) }
+        ensures short { IsTrue result → length self.new.work.left ≤ 3 }
+        ensures answered { IsTrue result → self.new.unanswered ≡ false }
+        ensures calm { IsTrue result → self.new.line.halts ≡ false }
+    {
+        if !self.work.is_done() {
             return false;
         }
         self.close();
-        let locked = locks(alarm, self.locked);
-        let state = self.state.anew(at);
-        self.work
-            .open_behind(self.state.state(), at, dropped, alarm, locked);
-        self.state = state;
-        self.part = PartJudge::new();
-        self.locked = locked;
-        self.has_line = false;
-        self.unanswered = false;
-        self.line = Progress::fresh(false);
+        if !self.may_tell_reset(dropped, alarm) {
+            return false;
+        }
+        let at = self.state.state().parser.pos_steps;
+        self.open_epoch(at, dropped, alarm);
         true
     }
 
