@@ -37,6 +37,7 @@ use Rattle.audit_course.specs.declared.judge.CourseJudge.{CourseJudge}
 use Rattle.audit_course.specs.declared.ticks.Ticks.{Ticks}
 use Rattle.audit_course.specs.Progressing.{has_ticks, has_halt, ends_none, is_code, ticks_to, IsNew}
 use Rattle.audit_course.specs.SoFar.{GoesTo, HasJudged, KnowsTicks, AreSo, OfLine, IsBare, OwesBehind, EndsLate, MayBegin, Knows, FindsRight, FindsStill, TellsFound, HasWorkOf, left_to_tell, texts_among}
+use Rattle.audit_course.specs.Heard.{KnowsPoint}
 use Rattle.audit_course.proofs.Counting.{texts_on}
 use Rattle.audit_course.proofs.Going.{by_line, by_broken}
 use Rattle.audit_course.proofs.Parting.{none_of}
@@ -58,7 +59,7 @@ no_alarm j p hand o b =
     let none : (j.line.halts || has_halt j.work.left) ≡ false = ap (λ (t : Bool). t || has_halt j.work.left) b.calm ∙ ap has_halt b.done in
     o.alarmed ∙ ap (λ (u : Bool). not u && o.limit) b.answered ∙ (sym o.halts ∙ none)
 
-none_to_tell : (j : CourseJudge) → MayBegin j → left_to_tell j ≡ []
+pub none_to_tell : (j : CourseJudge) → MayBegin j → left_to_tell j ≡ []
 none_to_tell j b = ap (λ (ts : List Task). cond j.unanswered [] (tells ts)) b.done ∙ by j.unanswered where
   by : (u : Bool) → cond u [] (tells []) ≡ []
   by true = refl
@@ -107,7 +108,7 @@ knows_same j k before since hand made split part lost answered_is code_is settle
 
 -- ---- a line that is answered
 
-line_of : (j k : CourseJudge) (p : Point) (hand : List Outcome) (kept : List ℕ) (o : Outcome) (w : Interpreting) → OfLine j p hand → MayBegin j → IsJudged j p true kept o w k.line → k.work ≡ w → kind_told k.line.accepted ≡ o.kind → k.line.settles ≡ o.settles
+pub line_of : (j k : CourseJudge) (p : Point) (hand : List Outcome) (kept : List ℕ) (o : Outcome) (w : Interpreting) → OfLine j p hand → MayBegin j → IsJudged j p true kept o w k.line → k.work ≡ w → kind_told k.line.accepted ≡ o.kind → k.line.settles ≡ o.settles
     → k.moved ≡ j.moved → k.jog_moved ≡ j.jog_moved → k.unanswered ≡ false → k.in_hand ≡ true → k.jogged ≡ jogged_behind o.kind j.jogged → OfLine k (behind_line p kept o) (o ∷ [])
 line_of j k p hand kept o w was b judged work kind settles moved jog_moved answered in_hand jogged = record {
   work = o.work;
@@ -242,7 +243,7 @@ bare_made : (j : CourseJudge) (first : State) (sent : List Sent) (replies : List
 bare_made j first sent replies records s answered =
     subst (λ (os : List Outcome). IsMade os s.made (making j.part s.ticks s.moves)) (ap (λ (os : List Outcome). s.since ++ os) (s.none_begun answered) ∙ append-nil s.since) s.is_made
 
-broken_of : (j k : CourseJudge) (p : Point) (hand : List Outcome) (kept : List ℕ) (o : Outcome) (w : Interpreting) → OfLine j p hand → MayBegin j → IsJudged j p false kept o w k.line → k.work ≡ w → kind_told k.line.accepted ≡ kind_told Code → k.line.settles ≡ false
+pub broken_of : (j k : CourseJudge) (p : Point) (hand : List Outcome) (kept : List ℕ) (o : Outcome) (w : Interpreting) → OfLine j p hand → MayBegin j → IsJudged j p false kept o w k.line → k.work ≡ w → kind_told k.line.accepted ≡ kind_told Code → k.line.settles ≡ false
     → k.moved ≡ j.moved → k.jog_moved ≡ j.jog_moved → k.unanswered ≡ true → k.in_hand ≡ true → k.jogged ≡ j.jogged → OfLine k (behind_broken p o) []
 broken_of j k p hand kept o w was b judged work kind settles moved jog_moved broken in_hand jogged = record {
   work = o.work;
@@ -355,20 +356,24 @@ says_at p kept o is = by_either p.locked _ _ _ (λ e. locked_says p.before kept 
 pub says_still : (p : Point) (kept : List ℕ) (o : Outcome) → BecomesAt false p kept o → SaysOf o
 says_still p kept o is = by_either p.locked _ _ _ (λ e. locked_says p.before kept o) (λ e still. becomes_says p.before kept o (still_may p.before kept o still)) is
 
-pub known_at : (j : CourseJudge) (first : State) (sent : List Sent) (replies : List Reply) (records : List Record) (s : HasJudged j first sent replies records) → MayBegin j → Knows j s.point
-known_at j first sent replies records s b =
-    let m = moved_closed j s.point s.hand s.line b.closed in
-    record { locked = s.locked; moved = m.0; jog_moved = m.1; jogged = s.line.jogged }
+-- what is known of where the course stands, whatever is known of its records
+pub judged_point : (j : CourseJudge) (first : State) (sent : List Sent) (replies : List Reply) (records : List Record) (s : HasJudged j first sent replies records) → KnowsPoint j s.point s.hand
+judged_point j first sent replies records s = record { number = s.number; state = s.state; same_state = s.same_state; locked = s.locked; unanswered = s.unanswered; line = s.line; at_hand = s.at_hand }
+
+pub known_at : (j : CourseJudge) (p : Point) (hand : List Outcome) → KnowsPoint j p hand → MayBegin j → Knows j p
+known_at j p hand is b =
+    let m = moved_closed j p hand is.line b.closed in
+    record { locked = is.locked; moved = m.0; jog_moved = m.1; jogged = is.line.jogged }
 
 -- what stands before the line is what the interpreter has, with what the lines before have moved
 pub since_at : Point → Since
 since_at p = record { moved = p.before.moved; jog_moved = p.before.jog_moved; jogged = p.before.jogged; alarmed = p.before.alarmed }
 
-pub stands_there : (j : CourseJudge) (first : State) (sent : List Sent) (replies : List Reply) (records : List Record) (s : HasJudged j first sent replies records) → MayBegin j → stands_before j.work (since_at s.point) ≡ s.point.before
+pub stands_there : (j : CourseJudge) (p : Point) (hand : List Outcome) → KnowsPoint j p hand → MayBegin j → stands_before j.work (since_at p) ≡ p.before
 unfolding since_at
-stands_there j first sent replies records s b =
-    ap (λ (n : ℕ). before_line n j.work.state (since_at s.point)) (sym s.number)
-    ∙ ap (λ (x : State). before_line s.point.before.number x (since_at s.point)) (sym (s.state ∙ s.same_state b.answered))
+stands_there j p hand is b =
+    ap (λ (n : ℕ). before_line n j.work.state (since_at p)) (sym is.number)
+    ∙ ap (λ (x : State). before_line p.before.number x (since_at p)) (sym (is.state ∙ is.same_state b.answered))
 
 pub taken_true : (t : Bool) (A B : Type 0) → t ≡ true → A → either t A B
 taken_true true A B e a = a
@@ -380,6 +385,23 @@ taken_false false A B e b = b
 
 -- ---- as the code has it
 
+-- a line becomes what it is judged to become
+abbrev pub IsFound : CourseJudge → Machine → List ℕ → Interpreting → Since → Outcome → Type 0
+IsFound j machine kept w since o = Found machine (stands_before j.work since) kept o × (w ≡ record { state = o.next; number = j.work.number + 1; left = o.work })
+
+found_at : (j : CourseJudge) (p : Point) (hand : List Outcome) (machine : Machine) (w : Interpreting) (kept : List ℕ) (o : Outcome) → KnowsPoint j p hand → MayBegin j → IsFound j machine kept w (since_at p) o → Found machine p.before kept o
+found_at j p hand machine w kept o is b f = subst (λ (x : Before). Found machine x kept o) (stands_there j p hand is b) f.0
+
+pub judged_line : (j : CourseJudge) (p : Point) (hand : List Outcome) (machine : Machine) (w : Interpreting) (l : Progress) (kept : List ℕ) (o : Outcome) → KnowsPoint j p hand → MayBegin j → IsFound j machine kept w (since_at p) o → FindsRight j machine kept → IsNew l → IsJudged j p true kept o w l
+judged_line j p hand machine w l kept o is b f finds new =
+    let becomes = finds p (known_at j p hand is b) o (found_at j p hand machine w kept o is b f) in
+    record { becomes = becomes; says = says_at p kept o becomes; work = f.1; is_new = new }
+
+pub judged_still : (j : CourseJudge) (p : Point) (hand : List Outcome) (machine : Machine) (w : Interpreting) (l : Progress) (kept : List ℕ) (o : Outcome) → KnowsPoint j p hand → MayBegin j → IsFound j machine kept w (since_at p) o → FindsStill j machine kept → IsNew l → IsJudged j p false kept o w l
+judged_still j p hand machine w l kept o is b f finds new =
+    let becomes = finds p (known_at j p hand is b) o (found_at j p hand machine w kept o is b f) in
+    record { becomes = becomes; says = says_still p kept o becomes; work = f.1; is_new = new }
+
 pub line_answered : (j : CourseJudge) (machine : Machine) (w : Interpreting) (state : State) (locked jogged : Bool) (l : Progress) (accepted : Accepted) (settles : Bool) (kept : List ℕ) (first : State) (sent : List Sent) (replies : List Reply) (records : List Record)
     → HasJudged j first sent replies records → MayBegin j
     → ((since : Since) → (o : Outcome) × Found machine (stands_before j.work since) kept o × (w ≡ record { state = o.next; number = j.work.number + 1; left = o.work }) × (kind_told accepted ≡ o.kind) × (settles ≡ o.settles))
@@ -387,12 +409,10 @@ pub line_answered : (j : CourseJudge) (machine : Machine) (w : Interpreting) (st
     → HasJudged (record j { work = w; state = state; locked = locked; has_line = true; in_hand = true; jogged = jogged; line = l }) first (sent ++ a_text kept ∷ []) replies records
 line_answered j machine w state locked jogged l accepted settles kept first sent replies records s b judged finds state_is new accepted_is settles_is jogged_is locked_is =
     let o = judged (since_at s.point) in
-    let found : Found machine s.point.before kept o.0 = subst (λ (x : Before). Found machine x kept o.0) (stands_there j first sent replies records s b) o.1 in
-    let becomes = finds s.point (known_at j first sent replies records s b) o.0 found in
+    let here = judged_line j s.point s.hand machine w l kept o.0 (judged_point j first sent replies records s) b (o.1, o.2) finds new in
     let kind : kind_told l.accepted ≡ o.0.kind = ap kind_told accepted_is ∙ o.3 in
     let next : state ≡ o.0.next = state_is ∙ ap (λ (i : Interpreting). i.state) o.2 in
-    line_begun j (record j { work = w; state = state; locked = locked; has_line = true; in_hand = true; jogged = jogged; line = l }) kept o.0 w first sent replies records s b
-    (record { becomes = becomes; says = says_at s.point kept o.0 becomes; work = o.2; is_new = new }) kind (settles_is ∙ o.4)
+    line_begun j (record j { work = w; state = state; locked = locked; has_line = true; in_hand = true; jogged = jogged; line = l }) kept o.0 w first sent replies records s b here kind (settles_is ∙ o.4)
     (jogged_is ∙ ap (λ k. jogged_behind k j.jogged) o.3) locked_is
     (ap (λ (x : State). record j { work = w; state = x; locked = locked; has_line = true; in_hand = true; jogged = jogged; line = l }) next)
 
@@ -403,10 +423,8 @@ pub line_unanswered : (j : CourseJudge) (machine : Machine) (w : Interpreting) (
     → HasJudged (record j { work = w; has_line = true; unanswered = true; touched = false; in_hand = true; line = l }) first (sent ++ a_text kept ∷ []) replies records
 line_unanswered j machine w l accepted kept first sent replies records s b judged finds new code settles =
     let o = judged (since_at s.point) in
-    let found : Found machine s.point.before kept o.0 = subst (λ (x : Before). Found machine x kept o.0) (stands_there j first sent replies records s b) o.1 in
-    let becomes = finds s.point (known_at j first sent replies records s b) o.0 found in
-    line_broken j (record j { work = w; has_line = true; unanswered = true; touched = false; in_hand = true; line = l }) kept o.0 w first sent replies records s b
-    (record { becomes = becomes; says = says_still s.point kept o.0 becomes; work = o.2; is_new = new }) (ap kind_told code) settles refl
+    let here = judged_still j s.point s.hand machine w l kept o.0 (judged_point j first sent replies records s) b (o.1, o.2) finds new in
+    line_broken j (record j { work = w; has_line = true; unanswered = true; touched = false; in_hand = true; line = l }) kept o.0 w first sent replies records s b here (ap kind_told code) settles refl
 
 pub line_tells : (j k : CourseJudge) (machine : Machine) (w : Interpreting) (accepted : Accepted) (settles : Bool) (kept : List ℕ) → MayBegin j
     → ((since : Since) → (o : Outcome) × Found machine (stands_before j.work since) kept o × (w ≡ record { state = o.next; number = j.work.number + 1; left = o.work }) × (kind_told accepted ≡ o.kind) × (settles ≡ o.settles))
@@ -414,7 +432,7 @@ pub line_tells : (j k : CourseJudge) (machine : Machine) (w : Interpreting) (acc
 line_tells j k machine w accepted settles kept b judged work unanswered first sent replies records s =
     let o = judged (since_at s.point) in (
       o.0,
-      subst (λ (x : Before). Found machine x kept o.0) (stands_there j first sent replies records s b) o.1,
+      found_at j s.point s.hand machine w kept o.0 (judged_point j first sent replies records s) b (o.1, o.2),
       ap (λ (u : Bool). cond u [] (tells k.work.left)) (unanswered ∙ b.answered) ∙ ap (λ (i : Interpreting). tells i.left) (work ∙ o.2),
     )
 
@@ -422,23 +440,17 @@ pub line_work : (j k : CourseJudge) (machine : Machine) (w : Interpreting) (acce
     → ((since : Since) → (o : Outcome) × Found machine (stands_before j.work since) kept o × (w ≡ record { state = o.next; number = j.work.number + 1; left = o.work }) × (kind_told accepted ≡ o.kind) × (settles ≡ o.settles))
     → FindsRight j machine kept → k.work ≡ w → HasWorkOf j k true kept
 line_work j k machine w accepted settles kept b judged finds work first sent replies records s =
-    let o = judged (since_at s.point) in (
-      s.point,
-      o.0,
-      finds s.point (known_at j first sent replies records s b) o.0 (subst (λ (x : Before). Found machine x kept o.0) (stands_there j first sent replies records s b) o.1),
-      ap (λ (i : Interpreting). i.left) (work ∙ o.2),
-    )
+    let o = judged (since_at s.point) in
+    let at = judged_point j first sent replies records s in
+    (s.point, o.0, finds s.point (known_at j s.point s.hand at b) o.0 (found_at j s.point s.hand machine w kept o.0 at b (o.1, o.2)), ap (λ (i : Interpreting). i.left) (work ∙ o.2))
 
 pub broken_work : (j k : CourseJudge) (machine : Machine) (w : Interpreting) (accepted : Accepted) (kept : List ℕ) → MayBegin j
     → ((since : Since) → (o : Outcome) × Found machine (stands_before j.work since) kept o × (w ≡ record { state = o.next; number = j.work.number + 1; left = o.work }) × (kind_told accepted ≡ o.kind))
     → FindsStill j machine kept → k.work ≡ w → HasWorkOf j k false kept
 broken_work j k machine w accepted kept b judged finds work first sent replies records s =
-    let o = judged (since_at s.point) in (
-      s.point,
-      o.0,
-      finds s.point (known_at j first sent replies records s b) o.0 (subst (λ (x : Before). Found machine x kept o.0) (stands_there j first sent replies records s b) o.1),
-      ap (λ (i : Interpreting). i.left) (work ∙ o.2),
-    )
+    let o = judged (since_at s.point) in
+    let at = judged_point j first sent replies records s in
+    (s.point, o.0, finds s.point (known_at j s.point s.hand at b) o.0 (found_at j s.point s.hand machine w kept o.0 at b (o.1, o.2)), ap (λ (i : Interpreting). i.left) (work ∙ o.2))
 
 -- ---- how the machine is found
 

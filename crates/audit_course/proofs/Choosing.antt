@@ -26,7 +26,7 @@ use Rattle.audit_course.specs.declared.judge.CourseJudge.{CourseJudge}
 use Rattle.audit_course.specs.SoFar.{GoesTo, HasJudged, EndsLate, MayBegin, Knows, IsErrorOf, FindsAlone, TellsFound, TellsAlone, left_to_tell}
 use Rattle.audit_course.proofs.Finding.{on_either, chosen, busy_becomes, locked_becomes}
 use Rattle.audit_course.proofs.Forced.{comes_before, behind_made, only_line}
-use Rattle.audit_course.proofs.Beginning.{known_at, no_alarm, taken_true, taken_false}
+use Rattle.audit_course.proofs.Beginning.{judged_point, known_at, no_alarm, taken_true, taken_false}
 
 other : (t : Bool) (A B : Type 0) → t ≡ false → either t A B → B
 other true A B e x = absurd cc
@@ -163,5 +163,5 @@ tells_alone old mid new error machine kept may stays work unanswered cuts alone 
     let line = only_line here.point last here.since here.begun here.from n kept more r told (here.made ++ rest) (no_alarm mid here.point here.hand here.line may)
     (behind_made (here.point.before.number + 1) here.made rest here.is_made.inside (subst (λ (m : ℕ). EndsLate (m + 1) rest) (sym here.number) later)) plain on in
     let o = tells_found first sent replies records here in
-    let one : line.0 ≡ o.0 = alone here.point (known_at mid first sent replies records here may) o.0 line.0 o.1 line.1 r told line.2 (sym line.3) fits in
+    let one : line.0 ≡ o.0 = alone here.point (known_at mid here.point here.hand (judged_point mid first sent replies records here) may) o.0 line.0 o.1 line.1 r told line.2 (sym line.3) fits in
     (line.2, line.3 ∙ ap (λ (x : Outcome). tells x.work ++ line.2) one ∙ ap (λ (rs : List Reply). rs ++ line.2) (sym o.2))

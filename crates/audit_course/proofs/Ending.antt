@@ -36,10 +36,11 @@ use Rattle.run_texts.specs.SoFar.{Reaches}
 use Rattle.run_texts.specs.Told.{told_at_reset}
 use Rattle.run_texts.proofs.Making.{begins, finishes}
 use Rattle.run_texts.proofs.Reaching.{reaches_cut, reaches_reset}
+use Rattle.audit_course.specs.declared.Progress.{Progress}
 use Rattle.audit_course.specs.declared.judge.CourseJudge.{CourseJudge}
 use Rattle.audit_course.specs.declared.ticks.Ticks.TheVariants as standing
 use Rattle.audit_course.specs.Progressing.{has_ticks, has_halt, ends_none, is_code, ticks_to, fresh}
-use Rattle.audit_course.specs.SoFar.{GoesTo, HasJudged, IsBare, IsOver, AddsReset, OfLine, KnowsTicks, AreSo, MayCut, MayReset, MayEnd, left_to_tell, opened_at}
+use Rattle.audit_course.specs.SoFar.{GoesTo, HasJudged, IsBare, IsClosed, IsOver, AddsReset, OfLine, KnowsTicks, AreSo, MayCut, MayReset, MayEnd, left_to_tell, opened_at}
 use Rattle.audit_course.proofs.Going.{by_a_cut, by_a_reset, at_end}
 use Rattle.audit_course.proofs.Forced.{forced_cut, forced_reset, reset_begins}
 use Rattle.audit_course.proofs.Counting.{cuts_at_cut, cuts_at_reset, lines_sent, texts_on}
@@ -213,7 +214,7 @@ resets_so : (lines : List (List ℕ)) (more : List Sent) → has_reset (map a_te
 resets_so [] more = refl
 resets_so (l ∷ ls) more = resets_so ls more
 
-behind_so : (lines : List (List ℕ)) (more : List Sent) → behind_reset (map a_text lines ++ a_stop ∷ more) ≡ more
+pub behind_so : (lines : List (List ℕ)) (more : List Sent) → behind_reset (map a_text lines ++ a_stop ∷ more) ≡ more
 behind_so [] more = refl
 behind_so (l ∷ ls) more = behind_so ls more
 
@@ -232,6 +233,41 @@ moved_closed j p hand o closed =
       o.jog_moved ∙ moved_before j.line.settles (accepted_jog (kind_told j.line.accepted)) (has_moves o.work) j.jog_moved n.settles n.jog,
     )
 
+-- so something has moved or not
+pub any_moved : (j : CourseJudge) (p : Point) (hand : List Outcome) → OfLine j p hand → j.in_hand ≡ false → (p.before.moved || p.before.jog_moved) ≡ (j.moved || j.jog_moved)
+any_moved j p hand o closed = let m = moved_closed j p hand o closed in ap (λ (b : Bool). b || p.before.jog_moved) m.0 ∙ ap (λ (b : Bool). j.moved || b) m.1
+
+-- behind a reset no line is at hand, and what greets is to be told
+pub opened_line : (k : CourseJudge) (r : Reset) (p : Point) (rs : List Reply) → k.work.left ≡ telling rs → k.line ≡ fresh false → k.moved ≡ false → k.jog_moved ≡ false → k.jogged ≡ false → k.unanswered ≡ false → k.in_hand ≡ false → OfLine k (behind_the_reset r p) []
+opened_line k r p rs left new moved jog_moved jogged answered closed = record {
+  work = telling rs;
+  limit = false;
+  moves = ap (λ (l : Progress). l.moves || has_moves k.work.left) new ∙ ap has_moves left;
+  ticks = ap (λ (l : Progress). l.asks || has_ticks k.work.left) new ∙ ap has_ticks left;
+  halts = ap (λ (l : Progress). l.halts || has_halt k.work.left) new ∙ ap has_halt left ∙ telling_halts rs;
+  marks = subst (AllByRecursion (λ (t : Task). ends_none t ≡ true)) (sym left) (telling_marks rs);
+  moved = sym (moved_before k.line.settles (accepted_code (kind_told k.line.accepted)) (has_moves (telling rs)) k.moved (ap (λ (l : Progress). l.settles) new) (ap (λ (l : Progress). accepted_code (kind_told l.accepted)) new) ∙ moved);
+  jog_moved = sym (moved_before k.line.settles (accepted_jog (kind_told k.line.accepted)) (has_moves (telling rs)) k.jog_moved (ap (λ (l : Progress). l.settles) new) (ap (λ (l : Progress). accepted_jog (kind_told l.accepted)) new) ∙ jog_moved);
+  jogged = sym jogged;
+  alarmed = ap (λ (u : Bool). not u && false) (sym answered);
+  unheld = λ e. refl;
+  none = λ e. record { none = refl; settles = ap (λ (l : Progress). l.settles) new; code = ap (λ (l : Progress). accepted_code (kind_told l.accepted)) new; jog = ap (λ (l : Progress). accepted_jog (kind_told l.accepted)) new };
+  held = λ e. absurd (let f : false ≡ true = sym closed ∙ e in cc);
+  are = tt;
+}
+
+-- a reset comes behind some lines that it drops
+pub reset_may_come : (j : CourseJudge) (p : Point) (hand : List Outcome) (r : Reset) (lines : List (List ℕ)) (more : List Sent) → OfLine j p hand → p.locked ≡ j.locked → IsClosed j → (not j.unanswered && j.line.halts) ≡ false
+    → r.number + 1 ≡ p.before.number → r.dropped ≡ length lines → (r.alarm ≡ true → (j.moved || j.jog_moved) ≡ true) → r.locked ≡ (r.alarm || j.locked) → IsReset p (map a_text lines ++ a_stop ∷ more) r
+reset_may_come j p hand r lines more o locked ends calm number count cause locked_is = record {
+  free = calm_point j p hand o ends.done calm;
+  comes = resets_so lines more;
+  number = number;
+  dropped = count ∙ ap length (sym (waits_so lines more));
+  cause = λ e. any_moved j p hand o ends.closed ∙ cause e;
+  locked = locked_is ∙ ap (λ (b : Bool). r.alarm || b) (sym locked);
+}
+
 abbrev pub reset_here : CourseJudge → ℕ → ℕ → Bool → Bool → Reset
 reset_here j k dropped alarm locked = record { number = k; dropped = dropped; alarm = alarm; locked = locked; at = j.place }
 
@@ -249,22 +285,7 @@ part_reset j k dropped alarm locked lines w state first sent replies records s m
   has_line = refl;
   unanswered = refl;
   hand = [];
-  line = record {
-    work = telling (greeting alarm locked);
-    limit = false;
-    moves = ap has_moves left;
-    ticks = ap has_ticks left;
-    halts = ap has_halt left ∙ telling_halts (greeting alarm locked);
-    marks = subst (AllByRecursion (λ (t : Task). ends_none t ≡ true)) (sym left) (telling_marks (greeting alarm locked));
-    moved = refl;
-    jog_moved = refl;
-    jogged = refl;
-    alarmed = refl;
-    unheld = λ e. refl;
-    none = λ e. record { none = refl; settles = refl; code = refl; jog = refl };
-    held = λ e. absurd (let f : false ≡ true = sym may.ends.closed ∙ e in cc);
-    are = tt;
-  };
+  line = opened_line _ (reset_here j k dropped alarm locked) s.point (greeting alarm locked) left refl refl refl refl refl may.ends.closed;
   since = [];
   begun = [];
   none_begun = λ e. refl;
@@ -331,14 +352,7 @@ part_reset j k dropped alarm locked lines w state first sent replies records s m
   greets = ap tells left ∙ telling_tells (greeting alarm locked)
 
   is_reset : (more : List Sent) → IsReset s.point (map a_text lines ++ a_stop ∷ more) (reset_here j k dropped alarm locked)
-  is_reset more = record {
-    free = calm_point j s.point s.hand s.line may.ends.done may.calm;
-    comes = resets_so lines more;
-    number = may.number ∙ sym s.number;
-    dropped = count ∙ ap length (sym (waits_so lines more));
-    cause = λ e. let m = moved_closed j s.point s.hand s.line may.ends.closed in ap (λ (b : Bool). b || s.point.before.jog_moved) m.0 ∙ ap (λ (b : Bool). j.moved || b) m.1 ∙ may.cause e;
-    locked = locked_is ∙ ap (λ (b : Bool). alarm || b) (sym s.locked);
-  }
+  is_reset more = reset_may_come j s.point s.hand (reset_here j k dropped alarm locked) lines more s.line s.locked may.ends may.calm (may.number ∙ sym s.number) count may.cause locked_is
 
   recorded : IsRecorded s.from (part_of s.since s.begun (by_reset (reset_here j k dropped alarm locked))) s.made
   recorded = finishes s.from (part_of s.since s.begun (by_reset (reset_here j k dropped alarm locked))) s.made (record {

@@ -15,3 +15,4 @@ pub mod Refused
 pub mod Choosing
 pub mod Resetting
 pub mod Onward
+pub mod Heard

@@ -49,7 +49,7 @@ or_none true = refl
 or_none false = refl
 
 -- It does not change what the line says; a judge that differs in these fields alone.
-same_line : (j k : CourseJudge) (p : Point) (hand : List Outcome) → OfLine j p hand → k.work ≡ j.work → k.line ≡ j.line → k.moved ≡ j.moved → k.jog_moved ≡ j.jog_moved → k.jogged ≡ j.jogged → k.unanswered ≡ j.unanswered → k.in_hand ≡ j.in_hand → OfLine k p hand
+pub same_line : (j k : CourseJudge) (p : Point) (hand : List Outcome) → OfLine j p hand → k.work ≡ j.work → k.line ≡ j.line → k.moved ≡ j.moved → k.jog_moved ≡ j.jog_moved → k.jogged ≡ j.jogged → k.unanswered ≡ j.unanswered → k.in_hand ≡ j.in_hand → OfLine k p hand
 same_line j k p hand o work line moved jog_moved jogged unanswered in_hand = record {
   work = o.work;
   limit = o.limit;
@@ -178,6 +178,31 @@ record_taken j r part place events touched idle answered code settled first sent
 
 -- ---- the line at hand is over
 
+-- what it says is kept of it
+pub closed_line : (j : CourseJudge) (l : Progress) (moved jog_moved : Bool) (answered code settled : Ticks) (p : Point) (hand : List Outcome) → OfLine j p hand → j.work.left ≡ [] → l ≡ fresh j.line.halts
+    → moved ≡ moved_now (accepted_code (kind_told j.line.accepted)) j.line j.moved → jog_moved ≡ moved_now (accepted_jog (kind_told j.line.accepted)) j.line j.jog_moved
+    → OfLine (record j { line = l; in_hand = false; moved = moved; jog_moved = jog_moved; answered = answered; code = code; settled = settled }) p []
+closed_line j l moved jog_moved answered code settled p hand o done new is_moved is_jog = record {
+  work = [];
+  limit = o.limit;
+  moves = ap (λ (p : Progress). p.moves || has_moves j.work.left) new ∙ ap has_moves done;
+  ticks = ap (λ (p : Progress). p.asks || has_ticks j.work.left) new ∙ ap has_ticks done;
+  halts = ap (λ (p : Progress). p.halts || has_halt j.work.left) new ∙ o.halts;
+  marks = o.marks;
+  moved = o.moved ∙ ap (λ (b : Bool). not j.line.settles && (accepted_code (kind_told j.line.accepted) && b || j.moved)) moves_done ∙ sym is_moved
+      ∙ sym (ap (λ (p : Progress). not p.settles && (accepted_code (kind_told p.accepted) && has_moves [] || moved)) new);
+  jog_moved = o.jog_moved ∙ ap (λ (b : Bool). not j.line.settles && (accepted_jog (kind_told j.line.accepted) && b || j.jog_moved)) moves_done ∙ sym is_jog
+      ∙ sym (ap (λ (p : Progress). not p.settles && (accepted_jog (kind_told p.accepted) && has_moves [] || jog_moved)) new);
+  jogged = o.jogged;
+  alarmed = o.alarmed;
+  unheld = λ e. refl;
+  none = λ e. subst (λ (p : Progress). IsNoLine p []) (sym new) (record { none = refl; settles = refl; code = refl; jog = refl });
+  held = λ e. absurd cc;
+  are = tt;
+} where
+  moves_done : has_moves o.work ≡ j.line.moves
+  moves_done = sym o.moves ∙ ap (λ (ts : List Task). j.line.moves || has_moves ts) done ∙ or_none j.line.moves
+
 -- that goes on behind a line that is over, with what is known of the ticks of all lines
 pub line_closed : (j : CourseJudge) (l : Progress) (moved jog_moved : Bool) (answered code settled : Ticks) (first : State) (sent : List Sent) (replies : List Reply) (records : List Record) (s : HasJudged j first sent replies records)
     → j.work.left ≡ [] → l ≡ fresh j.line.halts
@@ -193,24 +218,7 @@ line_closed j l moved jog_moved answered code settled first sent replies records
   has_line = s.has_line;
   unanswered = s.unanswered;
   hand = [];
-  line = record {
-    work = [];
-    limit = s.line.limit;
-    moves = ap (λ (p : Progress). p.moves || has_moves j.work.left) new ∙ ap has_moves done;
-    ticks = ap (λ (p : Progress). p.asks || has_ticks j.work.left) new ∙ ap has_ticks done;
-    halts = ap (λ (p : Progress). p.halts || has_halt j.work.left) new ∙ s.line.halts;
-    marks = s.line.marks;
-    moved = s.line.moved ∙ ap (λ (b : Bool). not j.line.settles && (accepted_code (kind_told j.line.accepted) && b || j.moved)) moves_done ∙ sym is_moved
-        ∙ sym (ap (λ (p : Progress). not p.settles && (accepted_code (kind_told p.accepted) && has_moves [] || moved)) new);
-    jog_moved = s.line.jog_moved ∙ ap (λ (b : Bool). not j.line.settles && (accepted_jog (kind_told j.line.accepted) && b || j.jog_moved)) moves_done ∙ sym is_jog
-        ∙ sym (ap (λ (p : Progress). not p.settles && (accepted_jog (kind_told p.accepted) && has_moves [] || jog_moved)) new);
-    jogged = s.line.jogged;
-    alarmed = s.line.alarmed;
-    unheld = λ e. refl;
-    none = λ e. subst (λ (p : Progress). IsNoLine p []) (sym new) (record { none = refl; settles = refl; code = refl; jog = refl });
-    held = λ e. absurd cc;
-    are = tt;
-  };
+  line = closed_line j l moved jog_moved answered code settled s.point s.hand s.line done new is_moved is_jog;
   since = s.since;
   begun = s.begun;
   none_begun = s.none_begun;
@@ -236,9 +244,7 @@ line_closed j l moved jog_moved answered code settled first sent replies records
   reached = s.reached;
   back = s.back;
   forth = λ n more told rest last may. s.forth n more told rest last (record { late = may.late; resets = may.resets });
-} where
-  moves_done : has_moves s.line.work ≡ j.line.moves
-  moves_done = sym s.line.moves ∙ ap (λ (ts : List Task). j.line.moves || has_moves ts) done ∙ or_none j.line.moves
+}
 
 pub none_of : (xs ys : List Record) → xs ++ ys ≡ [] → (xs ≡ []) × (ys ≡ [])
 none_of [] ys e = (refl, e)

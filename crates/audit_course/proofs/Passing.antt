@@ -54,7 +54,7 @@ ticks_first : (t : Task) (ts : List Task) → has_ticks (t ∷ ts) ≡ (has_some
 ticks_first t ts = ap has_some (flat_map-append ticks_of_one (asked_by_task t) (asks ts)) ∙ some_on (ticks_of_all (asked_by_task t)) (ticks_of_all (asks ts))
 
 -- it counts in the line at hand
-counted : (j k : CourseJudge) (p : Point) (hand : List Outcome) (t : Task) → OfLine j p hand → IsNextOf t j.work.left → k.work.left ≡ drop 1 j.work.left → Counts j.line k.line t → has_some (ticks_of_all (asked_by_task t)) ≡ asks_ticks t
+pub counted : (j k : CourseJudge) (p : Point) (hand : List Outcome) (t : Task) → OfLine j p hand → IsNextOf t j.work.left → k.work.left ≡ drop 1 j.work.left → Counts j.line k.line t → has_some (ticks_of_all (asked_by_task t)) ≡ asks_ticks t
     → k.moved ≡ j.moved → k.jog_moved ≡ j.jog_moved → k.jogged ≡ j.jogged → k.unanswered ≡ j.unanswered → k.in_hand ≡ j.in_hand → OfLine k p hand
 counted j k p hand t o next left counts some moved jog_moved jogged unanswered in_hand = record {
   work = o.work;
@@ -87,6 +87,10 @@ counted j k p hand t o next left counts some moved jog_moved jogged unanswered i
       → (before || f j.work.left) ≡ f all → (now || f k.work.left) ≡ f all
   flag f here on now before e all is = ap (λ (b : Bool). b || f k.work.left) e ∙ ap (λ (ts : List Task). (before || here) || f ts) left
       ∙ or_on before here (f (drop 1 j.work.left)) ∙ ap (λ (b : Bool). before || b) (sym (on (drop 1 j.work.left))) ∙ ap (λ (ts : List Task). before || f ts) (sym next) ∙ is
+
+pub none_later : (a b : Bool) → (a || b) ≡ false → b ≡ false
+none_later true b e = absurd cc
+none_later false b e = e
 
 told_on : (replies now left told : List Reply) → replies ++ ((now ++ left) ++ told) ≡ (replies ++ now) ++ (left ++ told)
 told_on replies now left told = ap (λ (rs : List Reply). replies ++ rs) (append_assoc now left told) ∙ sym (append_assoc replies now (left ++ told))
@@ -129,7 +133,7 @@ task_done j t w l part lost first sent replies now records ticks moves s next is
   knows = record { before = knows.before; split = knows.split; answered = knows.answered; code = knows.code; settled = knows.settled };
   alarm = s.alarm;
   calm = s.calm;
-  at_hand = λ e. ap has_halt left ∙ later (is_halt t) (has_halt (drop 1 j.work.left)) (sym (ap has_halt next) ∙ s.at_hand e);
+  at_hand = λ e. ap has_halt left ∙ none_later (is_halt t) (has_halt (drop 1 j.work.left)) (sym (ap has_halt next) ∙ s.at_hand e);
   events = s.events;
   counted = s.counted;
   numbered = ap (λ (i : Interpreting). i.number) is ∙ s.numbered;
@@ -146,10 +150,6 @@ task_done j t w l part lost first sent replies now records ticks moves s next is
   left : w.left ≡ drop 1 j.work.left
   left = ap (λ (i : Interpreting). i.left) is
 
-  later : (a b : Bool) → (a || b) ≡ false → b ≡ false
-  later true b e = absurd cc
-  later false b e = e
-
   same : (told : List Reply) → replies ++ (left_to_tell j ++ told) ≡ (replies ++ now) ++ (cond j.unanswered [] (tells w.left) ++ told)
   same told =
       ap (λ (rs : List Reply). replies ++ (rs ++ told)) (tell_now ∙ ap (λ (ts : List Task). now ++ cond j.unanswered [] (tells ts)) (sym left))
@@ -157,7 +157,7 @@ task_done j t w l part lost first sent replies now records ticks moves s next is
 
 -- ---- the tasks, one by one
 
-first_told : (u : Bool) (r : Reply) (rs : List Reply) → u ≡ false → cond u [] (r ∷ rs) ≡ (r ∷ []) ++ cond u [] rs
+pub first_told : (u : Bool) (r : Reply) (rs : List Reply) → u ≡ false → cond u [] (r ∷ rs) ≡ (r ∷ []) ++ cond u [] rs
 first_told true r rs e = absurd cc
 first_told false r rs e = refl
 
@@ -182,7 +182,7 @@ none_cond : (u : Bool) → ◌≡◌ {A = List Reply} (cond u [] []) []
 none_cond true = refl
 none_cond false = refl
 
-quiet_told : (u : Bool) (t : Task) (ts : List Task) → cond u [] (told_by t) ≡ [] → cond u [] (tells (t ∷ ts)) ≡ cond u [] (tells ts)
+pub quiet_told : (u : Bool) (t : Task) (ts : List Task) → cond u [] (told_by t) ≡ [] → cond u [] (tells (t ∷ ts)) ≡ cond u [] (tells ts)
 quiet_told true t ts e = refl
 quiet_told false t ts e = ap (λ (rs : List Reply). rs ++ tells ts) e
 
@@ -206,7 +206,7 @@ quiet_done j t w l first sent replies records s next quiet is counts =
     ))
     s.is_made refl s.loses_some s.owes_behind (same_knows j s.since s.hand s.made s.knows))
 
-ask_told : (u : Bool) (t : Task) (ts : List Task) → told_by t ≡ [] → cond u [] (tells (t ∷ ts)) ≡ cond u [] (tells ts)
+pub ask_told : (u : Bool) (t : Task) (ts : List Task) → told_by t ≡ [] → cond u [] (tells (t ∷ ts)) ≡ cond u [] (tells ts)
 ask_told u t ts e = ap (λ (rs : List Reply). cond u [] (rs ++ tells ts)) e
 
 -- an item has ticks
@@ -218,7 +218,7 @@ pub item_asks : (t : Task) (item : Item) → IsItem item → IsItemOf t item →
 item_asks t (items.Move m) is of e = some_events m (events_of m.mv) refl is.moves (sym of.ticks ∙ e)
 item_asks t (items.Mark m) is of e = absurd (let f = sym of.ticks ∙ e in cc)
 
-item_counts : (t : Task) (item : Item) → IsItem item → IsItemOf t item → has_some (ticks_of_all (asked_by_task t)) ≡ asks_ticks t
+pub item_counts : (t : Task) (item : Item) → IsItem item → IsItemOf t item → has_some (ticks_of_all (asked_by_task t)) ≡ asks_ticks t
 item_counts t item valid of = some (ticks_of_all (asked_by_task t)) (item_asks t item valid of) ∙ sym of.some where
   some : (rs : List Record) → (rs ≡ [] → ⊥) → has_some rs ≡ true
   some [] f = absurd (f refl)

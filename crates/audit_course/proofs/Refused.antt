@@ -32,7 +32,7 @@ use Rattle.run_texts.proofs.Stops.{same_split}
 use Rattle.audit_course.specs.declared.judge.CourseJudge.{CourseJudge}
 use Rattle.audit_course.specs.Progressing.{is_code, ticks_to}
 use Rattle.audit_course.specs.Here.{CutsNot, MakesNot, StandsAlike, StandsAsBefore}
-use Rattle.audit_course.specs.SoFar.{GoesTo, HasJudged, IsClosed, IsIdle, MayCut, MayEnd, RefusesEnd, RefusesLine, RefusesRecord, left_to_tell}
+use Rattle.audit_course.specs.SoFar.{GoesTo, HasJudged, OfLine, IsClosed, IsIdle, MayCut, MayEnd, RefusesEnd, RefusesLine, RefusesRecord, left_to_tell}
 use Rattle.audit_course.proofs.Ending.{calm_line, code_is, point_halts, settled_are, to_tell}
 use Rattle.audit_course.proofs.Parting.{none_of}
 use Rattle.audit_course.proofs.Standing.{is_whole_so, jogs_to}
@@ -136,13 +136,16 @@ never_over old mid stays work cuts closed answered not_so first sent replies rec
 
 -- ---- a line
 
-pub none_begins : (j : CourseJudge) → j.work.left ≡ [] → (j.unanswered ≡ false → j.line.halts ≡ true) → RefusesLine j
-none_begins j done halts first sent replies records s kept o = by j.unanswered refl where
-  by : (u : Bool) → j.unanswered ≡ u → (IsPassed s.point kept o → ⊥) × (IsBroken s.point kept o → ⊥)
-  by true u = ((λ p. absurd (let f : false ≡ true = sym p.answered ∙ s.unanswered ∙ u in cc)), (λ p. absurd (let f : false ≡ true = sym p.answered ∙ s.unanswered ∙ u in cc)))
+pub none_begins_at : (j : CourseJudge) (p : Point) (hand : List Outcome) → OfLine j p hand → p.unanswered ≡ j.unanswered → j.work.left ≡ [] → (j.unanswered ≡ false → j.line.halts ≡ true) → (kept : List ℕ) (o : Outcome) → (IsPassed p kept o → ⊥) × (IsBroken p kept o → ⊥)
+none_begins_at j p hand line unanswered done halts kept o = by j.unanswered refl where
+  by : (u : Bool) → j.unanswered ≡ u → (IsPassed p kept o → ⊥) × (IsBroken p kept o → ⊥)
+  by true u = ((λ is. absurd (let f : false ≡ true = sym is.answered ∙ unanswered ∙ u in cc)), (λ is. absurd (let f : false ≡ true = sym is.answered ∙ unanswered ∙ u in cc)))
   by false u =
-      let alarmed : s.point.before.alarmed ≡ true = point_halts j s.point s.hand s.line done u ∙ halts u in
-      ((λ p. absurd (let f : false ≡ true = sym p.free ∙ alarmed in cc)), (λ p. absurd (let f : false ≡ true = sym p.free ∙ alarmed in cc)))
+      let alarmed : p.before.alarmed ≡ true = point_halts j p hand line done u ∙ halts u in
+      ((λ is. absurd (let f : false ≡ true = sym is.free ∙ alarmed in cc)), (λ is. absurd (let f : false ≡ true = sym is.free ∙ alarmed in cc)))
+
+pub none_begins : (j : CourseJudge) → j.work.left ≡ [] → (j.unanswered ≡ false → j.line.halts ≡ true) → RefusesLine j
+none_begins j done halts first sent replies records s kept o = none_begins_at j s.point s.hand s.line s.unanswered done halts kept o
 
 -- ---- a cut
 

@@ -1,5 +1,5 @@
 -- A course behind the first record that breaks a rule: records count no more, and what is told is heard.
-use Rattle.std.specs.Prelude.{◌≡◌, ◌++◌, ℕ, ◌+◌, Bool, true, false, not, ◌&&◌, ◌||◌, List, [], ◌∷◌, length, map}
+use Rattle.std.specs.Prelude.{◌≡◌, ◌≤◌, ◌++◌, ℕ, ◌+◌, Bool, true, false, not, ◌&&◌, ◌||◌, List, [], ◌∷◌, length, map}
 use Rattle.status_report.specs.declared.Reply.{Reply}
 use Rattle.run_rules.specs.Work.{Outcome}
 use Rattle.run_texts.specs.Courses.{Passed, Reset, IsReset}
@@ -11,6 +11,16 @@ use Rattle.run_texts.specs.Told.{told_in}
 use Rattle.audit_course.specs.Progressing.{has_halt}
 use Rattle.audit_course.specs.SoFar.{OfLine, IsClosed, left_to_tell, texts_among}
 use Rattle.audit_course.specs.declared.judge.CourseJudge.{CourseJudge}
+
+-- The course stands at this point as far as the judge knows it, with this line at hand, or none.
+pub record KnowsPoint (j : CourseJudge) (p : Point) (hand : List Outcome) : Type 0 where
+  pub number : p.before.number ≡ j.work.number
+  pub state : p.before.state ≡ j.state
+  pub same_state : j.unanswered ≡ false → j.state ≡ j.work.state
+  pub locked : p.locked ≡ j.locked
+  pub unanswered : p.unanswered ≡ j.unanswered
+  pub line : OfLine j p hand
+  pub at_hand : j.in_hand ≡ false → has_halt j.work.left ≡ false
 
 -- Behind a point, at which this was told, the judge was told of these lines and resets, and of all these replies. A course that
 -- has no cuts, and whose resets leave the position as it is, leads to where the judge stands, and tells them and what is left to
@@ -25,6 +35,7 @@ pub record HasHeard (j : CourseJudge) (p : Point) (before : List Reply) (sent : 
   pub hand : List Outcome
   pub line : OfLine j point hand
   pub at_hand : j.in_hand ≡ false → has_halt j.work.left ≡ false
+  pub some : 1 ≤ p.before.number
   pub numbered : j.work.number ≡ p.before.number + texts_among sent
   pub course : List Passed
   pub leads : LeadsTo p sent course point []
@@ -32,6 +43,10 @@ pub record HasHeard (j : CourseJudge) (p : Point) (before : List Reply) (sent : 
   pub tells : before ++ told_in course ≡ replies ++ left_to_tell j
 
 -- ---- steps
+
+-- the course stands where it stood
+abbrev pub KeepsPoint : CourseJudge → CourseJudge → Type 0
+KeepsPoint j k = (p : Point) (hand : List Outcome) → KnowsPoint j p hand → (now : List Outcome) × KnowsPoint k p now
 
 -- nothing more was told
 abbrev pub StaysHeard : CourseJudge → CourseJudge → Type 0

@@ -9,7 +9,7 @@ ghost use Rattle.part_making.specs.Judging.{coming_of, head_of};
 ghost use Rattle.line_interpreter.specs.Lefts.{greeting};
 ghost use Rattle.audit_course.specs.Progressing.{is_whole};
 ghost use Rattle.audit_course.specs.Here.{CutsNot, ResetsNot};
-ghost use Rattle.audit_course.specs.Heard.{MayTellReset};
+ghost use Rattle.audit_course.specs.Heard.{StaysHeard, HearsReset, HearsNoReset, MayTellReset};
 ghost use Rattle.audit_course.specs.SoFar.{left_to_tell, opened_at, BeginsPart, AddsRecord, AddsReset, EndsSoFar, RefusesEnd, RefusesRecord, RefusesReset, IsClosed, IsIdle, MayCut, MayReset, MayEnd};
 
 use crate::{CourseJudge, Progress, Ticks};
@@ -116,6 +116,7 @@ impl CourseJudge {
         ensures here { result ≡ false → self.old.work.left ≡ [] → IsPlace self.old.place → self.old.cuts + 1 < 2 ^ 32 → CutsNot self.old k }
         ensures no { result ≡ false → self.old.work.left ≡ [] → k + 1 ≤ self.old.work.number → IsPlace self.old.place → self.old.cuts + 1 < 2 ^ 32 → RefusesRecord self.old (kinds.Mark (CutMark k)) }
         ensures yes { IsTrue result → AddsRecord self.old self.new (kinds.Mark (CutMark k)) }
+        ensures heard { result ≡ false → StaysHeard self.old self.new }
         ensures work { self.new.work.left ≡ self.old.work.left }
         ensures done { IsTrue result → self.new.work.left ≡ [] }
         ensures unanswered { IsTrue result → self.new.unanswered ≡ self.old.unanswered }
@@ -208,6 +209,7 @@ impl CourseJudge {
     /// range, and the lines can be counted.
     pub fn reset(&mut self, k: u32, dropped: u32, alarm: bool) -> bool
         ensures yes { IsTrue result → AddsReset self.old self.new k dropped }
+        ensures heard { result ≡ false → StaysHeard self.old self.new }
         ensures greets { IsTrue result → left_to_tell self.new ≡ greeting alarm (alarm || self.old.locked) }
         ensures short { IsTrue result → length self.new.work.left ≤ 3 }
         ensures answered { IsTrue result → self.new.unanswered ≡ false }
@@ -239,13 +241,16 @@ impl CourseJudge {
     }
 
     /// A reset comes of the job that is not recorded, and drops so many lines that are not begun: whether it may. Then what is
-    /// told at it is to be told, with or without the alarm, and the machine stays where the lines have led. Call it behind a
-    /// record that breaks a rule: no record counts behind it any more.
+    /// told at it is to be told, with or without the alarm, and the machine stays where the lines have led. If it may not, though
+    /// the last line is done and the dropped lines can be counted, no reset may be told here. Call it behind a record that breaks
+    /// a rule: no record counts behind it any more.
     pub fn reset_unrecorded(&mut self, dropped: u32, alarm: bool) -> bool
+        ensures heard { IsTrue result → HearsReset self.old self.new dropped }
         ensures greets { IsTrue result → left_to_tell self.new ≡ greeting alarm (alarm || self.old.locked) }
         ensures short { IsTrue result → length self.new.work.left ≤ 3 }
         ensures answered { IsTrue result → self.new.unanswered ≡ false }
         ensures calm { IsTrue result → self.new.line.halts ≡ false }
+        ensures no { result ≡ false → self.old.work.left ≡ [] → self.old.work.number + dropped < 2 ^ 32 → HearsNoReset self.old alarm }
     {
         if !self.work.is_done() {
             return false;
@@ -281,6 +286,7 @@ impl CourseJudge {
     /// The end comes: whether it may. If not, and the last line is done and answered, no texts fit that end here.
     pub fn end(&mut self) -> bool
         ensures yes { IsTrue result → EndsSoFar self.old self.new }
+        ensures heard { StaysHeard self.old self.new }
         ensures number { self.new.work.number ≡ self.old.work.number }
         ensures cuts { self.new.cuts ≡ self.old.cuts }
         ensures unanswered { self.new.unanswered ≡ self.old.unanswered }

@@ -14,6 +14,7 @@ ghost use Rattle.run_rules.specs.Work.Task.{ask, tell, halt};
 ghost use Rattle.line_interpreter.specs.Lefts.{IsNextOf, IsTodo};
 ghost use Rattle.audit_course.specs.Progressing.{Counts, IsNew};
 ghost use Rattle.audit_course.specs.SoFar.{HasJudged, AddsReply, MayBegin, SameLine, left_to_tell};
+ghost use Rattle.audit_course.specs.Heard.{HearsReply};
 
 use crate::valid::ValidState;
 use crate::{Progress, Ticks};
@@ -188,6 +189,7 @@ impl CourseJudge {
         requires some { (r : AnyReply) × IsNextOf (tell r) self.old.work.left }
         requires answered { self.old.unanswered ≡ false }
         ensures adds { (r : AnyReply) → IsNextOf (tell r) self.old.work.left → AddsReply self.old self.new r }
+        ensures heard { (r : AnyReply) → IsNextOf (tell r) self.old.work.left → HearsReply self.old self.new r }
         ensures left { (r : AnyReply) → IsNextOf (tell r) self.old.work.left → left_to_tell self.old ≡ r ∷ left_to_tell self.new }
         ensures work { self.new.work.left ≡ drop 1 self.old.work.left }
         ensures line { SameLine self.old self.new }

@@ -9,6 +9,7 @@ ghost use Rattle.line_interpreter.specs.Keeping.{IsKept};
 ghost use Rattle.audit_course.specs.Progressing.{moved_now, fresh};
 ghost use Rattle.audit_course.specs.Here.{StandsAsBefore};
 ghost use Rattle.audit_course.specs.SoFar.{StaysSoFar, AreNow, AddsSent, RefusesLine, MayBegin, IsIdle, FindsRight, FindsStill, TellsAlone, TellsFound, HasWorkOf};
+ghost use Rattle.audit_course.specs.Heard.{KeepsPoint, StaysHeard, HearsSent, HearsNoLine};
 
 use crate::machines::unlocks;
 use crate::valid::ValidState;
@@ -112,6 +113,8 @@ impl CourseJudge {
         requires { self.old.work.left ≡ [] }
         ensures stays { StaysSoFar self.old self.new }
         ensures stands { StandsAsBefore self.old self.new }
+        ensures point { KeepsPoint self.old self.new }
+        ensures heard { StaysHeard self.old self.new }
         ensures closed { self.new.in_hand ≡ false }
         ensures work { self.new.work ≡ self.old.work }
         ensures unanswered { self.new.unanswered ≡ self.old.unanswered }
@@ -150,6 +153,7 @@ impl CourseJudge {
         requires few { self.old.work.number + 1 < 2 ^ 32 }
         requires found { (kept : List ℕ) → IsKept line.now kept → FindsRight self.old machine kept }
         ensures adds { (kept : List ℕ) → IsKept line.now kept → AddsSent self.old self.new (a_text kept ∷ []) }
+        ensures heard { (kept : List ℕ) → IsKept line.now kept → HearsSent self.old self.new (a_text kept ∷ []) }
         ensures tells { (kept : List ℕ) → IsKept line.now kept → TellsFound self.old self.new machine kept }
         ensures work { (kept : List ℕ) → IsKept line.now kept → HasWorkOf self.old self.new true kept }
         ensures unanswered { self.new.unanswered ≡ self.old.unanswered }
@@ -169,10 +173,12 @@ impl CourseJudge {
     /// A line is begun, of which the console tells this error, if any: whether it may be. Then it is the line at hand, and texts
     /// that tell first of it a reply that fits the error tell all that is left to tell of it. If it may not, though the last line
     /// is done and one more can be counted, no line may be begun here.
-    #[tactic(auto, using(crate::proofs::Refused::none_begins))]
+    #[tactic(auto, using(crate::proofs::Refused::none_begins, crate::proofs::Heard::none_heard))]
     pub fn begin(&mut self, line: &KeptLine, error: MotionError) -> bool
         ensures no { result ≡ false → self.old.work.left ≡ [] → self.old.work.number + 1 < 2 ^ 32 → RefusesLine self.old }
+        ensures unheard { result ≡ false → self.old.work.left ≡ [] → self.old.work.number + 1 < 2 ^ 32 → HearsNoLine self.old }
         ensures yes { IsTrue result → (kept : List ℕ) → IsKept line.now kept → AddsSent self.old self.new (a_text kept ∷ []) }
+        ensures heard { IsTrue result → (kept : List ℕ) → IsKept line.now kept → HearsSent self.old self.new (a_text kept ∷ []) }
         ensures alone { IsTrue result → (kept : List ℕ) → IsKept line.now kept → TellsAlone self.old self.new error kept }
         ensures work { IsTrue result → (kept : List ℕ) → IsKept line.now kept → HasWorkOf self.old self.new true kept }
         ensures unanswered { IsTrue result → self.new.unanswered ≡ false }
@@ -194,6 +200,7 @@ impl CourseJudge {
         requires few { self.old.work.number + 1 < 2 ^ 32 }
         requires found { (kept : List ℕ) → IsKept line.now kept → FindsStill self.old machine kept }
         ensures adds { (kept : List ℕ) → IsKept line.now kept → AddsSent self.old self.new (a_text kept ∷ []) }
+        ensures heard { (kept : List ℕ) → IsKept line.now kept → HearsSent self.old self.new (a_text kept ∷ []) }
         ensures work { (kept : List ℕ) → IsKept line.now kept → HasWorkOf self.old self.new false kept }
         ensures unanswered { self.new.unanswered ≡ true }
         ensures lost { self.new.lost ≡ self.old.lost }
@@ -209,10 +216,12 @@ impl CourseJudge {
     /// A line is begun that a reset keeps from its answer: whether it may be. Then it is the line at hand, and the next
     /// that may come is a reset, or a cut that drops it whole. If it may not, though the last line is done and one more can be
     /// counted, no line may be begun here.
-    #[tactic(auto, using(crate::proofs::Refused::none_begins))]
+    #[tactic(auto, using(crate::proofs::Refused::none_begins, crate::proofs::Heard::none_heard))]
     pub fn begin_unanswered(&mut self, line: &KeptLine) -> bool
         ensures no { result ≡ false → self.old.work.left ≡ [] → self.old.work.number + 1 < 2 ^ 32 → RefusesLine self.old }
+        ensures unheard { result ≡ false → self.old.work.left ≡ [] → self.old.work.number + 1 < 2 ^ 32 → HearsNoLine self.old }
         ensures yes { IsTrue result → (kept : List ℕ) → IsKept line.now kept → AddsSent self.old self.new (a_text kept ∷ []) }
+        ensures heard { IsTrue result → (kept : List ℕ) → IsKept line.now kept → HearsSent self.old self.new (a_text kept ∷ []) }
         ensures work { IsTrue result → (kept : List ℕ) → IsKept line.now kept → HasWorkOf self.old self.new false kept }
         ensures unanswered { IsTrue result → self.new.unanswered ≡ true }
         ensures lost { IsTrue result → self.new.lost ≡ self.old.lost }

@@ -15,6 +15,7 @@ ghost use Rattle.run_texts.specs.Parts.{is_ending};
 ghost use Rattle.audit_course.specs.Progressing.{IsUnseen, IsItemOf, has_halt};
 ghost use Rattle.audit_course.specs.Here.{MakesNot};
 ghost use Rattle.audit_course.specs.SoFar.{StaysSoFar, SameLine, AddsRecord, RefusesRecord, left_to_tell};
+ghost use Rattle.audit_course.specs.Heard.{StaysHeard};
 
 use crate::CourseJudge;
 use crate::judge::counted;
@@ -85,6 +86,7 @@ impl CourseJudge {
         requires some { self.old.work.left ≢ [] }
         requires quiet { (t : Task) → IsNextOf t self.old.work.left → IsUnseen self.old.unanswered t }
         ensures stays { StaysSoFar self.old self.new }
+        ensures heard { StaysHeard self.old self.new }
         ensures lost { self.new.lost ≡ self.old.lost }
         ensures work { self.new.work.left ≡ drop 1 self.old.work.left }
         ensures unanswered { self.new.unanswered ≡ self.old.unanswered }
@@ -103,6 +105,7 @@ impl CourseJudge {
         requires item { IsItem item }
         requires of { (t : Task) → IsNextOf t self.old.work.left → IsItemOf t item }
         ensures stays { StaysSoFar self.old self.new }
+        ensures heard { StaysHeard self.old self.new }
         ensures lost { self.new.lost ≡ true → self.old.lost ≡ false → owed_of self.old.part ≢ [] }
         ensures work { self.new.work.left ≡ drop 1 self.old.work.left }
         ensures unanswered { self.new.unanswered ≡ self.old.unanswered }
@@ -123,6 +126,7 @@ impl CourseJudge {
     fn ask_move(&mut self)
         requires { IsTodo Todo.Move self.old.work.left }
         ensures stays { StaysSoFar self.old self.new }
+        ensures heard { StaysHeard self.old self.new }
         ensures lost { self.new.lost ≡ true → self.old.lost ≡ false → owed_of self.old.part ≢ [] }
         ensures work { self.new.work.left ≡ drop 1 self.old.work.left }
         ensures unanswered { self.new.unanswered ≡ self.old.unanswered }
@@ -138,6 +142,7 @@ impl CourseJudge {
     fn ask_mark(&mut self, mark: Mark)
         requires { IsTodo (Todo.Mark mark) self.old.work.left }
         ensures stays { StaysSoFar self.old self.new }
+        ensures heard { StaysHeard self.old self.new }
         ensures lost { self.new.lost ≡ true → self.old.lost ≡ false → owed_of self.old.part ≢ [] }
         ensures work { self.new.work.left ≡ drop 1 self.old.work.left }
         ensures unanswered { self.new.unanswered ≡ self.old.unanswered }
@@ -158,6 +163,7 @@ impl CourseJudge {
         requires some { self.old.work.left ≢ [] }
         requires untold { (r : AnyReply) → IsNextOf (tell r) self.old.work.left → self.old.unanswered ≡ true }
         ensures stays { StaysSoFar self.old self.new }
+        ensures heard { StaysHeard self.old self.new }
         ensures left { left_to_tell self.new ≡ left_to_tell self.old }
         ensures lost { self.new.lost ≡ true → self.old.lost ≡ false → owed_of self.old.part ≢ [] }
         ensures work { self.new.work.left ≡ drop 1 self.old.work.left }
@@ -187,6 +193,7 @@ impl CourseJudge {
     /// lines come, and no texts fit that have it next.
     pub fn take(&mut self, given: &Record) -> bool
         ensures yes { IsTrue result → AddsRecord self.old self.new given.now }
+        ensures heard { StaysHeard self.old self.new }
         ensures no { result ≡ false → owed_of self.old.part ≢ [] → is_ending given.now ≡ false → IsPlace self.old.place → self.old.events + 1 < 2 ^ 64 → RefusesRecord self.old given.now }
         ensures here { result ≡ false → owed_of self.old.part ≢ [] → is_ending given.now ≡ false → IsPlace self.old.place → self.old.events + 1 < 2 ^ 64 → MakesNot self.old given.now }
         ensures work { self.new.work ≡ self.old.work }

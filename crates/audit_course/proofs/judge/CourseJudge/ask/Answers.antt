@@ -1,3 +1,5 @@
+use Rattle.std.proofs.Common.{true}
+use Rattle.audit_course.proofs.Heard.{item_heard}
 use Rattle.audit_course.proofs.Passing.{some_next, item_asked, task_lost, halts_same}
 use Rattle.audit_course.proofs.judge.CourseJudge.ask.Goals as goal
 
@@ -23,3 +25,13 @@ pub returns-clause-halts : goal.returns-clause-halts
 returns-clause-halts c =
     let n = some_next c.args.self.now.work.left c.requires.some in
     halts_same c.args.self.now.line c.counted-self.result n.0 c.args.self.now.work.left n.1 (c.counted-self.ensures c.args.self.now.work.left c.requires.todo n.0 n.1)
+
+pub returns-then-self-clause-heard : goal.returns-then-self-clause-heard
+returns-then-self-clause-heard c =
+    let n = some_next c.args.self.now.work.left c.requires.some in
+    item_heard c.args.self.now n.0 c.args.item c.done.new.self c.counted-self.result c.args.self.now.part true n.1 c.requires.item (c.requires.of n.0 n.1) c.done.ensures (c.counted-self.ensures c.args.self.now.work.left c.requires.todo n.0 n.1)
+
+pub returns-clause-heard : goal.returns-clause-heard
+returns-clause-heard c =
+    let n = some_next c.args.self.now.work.left c.requires.some in
+    item_heard c.args.self.now n.0 c.args.item c.done.new.self c.counted-self.result c.ask.new.self c.args.self.now.lost n.1 c.requires.item (c.requires.of n.0 n.1) c.done.ensures (c.counted-self.ensures c.args.self.now.work.left c.requires.todo n.0 n.1)

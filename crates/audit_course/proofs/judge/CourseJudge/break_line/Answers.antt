@@ -1,4 +1,5 @@
 use Rattle.std.proofs.Common.{true, false, refl}
+use Rattle.audit_course.proofs.Heard.{broken_heard}
 use Rattle.audit_course.proofs.Beginning.{line_unanswered, broken_work}
 use Rattle.audit_course.proofs.judge.CourseJudge.break_line.Goals as goal
 
@@ -11,3 +12,8 @@ pub returns-clause-work : goal.returns-clause-work
 returns-clause-work c = λ kept is.
     broken_work c.args.self.now (record c.args.self.now { work = c.judge.new.self; has_line = true; unanswered = true; touched = false; in_hand = true; line = c.begin-self.result }) c.args.machine c.judge.new.self c.judge.result kept c.requires.may
     (λ since. c.judge.ensures.becomes since kept is) (c.requires.found kept is) refl
+
+pub returns-clause-heard : goal.returns-clause-heard
+returns-clause-heard c = λ kept is.
+    broken_heard c.args.self.now c.args.machine c.judge.new.self c.begin-self.result c.judge.result kept c.requires.may
+    (λ since. c.judge.ensures.becomes since kept is) (c.requires.found kept is) c.begin-self.ensures.is_new c.begin-self.ensures.accepted c.begin-self.ensures.settles

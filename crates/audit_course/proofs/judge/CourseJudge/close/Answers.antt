@@ -1,5 +1,6 @@
 use Rattle.std.proofs.Common.{ap, not, ◌∙◌, ◌&&◌, Bool, true, cond}
 use Rattle.audit_course.specs.Progressing.{moved_now}
+use Rattle.audit_course.proofs.Heard.{close_kept, close_heard}
 use Rattle.audit_course.proofs.Parting.{closes}
 use Rattle.audit_course.proofs.judge.CourseJudge.close.Goals as goal
 
@@ -15,3 +16,17 @@ returns-clause-stands c = λ first sent replies records s.
 
 pub returns-clause-stays : goal.returns-clause-stays
 returns-clause-stays c = λ first sent replies records s. (returns-clause-stands c first sent replies records s).there
+
+pub returns-clause-point : goal.returns-clause-point
+returns-clause-point c =
+    let j = c.args.self.now in
+    close_kept j c.fresh-self.result c.moved_now-self.result c.moved_now-self-2.result c.behind_line-self.result c.behind_line-self-2.result c.behind_line-self-3.result c.requires c.fresh-self.ensures
+    (c.moved_now-self.ensures ∙ ap (λ (b : Bool). moved_now b j.line j.moved) c.is_code.ensures)
+    (c.moved_now-self-2.ensures ∙ ap (λ (b : Bool). moved_now b j.line j.jog_moved) c.is_jog.ensures)
+
+pub returns-clause-heard : goal.returns-clause-heard
+returns-clause-heard c =
+    let j = c.args.self.now in
+    close_heard j c.fresh-self.result c.moved_now-self.result c.moved_now-self-2.result c.behind_line-self.result c.behind_line-self-2.result c.behind_line-self-3.result c.requires c.fresh-self.ensures
+    (c.moved_now-self.ensures ∙ ap (λ (b : Bool). moved_now b j.line j.moved) c.is_code.ensures)
+    (c.moved_now-self-2.ensures ∙ ap (λ (b : Bool). moved_now b j.line j.jog_moved) c.is_jog.ensures)

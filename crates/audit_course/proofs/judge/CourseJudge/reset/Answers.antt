@@ -1,7 +1,7 @@
 use Rattle.std.proofs.Common.{rules, ◌≡◌, ◌<◌, ◌+◌, ◌^◌, false, ap, sym, ◌∙◌, subst}
 use Rattle.units.specs.Lengths.{IsPlace}
 use Rattle.line_interpreter.specs.Interpreting.{Interpreting}
-use Rattle.audit_course.specs.SoFar.{IsClosed, MayReset, AddsReset}
+use Rattle.audit_course.specs.SoFar.{MayReset, AddsReset}
 use Rattle.audit_course.specs.declared.judge.CourseJudge.{CourseJudge}
 use Rattle.audit_course.proofs.Ending.{reset_made}
 use Rattle.audit_course.proofs.Resetting.{never_reset, resets_not, resets_not_there}
