@@ -36,8 +36,8 @@ use Rattle.audit_course.specs.declared.Progress.{Progress}
 use Rattle.audit_course.specs.declared.judge.CourseJudge.{CourseJudge}
 use Rattle.audit_course.specs.declared.ticks.Ticks.{Ticks}
 use Rattle.audit_course.specs.Progressing.{has_ticks, has_halt, ends_none, is_code, ticks_to, IsNew}
-use Rattle.audit_course.specs.SoFar.{GoesTo, HasJudged, KnowsTicks, AreSo, OfLine, IsBare, OwesBehind, EndsLate, MayBegin, Knows, FindsRight, FindsStill, TellsFound, HasWorkOf, left_to_tell, texts_among}
-use Rattle.audit_course.specs.Heard.{KnowsPoint}
+use Rattle.audit_course.specs.SoFar.{GoesTo, HasJudged, KnowsTicks, AreSo, OfLine, IsBare, OwesBehind, EndsLate, MayBegin, Knows, FindsRight, FindsStill, HasWorkOf, left_to_tell, texts_among}
+use Rattle.audit_course.specs.Heard.{KnowsPoint, TellsFound}
 use Rattle.audit_course.proofs.Counting.{texts_on}
 use Rattle.audit_course.proofs.Going.{by_line, by_broken}
 use Rattle.audit_course.proofs.Parting.{none_of}
@@ -429,10 +429,10 @@ line_unanswered j machine w l accepted kept first sent replies records s b judge
 pub line_tells : (j k : CourseJudge) (machine : Machine) (w : Interpreting) (accepted : Accepted) (settles : Bool) (kept : List ℕ) → MayBegin j
     → ((since : Since) → (o : Outcome) × Found machine (stands_before j.work since) kept o × (w ≡ record { state = o.next; number = j.work.number + 1; left = o.work }) × (kind_told accepted ≡ o.kind) × (settles ≡ o.settles))
     → k.work ≡ w → k.unanswered ≡ j.unanswered → TellsFound j k machine kept
-line_tells j k machine w accepted settles kept b judged work unanswered first sent replies records s =
-    let o = judged (since_at s.point) in (
+line_tells j k machine w accepted settles kept b judged work unanswered p hand at =
+    let o = judged (since_at p) in (
       o.0,
-      found_at j s.point s.hand machine w kept o.0 (judged_point j first sent replies records s) b (o.1, o.2),
+      found_at j p hand machine w kept o.0 at b (o.1, o.2),
       ap (λ (u : Bool). cond u [] (tells k.work.left)) (unanswered ∙ b.answered) ∙ ap (λ (i : Interpreting). tells i.left) (work ∙ o.2),
     )
 

@@ -23,7 +23,8 @@ use Rattle.run_texts.proofs.Errors.{told_one, begun_one}
 use Rattle.audit_course.specs.declared.MotionError.{MotionError}
 use Rattle.audit_course.specs.declared.MotionError.TheVariants as errors
 use Rattle.audit_course.specs.declared.judge.CourseJudge.{CourseJudge}
-use Rattle.audit_course.specs.SoFar.{GoesTo, HasJudged, EndsLate, MayBegin, Knows, IsErrorOf, FindsAlone, TellsFound, TellsAlone, left_to_tell}
+use Rattle.audit_course.specs.SoFar.{GoesTo, HasJudged, EndsLate, MayBegin, Knows, IsErrorOf, FindsAlone, TellsAlone, left_to_tell}
+use Rattle.audit_course.specs.Heard.{TellsFound}
 use Rattle.audit_course.proofs.Finding.{on_either, chosen, busy_becomes, locked_becomes}
 use Rattle.audit_course.proofs.Forced.{comes_before, behind_made, only_line}
 use Rattle.audit_course.proofs.Beginning.{judged_point, known_at, no_alarm, taken_true, taken_false}
@@ -162,6 +163,7 @@ tells_alone old mid new error machine kept may stays work unanswered cuts alone 
     (subst (λ (rs : List Reply). GoesTo (opening first) [] [] origin (n + old.cuts) (sent ++ a_text kept ∷ more) (replies ++ (rs ++ r ∷ told)) (records ++ rest) last) (sym same) g)) in
     let line = only_line here.point last here.since here.begun here.from n kept more r told (here.made ++ rest) (no_alarm mid here.point here.hand here.line may)
     (behind_made (here.point.before.number + 1) here.made rest here.is_made.inside (subst (λ (m : ℕ). EndsLate (m + 1) rest) (sym here.number) later)) plain on in
-    let o = tells_found first sent replies records here in
-    let one : line.0 ≡ o.0 = alone here.point (known_at mid here.point here.hand (judged_point mid first sent replies records here) may) o.0 line.0 o.1 line.1 r told line.2 (sym line.3) fits in
+    let at = judged_point mid first sent replies records here in
+    let o = tells_found here.point here.hand at in
+    let one : line.0 ≡ o.0 = alone here.point (known_at mid here.point here.hand at may) o.0 line.0 o.1 line.1 r told line.2 (sym line.3) fits in
     (line.2, line.3 ∙ ap (λ (x : Outcome). tells x.work ++ line.2) one ∙ ap (λ (rs : List Reply). rs ++ line.2) (sym o.2))

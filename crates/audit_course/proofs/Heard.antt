@@ -30,13 +30,14 @@ use Rattle.run_texts.specs.Sent.Sent.{a_text, a_stop}
 use Rattle.run_texts.specs.SoFar.{LeadsTo, RebasesNothing}
 use Rattle.run_texts.specs.Told.{told_in, told_of, told_at_reset}
 use Rattle.run_texts.proofs.Going.{behind_on, reset_on}
+use Rattle.audit_course.specs.declared.MotionError.{MotionError}
 use Rattle.audit_course.specs.declared.Progress.{Progress}
 use Rattle.audit_course.specs.declared.judge.CourseJudge.{CourseJudge}
 use Rattle.audit_course.specs.declared.ticks.Ticks.{Ticks}
-use Rattle.audit_course.specs.Heard.{KnowsPoint, KeepsPoint, HasHeard, StaysHeard, HearsSent, HearsReply, HearsReset, MayTellReset, HearsNoLine, HearsNoReset}
+use Rattle.audit_course.specs.Heard.{KnowsPoint, KeepsPoint, HasHeard, StaysHeard, HearsSent, HearsReply, HearsReset, MayTellReset, TellsFound, HearsAlone, HearsNoLine, HearsNoReset}
 use Rattle.audit_course.specs.Progressing.{asks_ticks, has_some, has_halt, is_halt, moved_now, fresh, Counts, IsNew, IsUnseen, IsItemOf}
-use Rattle.audit_course.specs.SoFar.{HasJudged, IsClosed, FindsRight, FindsStill, MayBegin, left_to_tell, opened_at, texts_among}
-use Rattle.audit_course.proofs.Beginning.{broken_of, judged_line, judged_still, line_of, no_alarm, none_to_tell, since_at}
+use Rattle.audit_course.specs.SoFar.{HasJudged, IsClosed, FindsRight, FindsStill, FindsAlone, MayBegin, left_to_tell, opened_at, texts_among}
+use Rattle.audit_course.proofs.Beginning.{broken_of, judged_line, judged_still, known_at, line_of, no_alarm, none_to_tell, since_at}
 use Rattle.audit_course.proofs.Counting.{lines_sent, texts_on}
 use Rattle.audit_course.proofs.Ending.{any_moved, behind_so, calm_line, opened_line, reset_may_come, to_tell}
 use Rattle.audit_course.proofs.Outcomes.{telling_halts}
@@ -285,6 +286,13 @@ broken_heard j machine w l accepted kept b judged finds new code settles =
             number = one_more kept j.work.number w.number (ap (λ (i : Interpreting). i.number) o.2);
             tells = append-nil (left_to_tell j) ∙ none_to_tell j b;
           }
+
+-- it becomes nothing else that tells first a reply that fits the error
+pub hears_alone : (old mid new : CourseJudge) (error : MotionError) (machine : Machine) (kept : List ℕ) → MayBegin mid → KeepsPoint old mid → FindsAlone mid error machine kept → TellsFound mid new machine kept → HearsAlone old new error kept
+hears_alone old mid new error machine kept may keeps alone tells_found p before sent replies h u is r xs ys told fits =
+    let at = keeps h.point h.hand (heard_point old p before sent replies h) in
+    let o = tells_found h.point at.0 at.1 in
+    o.2 ∙ ap (λ (x : Outcome). tells x.work) (sym (alone h.point (known_at mid h.point at.0 at.1 may) o.0 u o.1 is r xs ys told fits))
 
 -- none may be begun where the last has no answer, or has raised an alarm
 pub none_heard : (j : CourseJudge) → j.work.left ≡ [] → (j.unanswered ≡ false → j.line.halts ≡ true) → HearsNoLine j

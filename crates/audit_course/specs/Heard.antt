@@ -1,15 +1,18 @@
 -- A course behind the first record that breaks a rule: records count no more, and what is told is heard.
 use Rattle.std.specs.Prelude.{◌≡◌, ◌≤◌, ◌++◌, ℕ, ◌+◌, Bool, true, false, not, ◌&&◌, ◌||◌, List, [], ◌∷◌, length, map}
 use Rattle.status_report.specs.declared.Reply.{Reply}
-use Rattle.run_rules.specs.Work.{Outcome}
+use Rattle.run_rules.specs.declared.machine.Machine.{Machine}
+use Rattle.run_rules.specs.Finding.{Found}
+use Rattle.run_rules.specs.Work.{Outcome, tells}
 use Rattle.run_texts.specs.Courses.{Passed, Reset, IsReset}
-use Rattle.run_texts.specs.Points.{Point, IsPassed, IsBroken}
+use Rattle.run_texts.specs.Points.{Point, BecomesAt, IsPassed, IsBroken}
 use Rattle.run_texts.specs.Sent.{Sent}
 use Rattle.run_texts.specs.Sent.Sent.{a_text, a_stop}
 use Rattle.run_texts.specs.SoFar.{LeadsTo, RebasesNothing}
 use Rattle.run_texts.specs.Told.{told_in}
 use Rattle.audit_course.specs.Progressing.{has_halt}
-use Rattle.audit_course.specs.SoFar.{OfLine, IsClosed, left_to_tell, texts_among}
+use Rattle.audit_course.specs.SoFar.{OfLine, IsClosed, IsErrorOf, left_to_tell, texts_among}
+use Rattle.audit_course.specs.declared.MotionError.{MotionError}
 use Rattle.audit_course.specs.declared.judge.CourseJudge.{CourseJudge}
 
 -- The course stands at this point as far as the judge knows it, with this line at hand, or none.
@@ -69,6 +72,18 @@ pub record MayTellReset (j : CourseJudge) (alarm : Bool) : Type 0 where
   pub ends : IsClosed j
   pub calm : (not j.unanswered && j.line.halts) ≡ false
   pub cause : alarm ≡ true → (j.moved || j.jog_moved) ≡ true
+
+-- ---- the line that is begun
+
+-- it is begun as it is found, and all that it tells is left to tell
+abbrev pub TellsFound : CourseJudge → CourseJudge → Machine → List ℕ → Type 0
+TellsFound j k machine kept = (p : Point) (hand : List Outcome) → KnowsPoint j p hand → (o : Outcome) × Found machine p.before kept o × (left_to_tell k ≡ tells o.work)
+
+-- If it becomes what tells first a reply that fits the error, all that this tells is left to tell.
+abbrev pub HearsAlone : CourseJudge → CourseJudge → MotionError → List ℕ → Type 0
+HearsAlone j k error kept =
+    (p : Point) (before : List Reply) (sent : List Sent) (replies : List Reply) (h : HasHeard j p before sent replies) (o : Outcome)
+    → BecomesAt true h.point kept o → (r : Reply) (xs ys : List Reply) → tells o.work ++ ys ≡ r ∷ xs → IsErrorOf error r → left_to_tell k ≡ tells o.work
 
 -- ---- what may not come
 

@@ -283,11 +283,6 @@ abbrev pub FindsAlone : CourseJudge → MotionError → Machine → List ℕ →
 FindsAlone j error machine kept =
     (p : Point) → Knows j p → (o u : Outcome) → Found machine p.before kept o → BecomesAt true p kept u → (r : Reply) (xs ys : List Reply) → tells u.work ++ ys ≡ r ∷ xs → IsErrorOf error r → u ≡ o
 
--- the line is begun as it is found, and all that it tells is left to tell
-abbrev pub TellsFound : CourseJudge → CourseJudge → Machine → List ℕ → Type 0
-TellsFound j k machine kept =
-    (first : State) (sent : List Sent) (replies : List Reply) (records : List Record) (s : HasJudged j first sent replies records) → (o : Outcome) × Found machine s.point.before kept o × (left_to_tell k ≡ tells o.work)
-
 -- what is left to do is the work of what the line becomes, by the rules
 abbrev pub HasWorkOf : CourseJudge → CourseJudge → Bool → List ℕ → Type 0
 HasWorkOf j k runs kept =

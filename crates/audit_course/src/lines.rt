@@ -8,8 +8,8 @@ ghost use Rattle.line_interpreter.specs.Desks.{kind_told};
 ghost use Rattle.line_interpreter.specs.Keeping.{IsKept};
 ghost use Rattle.audit_course.specs.Progressing.{moved_now, fresh};
 ghost use Rattle.audit_course.specs.Here.{StandsAsBefore};
-ghost use Rattle.audit_course.specs.SoFar.{StaysSoFar, AreNow, AddsSent, RefusesLine, MayBegin, IsIdle, FindsRight, FindsStill, TellsAlone, TellsFound, HasWorkOf};
-ghost use Rattle.audit_course.specs.Heard.{KeepsPoint, StaysHeard, HearsSent, HearsNoLine};
+ghost use Rattle.audit_course.specs.SoFar.{StaysSoFar, AreNow, AddsSent, RefusesLine, MayBegin, IsIdle, FindsRight, FindsStill, TellsAlone, HasWorkOf};
+ghost use Rattle.audit_course.specs.Heard.{KeepsPoint, StaysHeard, HearsSent, TellsFound, HearsAlone, HearsNoLine};
 
 use crate::machines::unlocks;
 use crate::valid::ValidState;
@@ -180,6 +180,7 @@ impl CourseJudge {
         ensures yes { IsTrue result → (kept : List ℕ) → IsKept line.now kept → AddsSent self.old self.new (a_text kept ∷ []) }
         ensures heard { IsTrue result → (kept : List ℕ) → IsKept line.now kept → HearsSent self.old self.new (a_text kept ∷ []) }
         ensures alone { IsTrue result → (kept : List ℕ) → IsKept line.now kept → TellsAlone self.old self.new error kept }
+        ensures heard_alone { IsTrue result → (kept : List ℕ) → IsKept line.now kept → HearsAlone self.old self.new error kept }
         ensures work { IsTrue result → (kept : List ℕ) → IsKept line.now kept → HasWorkOf self.old self.new true kept }
         ensures unanswered { IsTrue result → self.new.unanswered ≡ false }
         ensures in_hand { IsTrue result → self.new.in_hand ≡ true }

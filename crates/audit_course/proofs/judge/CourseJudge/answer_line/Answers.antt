@@ -14,9 +14,9 @@ returns-clause-adds c = λ kept is first sent replies records s.
     (c.still_locked-self.ensures ∙ ap (λ (b : Bool). c.args.self.now.locked && not b) (c.unlocks-unlocked.ensures kept is))
 
 pub returns-clause-tells : goal.returns-clause-tells
-returns-clause-tells c = λ kept is first sent replies records s.
+returns-clause-tells c = λ kept is.
     line_tells c.args.self.now (record c.args.self.now { work = c.judge_settling-judged.new.self; state = c.of-self.result; locked = c.still_locked-self.result; has_line = true; in_hand = true; jogged = c.jogged_behind-self.result; line = c.begin-self.result })
-    c.args.machine c.judge_settling-judged.new.self c.judge_settling-judged.result.accepted c.judge_settling-judged.result.settles kept c.requires.may (λ since. c.judge_settling-judged.ensures.becomes since kept is) refl refl first sent replies records s
+    c.args.machine c.judge_settling-judged.new.self c.judge_settling-judged.result.accepted c.judge_settling-judged.result.settles kept c.requires.may (λ since. c.judge_settling-judged.ensures.becomes since kept is) refl refl
 
 pub returns-clause-work : goal.returns-clause-work
 returns-clause-work c = λ kept is.
