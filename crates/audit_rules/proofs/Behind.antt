@@ -1,11 +1,8 @@
 -- Records that stand behind those of a course stand by what goes on behind it.
 use Rattle.std.proofs.Common.{◌≡◌, ℕ, zero, suc, ◌+◌, ◌≤◌, List, [], ◌∷◌, ◌++◌, map, true, false, Bool, append-nil, append_assoc, sym, refl, ap, ◌∙◌, subst, arith}
-use Rattle.std.proofs.lemmas.List.{append_cancel_left}
 use Rattle.std.proofs.lemmas.List.Concat.{flat_map-append}
 use Rattle.flight.specs.Places.{origin, moved_by}
-use Rattle.status_report.specs.Replies.{reply_text}
 use Rattle.status_report.specs.declared.Reply.{Reply}
-use Rattle.status_report.specs.declared.Reply.TheVariants.{Banner}
 use Rattle.step_line.specs.Events.{events_after}
 use Rattle.step_line.specs.declared.Mark.TheVariants.{Cut, Reset as ResetMark}
 use Rattle.units.specs.declared.Move.{Move}
@@ -33,11 +30,12 @@ use Rattle.run_texts.proofs.Stops.Stop.{cut_at, reset_at}
 use Rattle.audit_rules.specs.Consoles.{Tells}
 use Rattle.audit_rules.specs.Onward.{HasCome, StandsBehind, begins_with_line}
 use Rattle.audit_rules.specs.Standing.{MayWait, Stand}
-use Rattle.audit_rules.proofs.BehindText.{BothTold, onward, waits_later}
+use Rattle.audit_rules.proofs.BehindText.{onward, waits_later}
 use Rattle.audit_rules.proofs.BehindCourses.{Compared, compare}
 use Rattle.audit_rules.proofs.BehindCourses.Compared.{further, behind, passed_by}
 use Rattle.audit_rules.proofs.BehindMade.{with_lines, made_at_once, made_of_more, front_of_course}
 use Rattle.audit_rules.proofs.Fitting.{reset_on, behind_on}
+use Rattle.audit_rules.proofs.OneLine.{told_further}
 use Rattle.audit_rules.proofs.OneWay.{stop_number}
 use Rattle.audit_rules.proofs.Replies.{all_joined, in_turn}
 use Rattle.audit_rules.proofs.Stands.{between, waits_before}
@@ -69,19 +67,6 @@ rest_leads p mid last (a_text line ∷ sent) left gone (a_line o ∷ ps) qs f g 
 rest_leads p mid last [] left gone (a_broken o ∷ ps) qs f g = absurd f
 rest_leads p mid last (a_stop ∷ sent) left gone (a_broken o ∷ ps) qs f g = absurd f
 rest_leads p mid last (a_text line ∷ sent) left gone (a_broken o ∷ ps) qs f g = rest_leads (behind_broken p o) mid last sent left gone ps qs f.1 g.1
-
--- what one console tells of two courses
-both_tell : (console : List ℕ) (us vs : List Reply) (x y : List ℕ) → Tells console us x → Tells console vs y → BothTold us vs x y
-both_tell console us vs x y a b = record {
-  one = a.behind;
-  other = b.behind;
-  one_each = a.each;
-  other_each = b.each;
-  one_is = a.are;
-  other_is = b.are;
-  text = append_cancel_left (reply_text Banner) (replies_text a.behind ++ x) (replies_text b.behind ++ y)
-      (sym (append_assoc (reply_text Banner) (replies_text a.behind) x) ∙ sym a.text ∙ b.text ∙ append_assoc (reply_text Banner) (replies_text b.behind) y);
-}
 
 -- ---- a course that has come so far, and another one
 
@@ -128,13 +113,13 @@ module _ (sent : List Sent) (console : List ℕ) (records : List Record) (since 
       let stops : stops_of course ≡ stops_of c.reached.course ++ stops_by (moved_by origin records) others =
       theirs ∙ stops_both records others origin ∙ ap (λ (ss : List Stop). ss ++ stops_by (moved_by origin records) others) (sym mine) in
       compare (opening c.first) c.point o.point sent c.left o.left c.reached.course course (stops_by (moved_by origin records) others) c.rest o.rest leads o.leads stops
-      (both_tell console (told_in c.reached.course) (told_in course) c.rest o.rest tells o.tells) c.waits o.waits
+      (told_further console c.rest o.rest (told_in c.reached.course) (told_in course) tells o.tells) c.waits o.waits
 
   -- the other one goes on behind it
   stands_further : (course os : List Passed) (others : List Record) → Other course others → course ≡ c.reached.course ++ os → (b : StandsBehind c.reached.course c.point c.left c.rest (records ++ others)) × (b.more ≡ os)
   stands_further course os others o split =
       let replies : told_in course ≡ told_in c.reached.course ++ told_in os = ap told_in split ∙ flat_map-append told_of c.reached.course os in
-      let told = both_tell console (told_in c.reached.course) (told_in c.reached.course ++ told_in os) c.rest o.rest tells (subst (λ (rs : List Reply). Tells console rs o.rest) replies o.tells) in
+      let told = told_further console c.rest o.rest (told_in c.reached.course) (told_in c.reached.course ++ told_in os) tells (subst (λ (rs : List Reply). Tells console rs o.rest) replies o.tells) in
       let on = onward (told_in c.reached.course) (told_in os) c.rest o.rest told in (
         record {
           more = os;

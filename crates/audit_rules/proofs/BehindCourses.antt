@@ -125,8 +125,8 @@ same_first s t xs ys e =
 waits_alone : {A : Type 0} (p last : Point) (line : List ℕ) (sent left : List Sent) (o u : Outcome) (us : List Reply) (qs : List Passed) (x y : List ℕ) → BecomesAt true p line o → LeadsTo (behind_broken p u) sent qs last left
     → BothTold (tells o.work ++ us) (told_in qs) x y → MayWait last left y → A
 waits_alone p last line sent left o u us qs x y is f told waits =
-    let w = waits_before (behind_broken p u) last sent left qs told.other y f told.other_is told.other_each waits refl in
-    anew_alone p line o us told.one x is told.one_is told.one_each (subst GoesOnAnew (sym told.text) (goes_on_anew (behind_broken p u) sent _ w))
+    let w = waits_before (behind_broken p u) last sent left qs told.other y f told.other_is told.other_may waits refl in
+    anew_alone p line o us told.one x is told.one_is told.one_may (subst GoesOnAnew (sym told.text) (goes_on_anew (behind_broken p u) sent _ w))
 
 -- ---- two courses
 

@@ -25,22 +25,16 @@ use Rattle.run_texts.proofs.Quiet.{opens, Quiet, line_quiet}
 use Rattle.audit_rules.specs.Consoles.{IsOnConsole, TellsNext, GoesOnAnew, is_of_reset}
 use Rattle.audit_rules.specs.Onward.{TellsNext}
 use Rattle.audit_rules.specs.Standing.{MayWait}
-use Rattle.audit_rules.proofs.OneText.{first_byte, one_first, no_bye, one_sign, same_report, report_alone, same_ended, decimal_inside}
+use Rattle.audit_rules.proofs.OneText.{ToldOn, first_byte, one_first, no_bye, one_sign, same_report, report_alone, same_ended, decimal_inside}
 use Rattle.audit_rules.proofs.OneWay.{sign_of, locked_begun, free_becomes}
 use Rattle.audit_rules.proofs.Replies.{all_reports}
 
 -- One text begins with both of these, reports aside, and goes on so behind each.
-pub record BothTold (us vs : List Reply) (x y : List ℕ) : Type 0 where
-  pub one : List Reply
-  pub other : List Reply
-  pub one_each : AllByRecursion IsOnConsole one
-  pub other_each : AllByRecursion IsOnConsole other
-  pub one_is : without_reports one ≡ us
-  pub other_is : without_reports other ≡ vs
-  pub text : replies_text one ++ x ≡ replies_text other ++ y
+abbrev pub BothTold : List Reply → List Reply → List ℕ → List ℕ → Type 0
+BothTold us vs x y = ToldOn IsOnConsole x y us vs
 
 pub turned : (us vs : List Reply) (x y : List ℕ) → BothTold us vs x y → BothTold vs us y x
-turned us vs x y b = record { one = b.other; other = b.one; one_each = b.other_each; other_each = b.one_each; one_is = b.other_is; other_is = b.one_is; text = sym b.text }
+turned us vs x y b = record { one = b.other; other = b.one; one_may = b.other_may; other_may = b.one_may; one_is = b.other_is; other_is = b.one_is; text = sym b.text }
 
 -- ---- the first reply of each
 
@@ -77,11 +71,11 @@ first_of z w us vs (r ∷ one) (q ∷ other) x y one_each other_each one_is othe
             s = replies_text one ++ x;
             t = replies_text other ++ y;
             text = ap (λ (p : Reply). reply_text p ++ (replies_text one ++ x)) (sym r_same) ∙ whole ∙ ap (λ (p : Reply). reply_text p ++ (replies_text other ++ y)) q_same;
-            on = λ same. record { one = one; other = other; one_each = one_each.1; other_each = other_each.1; one_is = one_more; other_is = other_more; text = same };
+            on = λ same. record { one = one; other = other; one_may = one_each.1; other_may = other_each.1; one_is = one_more; other_is = other_more; text = same };
           }
 
 pub first_told : (z w : Reply) (us vs : List Reply) (x y : List ℕ) → BothTold (z ∷ us) (w ∷ vs) x y → FirstTold z w us vs x y
-first_told z w us vs x y b = first_of z w us vs b.one b.other x y b.one_each b.other_each b.one_is b.other_is b.text
+first_told z w us vs x y b = first_of z w us vs b.one b.other x y b.one_may b.other_may b.one_is b.other_is b.text
 
 -- behind what both tell
 pub behind_all : (zs us vs : List Reply) (x y : List ℕ) → BothTold (zs ++ us) (zs ++ vs) x y → BothTold us vs x y
@@ -145,7 +139,7 @@ onward_of us vs (r ∷ one) (q ∷ other) x y one_each other_each one_is other_i
           on more (append_cancel_left (reply_text r) (replies_text one ++ x) (replies_text other ++ y) (whole ∙ ap (λ (p : Reply). reply_text p ++ (replies_text other ++ y)) same))
 
 pub onward : (us vs : List Reply) (x y : List ℕ) → BothTold us (us ++ vs) x y → Onward vs x y
-onward us vs x y b = onward_of us vs b.one b.other x y b.one_each b.other_each b.one_is b.other_is b.text
+onward us vs x y b = onward_of us vs b.one b.other x y b.one_may b.other_may b.one_is b.other_is b.text
 
 -- what a text tells behind reports it tells also where some of these are left out
 less : (reports replies : List Reply) (rest later : List ℕ) (first : Reply) (more : List Reply) → AllByRecursion IsOnConsole reports → AllByRecursion (λ r. is_report r ≡ true) reports → AllByRecursion IsOnConsole replies
