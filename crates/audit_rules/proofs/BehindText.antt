@@ -7,7 +7,7 @@ use Rattle.std.proofs.lemmas.Bool.{ltb-true, ltb-false, ne_eqb}
 use Rattle.std.proofs.lemmas.Bool.Decides.{nat_tests}
 use Rattle.std.proofs.lemmas.Fmt.{decimal_digit}
 use Rattle.std.proofs.lemmas.List.{append_cancel_left}
-use Rattle.status_report.specs.Answering.{without_reports, is_report}
+use Rattle.status_report.specs.Answering.{without_reports, is_report, is_banner}
 use Rattle.status_report.specs.Replies.{reply_text}
 use Rattle.status_report.specs.declared.Message.TheVariants.{Locked}
 use Rattle.status_report.specs.declared.Reply.{Reply}
@@ -17,12 +17,14 @@ use Rattle.run_rules.specs.Told.{replies_text}
 use Rattle.run_rules.specs.Work.{Outcome, tells, soft_limit}
 use Rattle.run_rules.proofs.Answering.{AnswersOrHalts}
 use Rattle.run_rules.proofs.Determined.{outcomes_agree}
+use Rattle.run_texts.specs.Courses.{Reset}
 use Rattle.run_texts.specs.Points.{Point, BecomesAt}
 use Rattle.run_texts.specs.Sent.{Sent}
+use Rattle.run_texts.specs.Told.{told_at_reset}
 use Rattle.run_texts.proofs.Determined.{line_answers}
 use Rattle.run_texts.proofs.Errors.{begun_one, told_one}
 use Rattle.run_texts.proofs.Quiet.{opens, Quiet, line_quiet}
-use Rattle.audit_rules.specs.Consoles.{IsOnConsole, TellsNext, GoesOnAnew, is_of_reset}
+use Rattle.audit_rules.specs.Consoles.{IsOnConsole, TellsNext, GoesOnWith, GoesOnAnew, is_of_reset}
 use Rattle.audit_rules.specs.Onward.{TellsNext}
 use Rattle.audit_rules.specs.Standing.{MayWait}
 use Rattle.audit_rules.proofs.OneText.{ToldOn, first_byte, one_first, no_bye, one_sign, same_report, report_alone, same_ended, decimal_inside}
@@ -368,6 +370,53 @@ same_outcome p kept o u us vs x y e f told = by_lock p.locked refl where
   by_lock false free = by_agree (outcomes_agree true p.before kept o u (free_becomes p kept o free e) (free_becomes p kept u free f))
 
 -- ---- one alarm of a reset
+
+-- a reset tells its alarm first, or the banner
+alarm_first : (reply : Reply) → is_of_reset reply ≡ true → 2 ≡ sign_of reply → true ≡ not (is_banner reply)
+alarm_first Banner e sign = absurd (omega (arith, sign))
+alarm_first (Alarm n) e sign = refl
+alarm_first Ok e sign = absurd cc
+alarm_first (Error n) e sign = absurd cc
+alarm_first (Message m) e sign = absurd cc
+alarm_first (Report r) e sign = absurd cc
+alarm_first (Setting n v) e sign = absurd cc
+alarm_first (Modes m) e sign = absurd cc
+alarm_first (Offset row at) e sign = absurd cc
+alarm_first Bye e sign = absurd cc
+
+no_banner_sign : {A : Type 0} (limit reset : Bool) → ◌≡◌ {A = ℕ} 13 (cond limit 1 (cond reset 2 3)) → A
+no_banner_sign true reset e = absurd (omega (arith, e))
+no_banner_sign false true e = absurd (omega (arith, e))
+no_banner_sign false false e = absurd (omega (arith, e))
+
+banner_first : (reply : Reply) → is_of_reset reply ≡ true → 13 ≡ sign_of reply → false ≡ not (is_banner reply)
+banner_first Banner e sign = refl
+banner_first (Alarm n) e sign = no_banner_sign (nat_eq n soft_limit) (nat_eq n 3) sign
+banner_first Ok e sign = absurd cc
+banner_first (Error n) e sign = absurd cc
+banner_first (Message m) e sign = absurd cc
+banner_first (Report r) e sign = absurd cc
+banner_first (Setting n v) e sign = absurd cc
+banner_first (Modes m) e sign = absurd cc
+banner_first (Offset row at) e sign = absurd cc
+banner_first Bye e sign = absurd cc
+
+pub alarm_told : (rest later : List ℕ) (told : List Reply) (r : Reset) (reply : Reply) → TellsNext rest (told_at_reset r ++ told) later → GoesOnWith rest reply → is_of_reset reply ≡ true → r.alarm ≡ not (is_banner reply)
+alarm_told rest later told r reply t g is = by_alarm r.alarm refl where
+  behind : List Reply
+  behind = cond r.locked (Message Locked ∷ []) []
+
+  all : Bool → List Reply
+  all alarm = (cond alarm (Alarm 3 ∷ []) [] ++ Banner ∷ behind) ++ told
+
+  sign : (first : Reply) (more : List Reply) → told_at_reset r ++ told ≡ first ∷ more → sign_of first ≡ sign_of reply
+  sign first more e =
+      let plain = of_reset_plain reply is in
+      next_sign t.replies g.reports later g.later first reply more t.each g.each g.are plain.0 plain.1 (t.are ∙ e) (sym t.text ∙ g.text)
+
+  by_alarm : (alarm : Bool) → r.alarm ≡ alarm → r.alarm ≡ not (is_banner reply)
+  by_alarm true e = e ∙ alarm_first reply is (sign (Alarm 3) (Banner ∷ (behind ++ told)) (ap all e))
+  by_alarm false e = e ∙ banner_first reply is (sign Banner (behind ++ told) (ap all e))
 
 pub same_alarm : (a b : Bool) (more less us vs : List Reply) (x y : List ℕ) → BothTold ((cond a (Alarm 3 ∷ []) [] ++ Banner ∷ more) ++ us) ((cond b (Alarm 3 ∷ []) [] ++ Banner ∷ less) ++ vs) x y → a ≡ b
 same_alarm true true more less us vs x y told = refl

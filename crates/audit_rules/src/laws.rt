@@ -1,6 +1,6 @@
 //! Laws of audits.
 
-ghost use Rattle.std.specs.Prelude.{◌≡◌, ◌↔◌, ◌≤◌, ◌+◌, true, false, ℕ, List, [], ◌∷◌, ◌++◌, length, All};
+ghost use Rattle.std.specs.Prelude.{◌≡◌, ◌↔◌, ◌≤◌, ◌+◌, true, false, not, ℕ, List, [], ◌∷◌, ◌++◌, length, All};
 ghost use Rattle.run_texts.specs.Points.{Point};
 ghost use Rattle.run_texts.specs.Sent.{Sent};
 ghost use Rattle.step_line.specs.declared.Mark.TheVariants.{Cut, Reset as ResetMark};
@@ -14,9 +14,11 @@ ghost use Rattle.run_texts.specs.Parts.{is_ending};
 ghost use Rattle.run_texts.specs.Parts.Ending.{by_cut, by_reset};
 ghost use Rattle.run_texts.specs.Recorded.{IsRecorded};
 ghost use Rattle.run_texts.specs.Told.{told_at_reset};
+ghost use Rattle.status_report.specs.Answering.{is_banner};
 ghost use Rattle.status_report.specs.declared.Reply.{Reply};
 ghost use Rattle.units.specs.declared.Steps3.{Steps3};
 ghost use Rattle.audit_rules.specs.declared.Audit.{Audit as AnyAudit};
+ghost use Rattle.audit_rules.specs.Consoles.{GoesOnWith, is_of_reset};
 ghost use Rattle.audit_rules.specs.Findings.{Finds, FitsWith, BreaksAt, IsForeign, HasForeign, IsTooLong, exit_of};
 ghost use Rattle.audit_rules.specs.Onward.{GoesOnTo, HasCome, StandsBehind, TellsNext, TellsNothing, TellsNoAlarm, begins_with_line};
 ghost use Rattle.audit_rules.specs.Scanned.{sent_in};
@@ -74,7 +76,7 @@ pub fn records_stand_behind_a_course()
 
 /// Where a cut or a reset is the next record, it comes at the point of a course that has passed the line of its number: the cut
 /// there (`cut`), or a reset that the console tells next (`reset`), and the last part is recorded so far. Behind an earlier line
-/// a course goes on with a line (`cut_later`, `reset_later`).
+/// a course goes on with a line (`cut_later`, `reset_later`). The first reply of a reset says whether it has an alarm (`alarm`).
 pub fn cuts_and_resets_come_behind_their_lines()
     ensures cut { (sent : List Sent) (console : List ℕ) (records others made : List AnyRecord) (since begun : List Outcome) (k : ℕ) (c : HasCome sent console records since begun made) → c.point.before.number ≡ k + 1 →
         Stand sent console (records ++ kinds.Mark (Cut k) ∷ others) → (at : Steps3) × IsCut c.point k × IsRecorded c.place (part_of since begun (by_cut k at)) made }
@@ -85,6 +87,7 @@ pub fn cuts_and_resets_come_behind_their_lines()
         (r : Reset) × (r.number ≡ k) × IsReset c.point c.left r × IsRecorded c.place (part_of since begun (by_reset r)) made × (told : List Reply) × (later : List ℕ) × TellsNext c.rest (told_at_reset r ++ told) later }
     ensures reset_later { (sent : List Sent) (console : List ℕ) (records others made : List AnyRecord) (since begun : List Outcome) (k : ℕ) (c : HasCome sent console records since begun made) → c.point.before.number ≤ k →
         Stand sent console (records ++ kinds.Mark (ResetMark k) ∷ others) → (b : StandsBehind c.reached.course c.point c.left c.rest (records ++ kinds.Mark (ResetMark k) ∷ others)) × (begins_with_line b.more ≡ true) }
+    ensures alarm { (rest later : List ℕ) (told : List Reply) (r : Reset) (reply : Reply) → TellsNext rest (told_at_reset r ++ told) later → GoesOnWith rest reply → is_of_reset reply ≡ true → r.alarm ≡ not (is_banner reply) }
 {}
 
 /// Of texts that fit the console stands, no reply is bad and no record breaks a rule. If they end with the alarm of a soft

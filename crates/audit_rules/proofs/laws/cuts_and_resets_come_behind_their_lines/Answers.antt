@@ -1,3 +1,4 @@
+use Rattle.audit_rules.proofs.BehindText.{alarm_told}
 use Rattle.audit_rules.proofs.BehindStops.{cut_here, cut_later, reset_here, reset_later}
 use Rattle.audit_rules.proofs.laws.cuts_and_resets_come_behind_their_lines.Goals as goal
 
@@ -12,3 +13,6 @@ returns-clause-reset c = reset_here
 
 pub returns-clause-reset_later : goal.returns-clause-reset_later
 returns-clause-reset_later c = reset_later
+
+pub returns-clause-alarm : goal.returns-clause-alarm
+returns-clause-alarm c = alarm_told
