@@ -27,11 +27,11 @@ use Rattle.audit_course.proofs.Ending.{to_tell}
 use Rattle.audit_course.proofs.Forced.{made_before}
 use Rattle.audit_course.proofs.Onward.{some_record}
 use Rattle.audit_course.proofs.Passing.{some_next}
-use Rattle.run_audit.specs.SoFar.{ConsoleSoFar, StepsSoFar, RecordsAll, TellsAll, FindsRecord, FindsReply, HearsNot, StaysRecorded, StaysTold, looked_for, next_of}
+use Rattle.audit_texts.specs.SoFar.{ConsoleSoFar, StepsSoFar, RecordsAll, TellsAll, FindsRecord, FindsReply, HearsNot, StaysRecorded, StaysTold, looked_for, next_of}
 use Rattle.run_audit.specs.Along.{IsAlong, IsAuditable, IsUntaken, LeadsAlong, Owes, RecordComes, ends_now, steps_left}
 use Rattle.run_audit.specs.declared.auditor.Auditor.{Auditor}
-use Rattle.run_audit.specs.declared.listening.Listening.{Listening}
-use Rattle.run_audit.specs.declared.recorded.Recorded.{Recorded}
+use Rattle.audit_texts.specs.declared.listening.Listening.{Listening}
+use Rattle.audit_texts.specs.declared.recorded.Recorded.{Recorded}
 
 -- ---- where the judge is
 

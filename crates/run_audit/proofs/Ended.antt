@@ -25,22 +25,24 @@ use Rattle.audit_course.specs.SoFar.{EndsLate, GoesTo, HasJudged, MayBegin, left
 use Rattle.audit_course.specs.declared.judge.CourseJudge.{CourseJudge}
 use Rattle.audit_course.proofs.Ending.{point_halts}
 use Rattle.audit_course.proofs.Onward.{ends_alone, few_cuts}
-use Rattle.run_audit.specs.Along.{AllAudited, IsAlong, IsAuditable, IsReading, IsRightly, LeadsAlong, steps_left}
+use Rattle.audit_texts.specs.Audited.{AllAudited}
+use Rattle.run_audit.specs.Along.{IsAlong, IsAuditable, IsReading, IsRightly, LeadsAlong, steps_left}
 use Rattle.run_audit.specs.Ended.{ComesToEnd, IsAtEnd, EndsAlong, EndsStepsAlong, EndStays, RefusesFit}
-use Rattle.run_audit.specs.SoFar.{AreRecords, ConsoleSoFar, EndsNot, Halts, IsAllRead, IsItem, JobSoFar, StaysSent, StepsSoFar, untold_of}
+use Rattle.audit_texts.specs.SoFar.{AreRecords, ConsoleSoFar, EndsNot, Halts, IsAllRead, IsItem, JobSoFar, StaysSent, StepsSoFar, untold_of}
 use Rattle.run_audit.specs.UnderWay.{IsNext, IsOpened, JudgeStays}
 use Rattle.run_audit.specs.declared.auditor.Auditor.{Auditor}
 use Rattle.run_audit.specs.declared.auditor.Finding.{Finding}
 use Rattle.run_audit.specs.declared.auditor.Finding.TheVariants.{Fits}
-use Rattle.run_audit.specs.declared.listening.Listening.{Listening}
-use Rattle.run_audit.specs.declared.recorded.Recorded.{Recorded}
-use Rattle.run_audit.specs.declared.sending.Item.TheVariants.{Nothing}
-use Rattle.run_audit.specs.declared.sending.Sending.{Sending}
+use Rattle.audit_texts.specs.declared.listening.Listening.{Listening}
+use Rattle.audit_texts.specs.declared.recorded.Recorded.{Recorded}
+use Rattle.audit_texts.specs.declared.sending.Item.TheVariants.{Nothing}
+use Rattle.audit_texts.specs.declared.sending.Sending.{Sending}
 use Rattle.run_audit.proofs.Along.{all_goes, fit_goes, here_goes}
 use Rattle.run_audit.proofs.FewAlong.{records_few, texts_on}
 use Rattle.run_audit.proofs.Fitting.{no_event}
-use Rattle.run_audit.proofs.JobRead.{cuts_are}
-use Rattle.run_audit.proofs.JobTold.{first_audited, lines_are, none_foreign_told, sent_few_texts}
+use Rattle.audit_texts.proofs.JobRead.{cuts_are}
+use Rattle.run_audit.proofs.LinesTold.{lines_are, sent_few_texts}
+use Rattle.audit_texts.proofs.JobTold.{first_audited, none_foreign_told}
 
 -- ---- the answer at the end
 

@@ -23,7 +23,7 @@ use Rattle.audit_course.proofs.Onward.{few_cuts}
 use Rattle.run_audit.specs.Along.{IsAlong}
 use Rattle.run_audit.specs.declared.auditor.Auditor.{Auditor}
 use Rattle.run_audit.proofs.Along.{fit_goes}
-use Rattle.run_audit.proofs.JobTold.{sent_few_texts}
+use Rattle.run_audit.proofs.LinesTold.{sent_few_texts}
 
 -- ---- the machine, the events and the cuts
 

@@ -1,5 +1,5 @@
 -- Texts that are read whole, and that the judge found to fit.
-use Rattle.std.proofs.Common.{◌≡◌, ◌≤◌, ◌<◌, ◌-◌, ◌||◌, ℕ, zero, suc, nat_lt, Bool, true, false, List, [], ◌∷◌, ◌++◌, append-nil, length, take, IfSome, sym, refl, ap, ◌∙◌, subst, arith}
+use Rattle.std.proofs.Common.{◌≡◌, ◌≤◌, ◌<◌, ◌-◌, ℕ, zero, suc, nat_lt, Bool, true, false, List, [], ◌∷◌, ◌++◌, append-nil, length, take, IfSome, sym, refl, ap, ◌∙◌, subst, arith}
 use Rattle.std.specs.declared.option.Option.{Option}
 use Rattle.std.proofs.lemmas.Bool.Decides.{nat_tests}
 use Rattle.std.proofs.lemmas.List.Elements.{filter-append}
@@ -27,10 +27,11 @@ use Rattle.audit_rules.specs.StepTexts.{IsStepText, records_of}
 use Rattle.audit_course.specs.SoFar.{IsOver}
 use Rattle.audit_course.specs.declared.judge.CourseJudge.{CourseJudge}
 use Rattle.audit_rules.proofs.Alarmed.{alarm_of}
-use Rattle.run_audit.specs.Auditing.{AllAudited}
-use Rattle.run_audit.specs.SoFar.{JobSoFar, IsWhole, IsAllRead, untold_of}
-use Rattle.run_audit.proofs.JobRead.{all_sent, front_sent, cuts_are, lines_whole}
-use Rattle.run_audit.specs.declared.sending.Sending.{Sending}
+use Rattle.audit_texts.specs.Audited.{AllAudited}
+use Rattle.audit_texts.specs.SoFar.{JobSoFar, IsWhole, IsAllRead, untold_of}
+use Rattle.audit_texts.proofs.JobRead.{all_sent, front_sent, cuts_are, lines_whole}
+use Rattle.audit_texts.proofs.JobTold.{differ, not_among, or_first, or_second}
+use Rattle.audit_texts.specs.declared.sending.Sending.{Sending}
 
 -- what is told of the job is all of it, or what comes up to the line that raises an alarm
 record EndsJob (text : List ℕ) (sent : List Sent) (cuts : ℕ) (last : Point) : Type 0 where
@@ -112,27 +113,11 @@ fit_found k s source job console steps first sent replies records lines events o
 
 -- ---- each line that is sent is audited
 
-differ : {A : Type 0} (b : Bool) → b ≡ true → b ≡ false → A
-differ true e f = absurd cc
-differ false e f = absurd cc
-
-pub or_first : (a b : Bool) → (a || b) ≡ false → a ≡ false
-or_first true b e = absurd cc
-or_first false b e = refl
-
-pub or_second : (a b : Bool) → (a || b) ≡ false → b ≡ false
-or_second true b e = absurd cc
-or_second false b e = e
-
 -- a line is not among the first of some that are audited, if it is not
 not_in_front : {A : Type 0} (xs : List (List ℕ)) (y : List ℕ) (zs : List (List ℕ)) (k : ℕ) → length xs < k → foreign_in (take k (xs ++ y ∷ zs)) ≡ false → is_foreign (kept_of y) ≡ true → A
 not_in_front xs y zs zero few none is = absurd (omega (arith, few))
 not_in_front [] y zs (suc k) few none is = differ (is_foreign (kept_of y)) is (or_first (is_foreign (kept_of y)) (foreign_in (take k zs)) none)
 not_in_front (x ∷ xs) y zs (suc k) few none is = not_in_front xs y zs k (omega (arith, few)) (or_second (is_foreign (kept_of x)) (foreign_in (take k (xs ++ y ∷ zs))) none) is
-
-pub not_among : {A : Type 0} (xs : List (List ℕ)) (y : List ℕ) (zs : List (List ℕ)) → foreign_in (xs ++ y ∷ zs) ≡ false → is_foreign (kept_of y) ≡ true → A
-not_among [] y zs none is = differ (is_foreign (kept_of y)) is (or_first (is_foreign (kept_of y)) (foreign_in zs) none)
-not_among (x ∷ xs) y zs none is = not_among xs y zs (or_second (is_foreign (kept_of x)) (foreign_in (xs ++ y ∷ zs)) none) is
 
 -- of texts that fit no line is sent that is not audited, if none was read
 pub none_foreign : {A : Type 0} (s : Sending) (source : SourceState) (job console steps : List ℕ) (told : List Sent) (events number : ℕ) (halts : Bool) → s.foreign ≡ 0 → JobSoFar s source job told → IsAllRead s halts number

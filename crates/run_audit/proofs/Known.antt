@@ -1,15 +1,10 @@
 -- What is known of texts behind a call.
-use Rattle.std.proofs.Common.{ℕ, Bool, true, false, ◌∙◌, subst}
+use Rattle.std.proofs.Common.{ℕ, ◌∙◌, subst}
 use Rattle.outside.specs.Causes.{Rose, SourceState}
-use Rattle.audit_readers.specs.Jobs.{JobRead, ReadsLine}
 use Rattle.run_audit.specs.Going.{AllSame, IsCaused}
-use Rattle.run_audit.specs.Reading.{KnowsJob, IsSame}
+use Rattle.audit_texts.specs.Reading.{IsSame}
 use Rattle.run_audit.specs.declared.auditor.Unread.{Unread}
 use Rattle.run_audit.specs.declared.auditor.Unread.TheVariants.{Job, Console, Steps}
-
-pub line_known : (old now : JobRead) (before after : SourceState) (sent : Bool) → ReadsLine old now before after sent → KnowsJob now after × IsSame before after
-line_known old now before after true r = ((r.known, r.room), r.same)
-line_known old now before after false r = ((r.known, r.room), r.same)
 
 pub rose_on : (a b c : SourceState) → IsSame a b → Rose b.faults c.faults → Rose a.faults c.faults
 rose_on a b c same rose = subst (λ (n : ℕ). Rose n c.faults) same rose

@@ -1,11 +1,8 @@
 pub mod Answered
 pub mod Known
-pub mod JobRead
-pub mod ConsoleRead
-pub mod StepsRead
 pub mod Printed
 pub mod Fitting
-pub mod JobTold
+pub mod LinesTold
 pub mod Telling
 pub mod Under
 mod Along

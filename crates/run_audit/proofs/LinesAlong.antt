@@ -22,19 +22,19 @@ use Rattle.audit_course.specs.SoFar.{GoesTo, HasJudged, HasWorkOf, AddsReset, Ad
 use Rattle.audit_course.specs.declared.MotionError.{MotionError}
 use Rattle.audit_course.specs.declared.judge.CourseJudge.{CourseJudge}
 use Rattle.audit_course.proofs.Ending.{to_tell}
-use Rattle.run_audit.specs.SoFar.{JobSoFar, StepsSoFar, IsItem, StaysSent, untold_of}
+use Rattle.audit_texts.specs.SoFar.{JobSoFar, StepsSoFar, IsItem, StaysSent, untold_of}
 use Rattle.run_audit.specs.Along.{IsAlong, IsAuditable, IsReading, LeadsAlong, BrokenComes, LineComes, ResetComes, StaysAlongIf, steps_left}
 use Rattle.run_audit.specs.Ended.{ComesToEnd, EndsAlong, IsAtEnd}
 use Rattle.run_audit.specs.declared.auditor.Auditor.{Auditor}
 use Rattle.run_audit.specs.declared.auditor.Finding.{Finding}
-use Rattle.run_audit.specs.declared.recorded.Recorded.{Recorded}
-use Rattle.run_audit.specs.declared.sending.Sending.{Sending}
-use Rattle.run_audit.specs.declared.sending.Item.{Item}
-use Rattle.run_audit.specs.declared.sending.Item.TheVariants.{Line, Stop, Nothing}
+use Rattle.audit_texts.specs.declared.recorded.Recorded.{Recorded}
+use Rattle.audit_texts.specs.declared.sending.Sending.{Sending}
+use Rattle.audit_texts.specs.declared.sending.Item.{Item}
+use Rattle.audit_texts.specs.declared.sending.Item.TheVariants.{Line, Stop, Nothing}
 use Rattle.run_audit.proofs.Along.{all_goes}
 use Rattle.run_audit.proofs.NextAlong.{none_sent}
 use Rattle.run_audit.proofs.FewAlong.{few_dropped, sent_whole, texts_of_lines, texts_on}
-use Rattle.run_audit.proofs.JobTold.{ComesNext, next_sent}
+use Rattle.audit_texts.proofs.JobTold.{ComesNext, next_sent}
 use Rattle.run_texts.proofs.Bounds.{short_work}
 
 -- ---- the job, read on

@@ -25,7 +25,7 @@ use Rattle.audit_course.proofs.Onward.{Coming, ComesBroken, ComesCut, ComesReset
 use Rattle.audit_course.proofs.Onward.Coming.{line_comes, broken_comes, cut_comes, reset_comes, end_comes}
 use Rattle.run_audit.specs.Along.{IsAlong, BrokenComes, FitsError, IsDone, IsResetTold, IsUntaken, LineComes, MayBeOfLine, Owes, ResetComes, ends_now, is_alarm}
 use Rattle.run_audit.specs.Ended.{ComesToEnd}
-use Rattle.run_audit.specs.SoFar.{is_looked_for, looked_for}
+use Rattle.audit_texts.specs.SoFar.{is_looked_for, looked_for}
 use Rattle.run_audit.specs.UnderWay.{IsNext}
 use Rattle.run_audit.specs.declared.auditor.Auditor.{Auditor}
 use Rattle.run_audit.proofs.Along.{here_goes}

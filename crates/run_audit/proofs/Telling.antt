@@ -5,7 +5,8 @@ use Rattle.audit_rules.specs.declared.Audit.{Audit}
 use Rattle.audit_rules.specs.declared.Audit.TheVariants as audits
 use Rattle.audit_rules.specs.Findings.{Finds, FitsWith}
 use Rattle.audit_rules.specs.Scanned.{scanned}
-use Rattle.run_audit.specs.Auditing.{IsAuditable, RightOf, TellsRightly, IsFirstForeign, is_found}
+use Rattle.audit_texts.specs.Audited.{IsFirstForeign}
+use Rattle.run_audit.specs.Auditing.{IsAuditable, RightOf, TellsRightly, is_found}
 use Rattle.run_audit.specs.UnderWay.{IsSaid, OnlyFits}
 use Rattle.run_audit.specs.declared.auditor.Finding.TheVariants as findings
 

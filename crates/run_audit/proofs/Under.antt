@@ -16,19 +16,19 @@ use Rattle.run_texts.specs.Sent.Sent.{a_text, a_stop}
 use Rattle.audit_course.specs.SoFar.{HasJudged, StaysSoFar, AddsSent, AddsReply, AddsRecord, AddsReset, EndsSoFar}
 use Rattle.audit_rules.specs.Findings.{FitsWith, HasForeign, IsTooLong}
 use Rattle.audit_rules.specs.Telling.{HasNoBanner}
-use Rattle.run_audit.specs.Auditing.{AllAudited}
-use Rattle.run_audit.specs.SoFar.{JobSoFar, ConsoleSoFar, StepsSoFar, IsRead, IsReadTo, IsReadOn, EndsConsole, StaysSent, StaysTold, StaysRecorded, IsWhole, AreRecords, IsAllRead}
+use Rattle.audit_texts.specs.Audited.{AllAudited}
+use Rattle.audit_texts.specs.SoFar.{JobSoFar, ConsoleSoFar, StepsSoFar, IsRead, IsReadTo, IsReadOn, EndsConsole, StaysSent, StaysTold, StaysRecorded, IsWhole, AreRecords, IsAllRead}
 use Rattle.run_audit.specs.UnderWay.{AreRead, IsUnderWay, IsDropping, IsOpened, Finishes, FinishesSteps, MayFit, CanBeRead, GoesOn, IsNext, IsShort}
 use Rattle.run_audit.specs.declared.auditor.Auditor.{Auditor}
-use Rattle.run_audit.specs.declared.listening.Listening.{Listening}
+use Rattle.audit_texts.specs.declared.listening.Listening.{Listening}
 use Rattle.run_audit.specs.declared.auditor.Finding.{Finding}
 use Rattle.run_audit.specs.declared.auditor.Finding.TheVariants.{Fits, Misfit, BadReplies, Foreign, TooLong}
-use Rattle.run_audit.specs.declared.sending.Sending.{Sending}
-use Rattle.run_audit.specs.declared.recorded.Recorded.{Recorded}
+use Rattle.audit_texts.specs.declared.sending.Sending.{Sending}
+use Rattle.audit_texts.specs.declared.recorded.Recorded.{Recorded}
 use Rattle.run_audit.proofs.Fitting.{fit_found, none_foreign}
-use Rattle.run_audit.proofs.JobTold.{told_audited}
-use Rattle.run_audit.proofs.ConsoleRead.{short_text, is_long}
-use Rattle.run_audit.proofs.StepsRead.{read_to}
+use Rattle.audit_texts.proofs.JobTold.{told_audited}
+use Rattle.audit_texts.proofs.ConsoleRead.{short_text, is_long}
+use Rattle.audit_texts.proofs.StepsRead.{read_to}
 use Rattle.audit_readers.specs.Windows.{KnowsEnd, too_long}
 
 -- ---- one step after another

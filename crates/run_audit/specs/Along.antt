@@ -20,14 +20,14 @@ use Rattle.audit_rules.specs.StepTexts.{records_of}
 use Rattle.audit_course.specs.SoFar.{HasJudged, MayFollow, EndsLate, IsErrorOf, begins_epoch, is_of_reset, left_to_tell, texts_among}
 use Rattle.audit_course.specs.declared.judge.CourseJudge.{CourseJudge}
 use Rattle.audit_course.specs.declared.MotionError.{MotionError}
-pub use Rattle.run_audit.specs.Auditing.{AllAudited, IsAuditable}
-use Rattle.run_audit.specs.SoFar.{JobSoFar, IsItem, untold_of}
+pub use Rattle.run_audit.specs.Auditing.{IsAuditable}
+use Rattle.audit_texts.specs.SoFar.{JobSoFar, IsItem, untold_of}
 use Rattle.run_audit.specs.UnderWay.{AreRead}
 use Rattle.run_audit.specs.declared.auditor.Auditor.{Auditor}
 use Rattle.run_audit.specs.declared.auditor.Finding.{Finding}
 use Rattle.run_audit.specs.declared.auditor.Finding.TheVariants.{Fits}
-use Rattle.run_audit.specs.declared.sending.Item.TheVariants.{Nothing}
-use Rattle.run_audit.specs.declared.sending.Sending.{Sending}
+use Rattle.audit_texts.specs.declared.sending.Item.TheVariants.{Nothing}
+use Rattle.audit_texts.specs.declared.sending.Sending.{Sending}
 
 -- the next of these records ends a part
 abbrev pub ends_now : List Record → Bool

@@ -1,15 +1,14 @@
 -- What an audit of three texts answers and prints.
-use Rattle.std.specs.Prelude.{◌≡◌, ◌≢◌, ◌↔◌, ℕ, ◌+◌, Bool, true, false, List, [], ◌∷◌, ◌++◌, length, Some, None}
+use Rattle.std.specs.Prelude.{◌≡◌, ◌≢◌, ◌↔◌, ℕ, Bool, true, false, List, ◌++◌, Some, None}
 use Rattle.std.specs.declared.option.Option.{Option}
 use Rattle.std.specs.Io.KnownBytes.{Appends}
 use Rattle.outside.specs.Causes.{Rose, SourceState, SinkState}
-use Rattle.run_texts.specs.Sent.{Sent, kept_of}
-use Rattle.run_texts.specs.Sent.Sent.{a_text, a_stop}
-use Rattle.audit_rules.specs.Findings.{Finds, FitsWith, IsTooLong, is_foreign, foreign_in, audit_text}
+use Rattle.audit_rules.specs.Findings.{Finds, FitsWith, IsTooLong, audit_text}
 use Rattle.audit_rules.specs.Scanned.{scanned}
 use Rattle.audit_rules.specs.Telling.{HasNoBanner}
 use Rattle.audit_rules.specs.declared.Audit.{Audit}
 use Rattle.audit_rules.specs.declared.Audit.TheVariants.{Fits, Misfit, Usage, JobFault, ConsoleFault, StepsFault, OutFault, BadReplies, Foreign, TooLong}
+use Rattle.audit_texts.specs.Audited.{AllAudited, IsFirstForeign}
 
 -- the answer speaks of the texts
 abbrev pub is_found : Audit → Bool
@@ -31,22 +30,6 @@ pub record PrintsFront (before now : SinkState) : Type 0 where
   pub back : List ℕ
   pub whole : audit_text of ≡ front ++ back
   pub held : Appends before.held now.held front
-
--- Among these lines the first that is not audited has this number.
-pub record IsFirstForeign (lines : List (List ℕ)) (line : ℕ) : Type 0 where
-  pub before : List (List ℕ)
-  pub here : List ℕ
-  pub behind : List (List ℕ)
-  pub split : lines ≡ before ++ here ∷ behind
-  pub number : line ≡ length before + 1
-  pub first : foreign_in before ≡ false
-  pub is : is_foreign (kept_of here) ≡ true
-
--- each of these lines is audited
-abbrev pub AllAudited : List Sent → Type 0
-AllAudited [] = Unit {0}
-AllAudited (a_text kept ∷ more) = (is_foreign kept ≡ false) × AllAudited more
-AllAudited (a_stop ∷ more) = AllAudited more
 
 -- Texts that fit, and of which an audit can say so: neither is too long, and each line that is sent is audited.
 pub record IsAuditable (job console steps : List ℕ) (events : ℕ) (f : FitsWith job console steps events) : Type 0 where

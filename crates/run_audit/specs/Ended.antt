@@ -14,11 +14,11 @@ use Rattle.audit_rules.specs.StepTexts.{records_of}
 use Rattle.audit_course.specs.SoFar.{GoesTo, HasJudged, RefusesEnd}
 use Rattle.audit_course.specs.declared.judge.CourseJudge.{CourseJudge}
 use Rattle.run_audit.specs.Along.{IsAlong, IsAuditable, IsRightly}
-use Rattle.run_audit.specs.SoFar.{IsAllRead}
+use Rattle.audit_texts.specs.SoFar.{IsAllRead}
 use Rattle.run_audit.specs.UnderWay.{AreRead}
 use Rattle.run_audit.specs.declared.auditor.Auditor.{Auditor}
 use Rattle.run_audit.specs.declared.auditor.Finding.{Finding}
-use Rattle.run_audit.specs.declared.listening.Listening.{Listening}
+use Rattle.audit_texts.specs.declared.listening.Listening.{Listening}
 
 -- The end comes next of texts that fit, where the judge stands: the record of the end is left of them, and behind an alarm lines that wait.
 pub record ComesToEnd (a : Auditor) (job console steps : SourceState) (job_text console_text steps_text : List ℕ) (events : ℕ) (f : FitsWith job_text console_text steps_text events)

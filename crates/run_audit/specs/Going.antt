@@ -1,6 +1,6 @@
 -- How an audit goes on over three texts.
 use Rattle.outside.specs.Causes.{Rose, SourceState}
-use Rattle.run_audit.specs.Reading.{KnowsJob, KnowsConsole, KnowsSteps, IsSame}
+use Rattle.audit_texts.specs.Reading.{KnowsJob, KnowsConsole, KnowsSteps, IsSame}
 use Rattle.run_audit.specs.declared.auditor.Auditor.{Auditor}
 use Rattle.run_audit.specs.declared.auditor.Unread.{Unread}
 use Rattle.run_audit.specs.declared.auditor.Unread.TheVariants.{Job, Console, Steps}

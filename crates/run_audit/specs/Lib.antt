@@ -1,7 +1,5 @@
 pub mod Auditing
-pub mod Reading
 pub mod Going
-pub mod SoFar
 pub mod UnderWay
 pub mod Along
 pub mod Ended

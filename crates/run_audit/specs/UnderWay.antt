@@ -13,12 +13,13 @@ use Rattle.audit_rules.specs.Findings.{FitsWith, HasForeign, IsTooLong}
 use Rattle.audit_rules.specs.Scanned.{scanned}
 use Rattle.audit_rules.specs.Telling.{HasNoBanner}
 use Rattle.audit_course.specs.SoFar.{HasJudged, EndsSoFar, MayBegin}
-use Rattle.run_audit.specs.Auditing.{AllAudited, IsAuditable, IsFirstForeign}
+use Rattle.audit_texts.specs.Audited.{AllAudited, IsFirstForeign}
+use Rattle.run_audit.specs.Auditing.{IsAuditable}
 use Rattle.run_audit.specs.declared.auditor.Auditor.{Auditor}
 use Rattle.run_audit.specs.declared.auditor.Finding.{Finding}
 use Rattle.run_audit.specs.declared.auditor.Finding.TheVariants.{Fits, Misfit, BadReplies, Foreign, TooLong}
-use Rattle.run_audit.specs.SoFar.{ConsoleSoFar, IsAllRead, IsReadTo, IsWhole, JobSoFar, Opens, StepsSoFar}
-use Rattle.run_audit.specs.declared.listening.Listening.{Listening}
+use Rattle.audit_texts.specs.SoFar.{ConsoleSoFar, IsAllRead, IsReadTo, IsWhole, JobSoFar, Opens, StepsSoFar}
+use Rattle.audit_texts.specs.declared.listening.Listening.{Listening}
 
 pub record AreRead (a : Auditor) (job console steps : SourceState) (job_text console_text steps_text : List ℕ) (sent : List Sent) (replies : List Reply) (records : List Record) : Type 0 where
   pub job_so_far : JobSoFar a.sending job job_text sent

@@ -11,15 +11,13 @@ ghost use Rattle.step_line.specs.declared.Record.{Record as AnyRecord};
 ghost use Rattle.run_texts.specs.Parts.{is_ending};
 ghost use Rattle.audit_course.specs.SoFar.{begins_epoch};
 ghost use Rattle.run_audit.specs.Along.{StaysAlong, StaysAlongIf, ReadsAlongIf, FindsAlong, RecordComes, IsUntaken, IsDone, IsResetTold, Owes, FitsError, LineComes};
-ghost use Rattle.run_audit.specs.Reading.{KnowsJob, KnowsConsole, KnowsSteps, IsSame};
+ghost use Rattle.audit_texts.specs.Reading.{KnowsJob, KnowsConsole, KnowsSteps, IsSame};
 ghost use Rattle.run_audit.specs.Going.{AllKnown, AllSame, IsCaused};
-ghost use Rattle.run_audit.specs.SoFar.{StepsSoFar, IsItem, looked_for};
+ghost use Rattle.audit_texts.specs.SoFar.{StepsSoFar, IsItem, looked_for};
 ghost use Rattle.run_audit.specs.UnderWay.{IsOpened, IsNext, GoesOn, IsSaid, OnlyFits};
 
-use crate::listening::Listening;
-use crate::recorded::Recorded;
-use crate::sending::{Item, Sending};
 use audit_course::{CourseJudge, MotionError, Next};
+use audit_texts::{Item, Listening, Recorded, Sending};
 use outside::Source;
 use status_report::{Message, Reply};
 use step_line::{Mark, Record};

@@ -3,17 +3,17 @@
 ghost use Rattle.std.specs.Prelude.{◌≡◌, ◌≤◌, ℕ, List, Some, None, true, false, MatchResult, IfOk, IsTrue};
 ghost use Rattle.step_line.specs.declared.Record.TheVariants as kinds;
 ghost use Rattle.outside.specs.Causes.{Rose, SourceState};
-ghost use Rattle.run_audit.specs.Reading.{KnowsJob, KnowsConsole, KnowsSteps, IsSame};
+ghost use Rattle.audit_texts.specs.Reading.{KnowsJob, KnowsConsole, KnowsSteps, IsSame};
 ghost use Rattle.run_audit.specs.Going.{AllKnown, AllSame, IsCaused, EndFails};
 ghost use Rattle.audit_rules.specs.Findings.{IsTooLong};
 ghost use Rattle.run_audit.specs.Along.{IsRightly};
 ghost use Rattle.run_audit.specs.Ended.{EndsAlong, EndsStepsAlong, EndStays, RefusesFit};
-ghost use Rattle.run_audit.specs.SoFar.{Halts, IsAllRead, IsItem, IsRead, StaysSent};
+ghost use Rattle.audit_texts.specs.SoFar.{Halts, IsAllRead, IsItem, IsRead, StaysSent};
 ghost use Rattle.run_audit.specs.declared.auditor.Finding.{Finding as AnyFinding};
 ghost use Rattle.run_audit.specs.UnderWay.{IsUnderWay, OthersStay, JudgeStays, Finishes, FinishesSteps, MayFit, IsNext, CanBeRead, IsRight, IsSaid};
 
 use crate::auditor::{Auditor, Finding, Unread};
-use crate::sending::Item;
+use audit_texts::Item;
 use outside::Source;
 use step_line::Record;
 

@@ -4,10 +4,7 @@
 mod auditor;
 mod ending;
 mod laws;
-mod listening;
-mod recorded;
 mod resetting;
-mod sending;
 mod writing;
 
 pub use audit_rules::Audit;

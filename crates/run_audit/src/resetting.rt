@@ -5,13 +5,13 @@ ghost use Rattle.outside.specs.Causes.{Rose, SourceState};
 ghost use Rattle.step_line.specs.declared.Mark.TheVariants.{Reset as ResetMark};
 ghost use Rattle.step_line.specs.declared.Record.TheVariants as kinds;
 ghost use Rattle.run_texts.specs.Sent.Sent.{a_text, a_stop};
-ghost use Rattle.run_audit.specs.Reading.{KnowsJob, IsSame};
-ghost use Rattle.run_audit.specs.SoFar.{IsItem};
+ghost use Rattle.audit_texts.specs.Reading.{KnowsJob, IsSame};
+ghost use Rattle.audit_texts.specs.SoFar.{IsItem};
 ghost use Rattle.run_audit.specs.UnderWay.{IsUnderWay, IsDropping, IsNext, GoesOn, mark_of};
 ghost use Rattle.run_audit.specs.Along.{StaysAlongIf, ReadsAlongIf, IsUntaken, IsDone, IsResetTold, MayBeOfLine, BrokenComes, ResetComes, is_alarm};
 
 use crate::auditor::{Auditor, Finding, Unread, is_ending};
-use crate::sending::Item;
+use audit_texts::Item;
 use outside::Source;
 use status_report::Reply;
 use step_line::{Mark, Record};

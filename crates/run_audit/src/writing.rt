@@ -9,9 +9,9 @@ ghost use Rattle.run_audit.specs.Auditing.{IsAnswered, IsOfTexts, RightOf, Tells
 ghost use Rattle.run_audit.specs.UnderWay.{IsSaid, OnlyFits};
 
 use crate::auditor::{Auditor, Finding, Unread};
-use crate::recorded::Recorded;
 use audit_readers::put_audit;
 use audit_rules::Audit;
+use audit_texts::Recorded;
 use outside::{Failed, Sink, Source, write_text};
 use units::Text;
 

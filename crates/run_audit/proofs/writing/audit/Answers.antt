@@ -1,6 +1,6 @@
 use Rattle.std.proofs.Common.{sym, subst}
-use Rattle.run_audit.specs.Reading.{KnowsSteps}
-use Rattle.run_audit.specs.declared.recorded.Recorded.{Recorded}
+use Rattle.audit_texts.specs.Reading.{KnowsSteps}
+use Rattle.audit_texts.specs.declared.recorded.Recorded.{Recorded}
 use Rattle.run_audit.proofs.Under.{goes_on_by}
 use Rattle.run_audit.proofs.writing.audit.Goals as goal
 

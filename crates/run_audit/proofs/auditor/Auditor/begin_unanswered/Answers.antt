@@ -1,7 +1,7 @@
 use Rattle.run_audit.proofs.Under.{broken_by}
 use Rattle.std.proofs.Common.{◌≡◌, ◌⊎◌, ◌∙◌, inl, inr, sym}
-use Rattle.run_audit.specs.declared.sending.Item.{Item}
-use Rattle.run_audit.specs.declared.sending.Item.TheVariants.{Line, Stop, Nothing}
+use Rattle.audit_texts.specs.declared.sending.Item.{Item}
+use Rattle.audit_texts.specs.declared.sending.Item.TheVariants.{Line, Stop, Nothing}
 use Rattle.run_audit.proofs.auditor.Auditor.begin_unanswered.Goals as goal
 
 -- it is a line, and nothing else

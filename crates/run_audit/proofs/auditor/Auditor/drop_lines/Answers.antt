@@ -3,10 +3,10 @@ use Rattle.std.proofs.lemmas.List.{length_push}
 use Rattle.audit_readers.specs.Jobs.{JobRead}
 use Rattle.run_texts.specs.Sent.Sent.{a_text, a_stop}
 use Rattle.run_audit.specs.Along.{is_alarm}
-use Rattle.run_audit.specs.Reading.{KnowsJob}
-use Rattle.run_audit.specs.SoFar.{IsItem}
+use Rattle.audit_texts.specs.Reading.{KnowsJob}
+use Rattle.audit_texts.specs.SoFar.{IsItem}
 use Rattle.run_audit.specs.UnderWay.{mark_of}
-use Rattle.run_audit.specs.declared.sending.Item.{Item}
+use Rattle.audit_texts.specs.declared.sending.Item.{Item}
 use Rattle.run_audit.specs.declared.auditor.Auditor.{Auditor}
 use Rattle.run_audit.proofs.Under.{drops_none, drops_on, drops_more, line_dropped, dropping_read, bad_found, next_stays}
 use Rattle.run_audit.proofs.LinesAlong.{line_drops, never_nothing, none_dropped, not_so_many, stop_comes}

@@ -3,7 +3,7 @@ use Rattle.outside.specs.Causes.{SourceState}
 use Rattle.run_texts.specs.Sent.Sent.{a_text}
 use Rattle.audit_rules.specs.Findings.{FitsWith}
 use Rattle.run_audit.specs.Along.{IsAlong, ResetComes, is_alarm, steps_left}
-use Rattle.run_audit.specs.Reading.{KnowsJob, IsSame}
+use Rattle.audit_texts.specs.Reading.{KnowsJob, IsSame}
 use Rattle.run_audit.specs.UnderWay.{IsUnderWay, IsDropping, OthersStay}
 use Rattle.run_audit.proofs.LinesAlong.{IsDroppingAlong}
 use Rattle.run_audit.proofs.auditor.Auditor.drop_lines.Given as goal

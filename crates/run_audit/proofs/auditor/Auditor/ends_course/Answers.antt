@@ -1,5 +1,5 @@
 use Rattle.std.proofs.Common.{◌≤◌, ℕ, Bool, subst, sym}
-use Rattle.run_audit.specs.SoFar.{IsAllRead}
+use Rattle.audit_texts.specs.SoFar.{IsAllRead}
 use Rattle.run_audit.proofs.auditor.Auditor.ends_course.Goals as goal
 
 pub returns-then-end-clause-ends : goal.returns-then-end-clause-ends

@@ -1,10 +1,10 @@
 use Rattle.std.proofs.Common.{subst}
 use Rattle.run_audit.specs.declared.auditor.Auditor.{Auditor}
-use Rattle.run_audit.proofs.StepsRead.{read_to}
+use Rattle.audit_texts.proofs.StepsRead.{read_to}
 use Rattle.run_audit.proofs.Under.{reads_on, goes_then, goes_on_by, bad_found, can_be_read, read_console, finish_on}
 use Rattle.run_audit.specs.Along.{FitsError, IsUntaken}
-use Rattle.run_audit.specs.SoFar.{IsItem}
-use Rattle.run_audit.specs.declared.sending.Item.{Item}
+use Rattle.audit_texts.specs.SoFar.{IsItem}
+use Rattle.audit_texts.specs.declared.sending.Item.{Item}
 use Rattle.run_audit.proofs.LinesAlong.{comes_by_line, comes_to_end, end_along, never_stops, not_dropped}
 use Rattle.run_audit.proofs.NextAlong.{line_or_end}
 use Rattle.run_audit.proofs.Ended.{job_ends}

@@ -1,5 +1,5 @@
 use Rattle.std.proofs.Common.{Bool, refl, subst}
-use Rattle.run_audit.specs.SoFar.{EndsConsole, EndsNot}
+use Rattle.audit_texts.specs.SoFar.{EndsConsole, EndsNot}
 use Rattle.run_audit.specs.declared.auditor.Auditor.{Auditor}
 use Rattle.run_audit.proofs.Ended.{console_ends, no_reply_follows}
 use Rattle.run_audit.proofs.Under.{bad_end, ended_read, whole_end, goes_on_by}

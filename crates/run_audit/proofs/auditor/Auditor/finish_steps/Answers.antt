@@ -2,12 +2,12 @@ use Rattle.std.proofs.Common.{◌≡◌, ◌∙◌, ◌∷◌, ◌++◌, [], fal
 use Rattle.std.specs.declared.option.Option.{Option}
 use Rattle.step_line.specs.declared.Record.{Record}
 use Rattle.step_line.specs.declared.Record.TheVariants as kinds
-use Rattle.run_audit.specs.SoFar.{IsReadTo, StepsSoFar}
+use Rattle.audit_texts.specs.SoFar.{IsReadTo, StepsSoFar}
 use Rattle.run_audit.specs.UnderWay.{IsNext}
 use Rattle.run_audit.specs.declared.auditor.Auditor.{Auditor}
-use Rattle.run_audit.specs.declared.recorded.Recorded.{Recorded}
+use Rattle.audit_texts.specs.declared.recorded.Recorded.{Recorded}
 use Rattle.run_audit.proofs.Ended.{ends_rightly, may_end, none_follows, not_broken_off}
-use Rattle.run_audit.proofs.StepsRead.{read_to}
+use Rattle.audit_texts.proofs.StepsRead.{read_to}
 use Rattle.run_audit.proofs.Under.{steps_break, steps_fit, not_broken}
 use Rattle.run_audit.proofs.auditor.Auditor.finish_steps.Goals as goal
 

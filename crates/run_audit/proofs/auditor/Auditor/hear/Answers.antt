@@ -1,9 +1,9 @@
 use Rattle.std.proofs.Common.{◌∷◌, ◌++◌, [], Bool, drop, refl, subst}
 use Rattle.run_rules.specs.Work.{tells}
-use Rattle.run_audit.specs.SoFar.{Hears, HearsNot}
+use Rattle.audit_texts.specs.SoFar.{Hears, HearsNot}
 use Rattle.run_audit.specs.declared.auditor.Auditor.{Auditor}
 use Rattle.run_audit.proofs.Under.{reply_told, bad_found, can_be_read}
-use Rattle.run_audit.proofs.StepsRead.{read_to}
+use Rattle.audit_texts.proofs.StepsRead.{read_to}
 use Rattle.run_audit.proofs.Along.{never_unheard, next_of_line, reply_along}
 use Rattle.run_audit.proofs.auditor.Auditor.hear.Goals as goal
 

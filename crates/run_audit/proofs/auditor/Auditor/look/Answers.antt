@@ -1,7 +1,7 @@
 use Rattle.std.proofs.Common.{None, Some, subst, arith}
 use Rattle.std.specs.declared.option.Option.{Option}
 use Rattle.step_line.specs.declared.Record.{Record}
-use Rattle.run_audit.specs.SoFar.{FindsRecord}
+use Rattle.audit_texts.specs.SoFar.{FindsRecord}
 use Rattle.run_audit.specs.declared.auditor.Auditor.{Auditor}
 use Rattle.run_audit.proofs.Along.{found_along}
 use Rattle.run_audit.proofs.Under.{reads_on, broken_by, goes_then}

@@ -1,5 +1,5 @@
 use Rattle.std.proofs.Common.{◌∙◌, ap}
-use Rattle.run_audit.specs.declared.sending.Sending.{Sending}
+use Rattle.audit_texts.specs.declared.sending.Sending.{Sending}
 use Rattle.run_audit.proofs.auditor.Auditor.read_all.Goals as goal
 
 pub returns-clause-right : goal.returns-clause-right

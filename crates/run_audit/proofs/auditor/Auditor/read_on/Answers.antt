@@ -1,7 +1,7 @@
 use Rattle.std.proofs.Common.{◌≡◌, ◌∙◌, true, ap, refl, subst, sym}
-use Rattle.run_audit.specs.SoFar.{IsItem}
-use Rattle.run_audit.specs.declared.sending.Item.TheVariants.{Nothing}
-use Rattle.run_audit.specs.declared.sending.Sending.{Sending}
+use Rattle.audit_texts.specs.SoFar.{IsItem}
+use Rattle.audit_texts.specs.declared.sending.Item.TheVariants.{Nothing}
+use Rattle.audit_texts.specs.declared.sending.Sending.{Sending}
 use Rattle.run_audit.proofs.auditor.Auditor.read_on.Goals as goal
 
 -- nothing is read behind the end, one time more

@@ -1,9 +1,9 @@
 use Rattle.std.proofs.Common.{◌≡◌, List, ℕ, true}
 use Rattle.outside.specs.Causes.{SourceState}
-use Rattle.run_audit.specs.Reading.{KnowsJob, IsSame}
-use Rattle.run_audit.specs.SoFar.{IsItem}
+use Rattle.audit_texts.specs.Reading.{KnowsJob, IsSame}
+use Rattle.audit_texts.specs.SoFar.{IsItem}
 use Rattle.run_audit.specs.UnderWay.{CanBeRead, OthersStay}
-use Rattle.run_audit.specs.declared.sending.Item.TheVariants.{Nothing}
+use Rattle.audit_texts.specs.declared.sending.Item.TheVariants.{Nothing}
 use Rattle.run_audit.proofs.auditor.Auditor.read_on.Given as goal
 
 abbrev pub invariant-rest : goal.invariant-rest

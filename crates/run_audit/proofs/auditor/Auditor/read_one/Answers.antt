@@ -1,8 +1,8 @@
 use Rattle.std.proofs.Common.{refl, subst}
 use Rattle.run_texts.specs.Sent.Sent.{a_text, a_stop}
-use Rattle.run_audit.specs.SoFar.{IsItem}
+use Rattle.audit_texts.specs.SoFar.{IsItem}
 use Rattle.run_audit.specs.declared.auditor.Auditor.{Auditor}
-use Rattle.run_audit.specs.declared.sending.Item.{Item}
+use Rattle.audit_texts.specs.declared.sending.Item.{Item}
 use Rattle.run_audit.proofs.Under.{read_sent, taken_read}
 use Rattle.run_audit.proofs.auditor.Auditor.read_one.Goals as goal
 

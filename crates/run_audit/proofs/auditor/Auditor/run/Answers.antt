@@ -1,7 +1,7 @@
 use Rattle.std.proofs.Common.{[], Bool, arith, refl, subst, rules}
 use Rattle.std.specs.declared.option.Option.{Option}
 use Rattle.run_audit.specs.Along.{StaysAlong, steps_left}
-use Rattle.run_audit.specs.SoFar.{Hears}
+use Rattle.audit_texts.specs.SoFar.{Hears}
 use Rattle.run_audit.specs.UnderWay.{GoesOn}
 use Rattle.run_audit.specs.declared.auditor.Finding.{Finding}
 use Rattle.run_audit.proofs.Ended.{begins_along, begins_with_banner, goes_on_along}

@@ -3,7 +3,7 @@ use Rattle.step_line.specs.declared.Mark.TheVariants.{Reset as ResetMark}
 use Rattle.step_line.specs.declared.Record.{Record}
 use Rattle.step_line.specs.declared.Record.TheVariants as kinds
 use Rattle.audit_course.specs.SoFar.{AddsReset, RefusesReset}
-use Rattle.run_audit.specs.SoFar.{StepsSoFar}
+use Rattle.audit_texts.specs.SoFar.{StepsSoFar}
 use Rattle.run_audit.specs.declared.auditor.Auditor.{Auditor}
 use Rattle.run_audit.proofs.Under.{reset_told, reset_untold}
 use Rattle.run_audit.proofs.FewAlong.{few_dropped, place_along}

@@ -1,0 +1,4 @@
+pub mod JobRead
+pub mod JobTold
+pub mod ConsoleRead
+pub mod StepsRead
