@@ -236,6 +236,13 @@ impl CourseJudge {
         true
     }
 
+    /// Whether the last line is not answered.
+    pub fn is_unanswered(&self) -> bool
+        ensures { result ≡ self.now.unanswered }
+    {
+        self.unanswered
+    }
+
     /// The number of the next line.
     pub fn number(&self) -> u32
         ensures { result ≡ self.now.work.number }
