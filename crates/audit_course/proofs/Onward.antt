@@ -91,6 +91,7 @@ pub record ComesReset (p : Point) (more : List Sent) (told : List Reply) (r : Re
   pub others : List Reply
   pub mark : r ≡ kinds.Mark (marks.Reset k)
   pub free : p.before.alarmed ≡ false
+  pub cause : alarm ≡ true → (p.before.moved || p.before.jog_moved) ≡ true
   pub number : k + 1 ≡ p.before.number
   pub sent_are : more ≡ map a_text lines ++ a_stop ∷ behind
   pub told_are : told ≡ (cond alarm (Alarm 3 ∷ []) [] ++ Banner ∷ cond (alarm || p.locked) (Message Locked ∷ []) []) ++ others
@@ -301,6 +302,7 @@ reset_next p last place u more told rest r ps is mark f e are =
       others = told_in ps;
       mark = mark;
       free = is.free;
+      cause = is.cause;
       number = number;
       sent_are = waits_for more is.comes;
       told_are = e ∙ ap (λ (b : Bool). (cond u.alarm (Alarm 3 ∷ []) [] ++ Banner ∷ cond b (Message Locked ∷ []) []) ++ told_in ps) is.locked;

@@ -34,7 +34,7 @@ use Rattle.audit_course.specs.declared.ticks.Ticks.{Ticks}
 use Rattle.audit_course.specs.declared.ticks.Ticks.TheVariants as standing
 use Rattle.audit_course.specs.Progressing.{has_ticks, has_halt, ends_none, is_code, is_whole, behind_record, ticks_to, moved_now, fresh}
 use Rattle.audit_course.specs.Here.{StandsAlike}
-use Rattle.audit_course.specs.SoFar.{GoesTo, HasJudged, KnowsTicks, AreSo, AreNow, OfLine, IsNoLine, OwesBehind, IsIdle, left_to_tell}
+use Rattle.audit_course.specs.SoFar.{GoesTo, HasJudged, KnowsTicks, AreSo, AreNow, OfLine, IsNoLine, OwesBehind, IsIdle, has_moved, left_to_tell}
 
 -- ---- a record
 
@@ -245,6 +245,16 @@ line_closed j l moved jog_moved answered code settled first sent replies records
   back = s.back;
   forth = λ n more told rest last may. s.forth n more told rest last (record { late = may.late; resets = may.resets });
 }
+
+-- where the line at hand is done, that is what has moved
+pub moved_here : (j : CourseJudge) (p : Point) (hand : List Outcome) → OfLine j p hand → j.work.left ≡ []
+    → (p.before.moved || p.before.jog_moved) ≡ has_moved j
+moved_here j p hand o done =
+    ap (λ (b : Bool). b || p.before.jog_moved) (o.moved ∙ ap (λ (b : Bool). not j.line.settles && (accepted_code (kind_told j.line.accepted) && b || j.moved)) all)
+    ∙ ap (λ (b : Bool). moved_now (accepted_code (kind_told j.line.accepted)) j.line j.moved || b)
+    (o.jog_moved ∙ ap (λ (b : Bool). not j.line.settles && (accepted_jog (kind_told j.line.accepted) && b || j.jog_moved)) all) where
+      all : has_moves o.work ≡ j.line.moves
+      all = sym o.moves ∙ ap (λ (ts : List Task). j.line.moves || has_moves ts) done ∙ or_none j.line.moves
 
 pub none_of : (xs ys : List Record) → xs ++ ys ≡ [] → (xs ≡ []) × (ys ≡ [])
 none_of [] ys e = (refl, e)

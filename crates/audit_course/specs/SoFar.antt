@@ -37,7 +37,7 @@ use Rattle.audit_course.specs.declared.Progress.{Progress}
 use Rattle.audit_course.specs.declared.ticks.Ticks.{Ticks}
 use Rattle.audit_course.specs.declared.ticks.Ticks.TheVariants as standing
 use Rattle.audit_course.specs.declared.judge.CourseJudge.{CourseJudge}
-use Rattle.audit_course.specs.Progressing.{has_ticks, has_halt, ends_none, is_code, is_whole, ticks_to, fresh}
+use Rattle.audit_course.specs.Progressing.{has_ticks, has_halt, ends_none, is_code, is_whole, moved_now, ticks_to, fresh}
 
 -- What is left of texts that fit goes on to this point, from another one on: `GoesOn` of `run_texts`, with the point told.
 pub record GoesTo (p : Point) (since begun : List Outcome) (place : Steps3) (cuts : ℕ) (sent : List Sent) (replies : List Reply) (records : List Record) (last : Point) : Type 0 where
@@ -66,6 +66,10 @@ abbrev pub left_to_tell : CourseJudge → List Reply
 left_to_tell j = cond j.unanswered [] (tells j.work.left)
 
 -- ---- the line at hand
+
+-- lines have moved up to it, since an answered line settled
+abbrev pub has_moved : CourseJudge → Bool
+has_moved j = moved_now (accepted_code (kind_told j.line.accepted)) j.line j.moved || moved_now (accepted_jog (kind_told j.line.accepted)) j.line j.jog_moved
 
 -- no line is at hand: none settles, and nothing is accepted
 pub record IsNoLine (l : Progress) (hand : List Outcome) : Type 0 where

@@ -8,7 +8,7 @@ ghost use Rattle.line_interpreter.specs.Desks.{kind_told};
 ghost use Rattle.line_interpreter.specs.Keeping.{IsKept};
 ghost use Rattle.audit_course.specs.Progressing.{moved_now, fresh};
 ghost use Rattle.audit_course.specs.Here.{StandsAsBefore};
-ghost use Rattle.audit_course.specs.SoFar.{StaysSoFar, AreNow, AddsSent, RefusesLine, MayBegin, IsIdle, FindsRight, FindsStill, TellsAlone, HasWorkOf};
+ghost use Rattle.audit_course.specs.SoFar.{has_moved, StaysSoFar, AreNow, AddsSent, RefusesLine, MayBegin, IsIdle, FindsRight, FindsStill, TellsAlone, HasWorkOf};
 ghost use Rattle.audit_course.specs.Heard.{KeepsPoint, StaysHeard, HearsSent, TellsFound, HearsAlone, HearsNoLine};
 
 use crate::machines::unlocks;
@@ -234,6 +234,16 @@ impl CourseJudge {
         let machine = self.still_machine();
         self.break_line(line, machine);
         true
+    }
+
+    /// Whether lines have moved up to the last one, since an answered line settled: then the alarm of a reset has a cause.
+    pub fn has_moved(&self) -> bool
+        ensures { result ≡ has_moved self.now }
+    {
+        let line = self.line;
+        let code = line.moved_now(line.is_code(), self.moved);
+        let jogs = line.moved_now(line.is_jog(), self.jog_moved);
+        code || jogs
     }
 
     /// Whether the last line is not answered.
