@@ -30,6 +30,8 @@ const REPORTED: &[u8] =
 const RESET: &[u8] =
     b"\r\nGrbl 1.1h ['$' for help]\r\nok\r\n\r\nGrbl 1.1h ['$' for help]\r\nok\r\n";
 
+const TWO_BANNERS: &[u8] = b"\r\nGrbl 1.1h ['$' for help]\r\n\r\nGrbl 1.1h ['$' for help]\r\n";
+
 /// One step, and the text of its run.
 const STEP: &[u8] = b"G0X0.004";
 
@@ -275,6 +277,21 @@ fn bad_replies_and_lines_that_are_not_audited_are_told(rt: HostRuntime) -> Resul
             steps: STEPS,
             found: Audit::Fits { events: 1 },
             said: b"fits: 1 events\n",
+        },
+    ];
+    expect_found(&rt, rt.alloc(), ROWS)
+}
+
+#[test]
+fn replies_are_judged_where_no_record_counts(rt: HostRuntime) -> Result<(), Fail> {
+    const ROWS: &[Row] = &[
+        // A line was begun, no reset comes of the job, and another line waits.
+        Row {
+            job: b"G0X1\nG0X2\n",
+            console: TWO_BANNERS,
+            steps: b"s 1 250 0 0\nX+\nE\n",
+            found: Audit::BadReplies { line: 1 },
+            said: b"replies differ at line 1\n",
         },
     ];
     expect_found(&rt, rt.alloc(), ROWS)

@@ -1,6 +1,6 @@
 //! The resets of an audit, and the lines that they keep from their answers.
 
-ghost use Rattle.std.specs.Prelude.{◌≡◌, ◌↔◌, ◌+◌, ◌∷◌, ◌++◌, ◌&&◌, [], ℕ, List, Some, None, MatchResult, IfOk, IfSome, IsTrue, false, not, length, map};
+ghost use Rattle.std.specs.Prelude.{◌≡◌, ◌↔◌, ◌+◌, ◌-◌, ◌∷◌, ◌++◌, ◌&&◌, [], ℕ, List, Some, None, MatchResult, IfOk, IfSome, IsTrue, true, false, not, length, map};
 ghost use Rattle.outside.specs.Causes.{Rose, SourceState};
 ghost use Rattle.step_line.specs.declared.Mark.TheVariants.{Reset as ResetMark};
 ghost use Rattle.step_line.specs.declared.Record.TheVariants as kinds;
@@ -162,10 +162,15 @@ impl Auditor {
         Ok(Some(self.bad_behind()))
     }
 
-    /// No reset comes of the job: the line that waits has none of the replies that it may have.
+    /// No reset comes of the job: the line that waits has none of the replies that it may have. Where one was begun, to be kept from
+    /// its answer, it is that line, whatever waits behind it.
     fn none_comes(&self, waiting: u32) -> Finding
-        ensures { (line : ℕ) × (result ≡ Finding.BadReplies line) }
+        ensures bad { (line : ℕ) × (result ≡ Finding.BadReplies line) }
+        ensures begun { self.now.course.unanswered ≡ true → result ≡ Finding.BadReplies (self.now.course.work.number - 1) }
     {
+        if self.course.is_unanswered() {
+            return Finding::BadReplies(self.course.number().saturating_sub(1));
+        }
         if waiting == 0 {
             return self.bad_behind();
         }

@@ -81,7 +81,7 @@ returns-in-Ok-Nothing-clause-goes_on g c = λ console steps.
     let b : Auditor = record a { sending = c.look.new.self } in
     let before = g.J.Source.state c.lines.job in
     let after = g.J.Source.state c.look.new.source in
-    bad_found c.args.self.now b (g.J.Source.state c.args.job.now) console steps after console steps c.none_comes.result c.none_comes.ensures
+    bad_found c.args.self.now b (g.J.Source.state c.args.job.now) console steps after console steps c.none_comes.result c.none_comes.ensures.bad
     (λ jt ct st u.
     let d = i.dropping console steps jt ct st u in
     dropping_read b after console steps jt ct st (map a_text d.0) (drops_on a b before console steps after (map a_text d.0) jt ct st c.in-Ok-Nothing.ensures.so_far (λ t told h. h) (λ t told h. h) (λ none. (none, λ f ss rs xs h. h)) d.2))
