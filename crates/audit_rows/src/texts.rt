@@ -32,6 +32,16 @@ const RESET: &[u8] =
 
 const TWO_BANNERS: &[u8] = b"\r\nGrbl 1.1h ['$' for help]\r\n\r\nGrbl 1.1h ['$' for help]\r\n";
 
+/// Consoles of a reset with its alarm, behind no answer, one and two.
+const ALARM: &[u8] =
+    b"\r\nGrbl 1.1h ['$' for help]\r\nALARM:3\r\n\r\nGrbl 1.1h ['$' for help]\r\n[MSG:'$H'|'$X' to unlock]\r\nok\r\n";
+
+const OK_ALARM: &[u8] =
+    b"\r\nGrbl 1.1h ['$' for help]\r\nok\r\nALARM:3\r\n\r\nGrbl 1.1h ['$' for help]\r\n[MSG:'$H'|'$X' to unlock]\r\nok\r\n";
+
+const TWO_OK_ALARM: &[u8] =
+    b"\r\nGrbl 1.1h ['$' for help]\r\nok\r\nok\r\nALARM:3\r\n\r\nGrbl 1.1h ['$' for help]\r\n[MSG:'$H'|'$X' to unlock]\r\nok\r\n";
+
 /// One step, and the text of its run.
 const STEP: &[u8] = b"G0X0.004";
 
@@ -292,6 +302,51 @@ fn replies_are_judged_where_no_record_counts(rt: HostRuntime) -> Result<(), Fail
             steps: b"s 1 250 0 0\nX+\nE\n",
             found: Audit::BadReplies { line: 1 },
             said: b"replies differ at line 1\n",
+        },
+        // A reset has its alarm, and nothing has moved that it could have stopped: at once, and behind a line that settles.
+        Row {
+            job: b"\x18\n",
+            console: ALARM,
+            steps: b"Z 0\nE\n",
+            found: Audit::BadReplies { line: 1 },
+            said: b"replies differ at line 1\n",
+        },
+        Row {
+            job: b"G0X0.004\nM3S100\n\x18\n",
+            console: TWO_OK_ALARM,
+            steps: b"s 1 1 0 0\nX-\nZ 2\nE\n",
+            found: Audit::BadReplies { line: 3 },
+            said: b"replies differ at line 3\n",
+        },
+        // The line that waits may have been begun, and moves none; that behind it can't have been.
+        Row {
+            job: b"M8\n\x18\n",
+            console: ALARM,
+            steps: b"Z 0\nE\n",
+            found: Audit::BadReplies { line: 1 },
+            said: b"replies differ at line 1\n",
+        },
+        Row {
+            job: b"M8\nM9\nG0X0.004\n\x18\n",
+            console: OK_ALARM,
+            steps: b"X-\nE\n",
+            found: Audit::BadReplies { line: 2 },
+            said: b"replies differ at line 2\n",
+        },
+        // It may have been begun, and moves.
+        Row {
+            job: b"G0X0.004\n\x18\n",
+            console: ALARM,
+            steps: b"Z 0\nE\n",
+            found: Audit::Misfit { at: 0 },
+            said: b"misfit at byte 0\n",
+        },
+        Row {
+            job: b"M8\nG0X0.004\n\x18\n",
+            console: OK_ALARM,
+            steps: b"X-\nE\n",
+            found: Audit::Misfit { at: 0 },
+            said: b"misfit at byte 0\n",
         },
     ];
     expect_found(&rt, rt.alloc(), ROWS)

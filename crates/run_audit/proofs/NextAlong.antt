@@ -225,6 +225,7 @@ reset_comes_along {a} u r k is done told mark number = by (reset_or_broken u r i
         record {
           k = k;
           mark_is = refl;
+          cause = λ e. l.cause (alarm ∙ e);
           number = number ∙ sym same;
           behind = l.behind;
           sent = l.sent_are;

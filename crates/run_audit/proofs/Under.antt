@@ -1,5 +1,5 @@
 -- An audit that is under way goes on.
-use Rattle.std.proofs.Common.{◌≡◌, ◌≤◌, ℕ, Bool, true, false, List, [], ◌∷◌, ◌++◌, append_assoc, append-nil, length, map, Some, None, Ok, Err, IfOk, sym, refl, ap, ◌∙◌, subst, inl, inr, ◌⊎◌, arith}
+use Rattle.std.proofs.Common.{◌≡◌, ◌≤◌, ℕ, Bool, true, false, List, [], ◌∷◌, ◌++◌, append_assoc, append-nil, length, map, Some, None, Ok, Err, IfOk, IfSome, sym, refl, ap, ◌∙◌, subst, inl, inr, ◌⊎◌, arith}
 use Rattle.std.specs.declared.option.Option.{Option}
 use Rattle.std.specs.declared.result.Result.{Result}
 use Rattle.std.proofs.lemmas.List.{map-append}
@@ -262,6 +262,12 @@ has_banner a j c s jt ct st u none =
 pub bad_found : (a b : Auditor) (j c s k l m : SourceState) (found : Finding) → ((line : ℕ) × (found ≡ BadReplies line)) → ((jt ct st : List ℕ) → IsUnderWay a j c s jt ct st → CanBeRead b k l m jt ct st) → GoesOn a b j c s k l m (Some found)
 bad_found a b j c s k l m found is read =
     subst (λ (f : Finding). GoesOn a b j c s k l m (Some f)) (sym is.1) (λ jt ct st u. (read jt ct st u, λ none. has_banner a j c s jt ct st u none))
+
+-- it goes on, or a reply is bad
+pub on_or_bad : (a b : Auditor) (j c s k l m : SourceState) (found : Option Finding) → IfSome found (λ (f : Finding). (line : ℕ) × (f ≡ BadReplies line))
+    → ((jt ct st : List ℕ) → IsUnderWay a j c s jt ct st → IsUnderWay b k l m jt ct st) → GoesOn a b j c s k l m found
+on_or_bad a b j c s k l m None bad on = on
+on_or_bad a b j c s k l m (Some found) bad on = bad_found a b j c s k l m found bad (λ jt ct st u. can_read b k l m jt ct st (on jt ct st u))
 
 -- at the end a reply is bad
 pub bad_end : (a b : Auditor) (j c s l m : SourceState) (found : Finding) → ((line : ℕ) × (found ≡ BadReplies line)) → ((jt ct st : List ℕ) → IsUnderWay a j c s jt ct st → CanBeRead b j l m jt ct st) → Finishes a b j c s l m (Some found)

@@ -176,6 +176,7 @@ pub record BrokenComes (p : Point) (more : List Sent) (told : List Reply) (rest 
 pub record ResetComes (mark : Option ℕ) (lines : List (List ℕ)) (alarm : Bool) (p : Point) (more : List Sent) (told : List Reply) (rest : List Record) : Type 0 where
   pub k : ℕ
   pub mark_is : mark ≡ Some k
+  pub cause : alarm ≡ true → (p.before.moved || p.before.jog_moved) ≡ true
   pub number : k + 1 ≡ p.before.number
   pub behind : List Sent
   pub sent : more ≡ map a_text lines ++ a_stop ∷ behind

@@ -8,6 +8,7 @@ ghost use Rattle.run_texts.specs.Sent.Sent.{a_text, a_stop};
 ghost use Rattle.audit_texts.specs.Reading.{KnowsJob, IsSame};
 ghost use Rattle.audit_texts.specs.SoFar.{IsItem};
 ghost use Rattle.run_audit.specs.UnderWay.{IsUnderWay, IsDropping, IsNext, GoesOn, mark_of};
+ghost use Rattle.audit_course.specs.SoFar.{has_moved};
 ghost use Rattle.run_audit.specs.Along.{StaysAlongIf, ReadsAlongIf, IsUntaken, IsDone, IsResetTold, MayBeOfLine, BrokenComes, ResetComes, is_alarm};
 
 use crate::auditor::{Auditor, Finding, Unread, is_ending};
@@ -40,16 +41,79 @@ impl Auditor {
         ensures along { IsDone self.old.course «record» → (not self.old.course.unanswered && self.old.course.line.halts) ≡ false → IfOk result (λ found. (console steps : SourceState) → StaysAlongIf (λ point more told rest. IsUntaken self.old.course «record» rest × IsResetTold self.old.listening.known told) self.old self.new (J.state job.old) console steps (J.state job.new) console steps found) }
     {
         let Some(record) = record else {
-            return self.drop_lines(None, job);
+            return self.reset_uncounted(job);
         };
         if let Some(k) = self.reset_behind(&record) {
-            return self.drop_lines(Some(k), job);
+            return self.reset_marked(k, job);
         }
         if self.may_be_begun(&record) {
             return self.begin_next(job);
         }
         self.break_off();
         Ok(None)
+    }
+
+    /// Whether the alarm of a reset is told next that has no cause yet: nothing has moved, and no line is begun that a reset keeps from
+    /// its answer.
+    fn lacks_cause(&self) -> bool
+        ensures alarm { IsTrue result → is_alarm self.now.listening.known ≡ true }
+        ensures none { IsTrue result → has_moved self.now.course ≡ false }
+        ensures caused { result ≡ false → is_alarm self.now.listening.known ≡ true → self.now.course.unanswered ≡ false → has_moved self.now.course ≡ true }
+    {
+        is_alarm(self.listening.known()) && !self.course.is_unanswered() && !self.course.has_moved()
+    }
+
+    /// What a reset tells comes next where records count no more. If its alarm has no cause yet, the line that waits may be it.
+    #[tactic(auto, using(crate::proofs::Known::rose_on, crate::proofs::Known::all_same_on, crate::proofs::Known::caused_on))]
+    fn reset_uncounted<J: Source>(&mut self, job: &mut J) -> Result<Option<Finding>, Unread>
+        requires known { KnowsJob self.old.sending.reader (J.state job.old) }
+        requires broken { self.old.broken ≡ None → ⊥ }
+        ensures read { MatchResult result (λ found. KnowsJob self.new.sending.reader (J.state job.new) × IsSame (J.state job.old) (J.state job.new)) (λ e. (e ≡ Unread.Job) × Rose (J.state job.old).faults (J.state job.new).faults) }
+        ensures listening { self.new.listening.reader ≡ self.old.listening.reader }
+        ensures recorded { self.new.recorded.reader ≡ self.old.recorded.reader }
+        ensures goes_on { IfOk result (λ found. (console steps : SourceState) → GoesOn self.old self.new (J.state job.old) console steps (J.state job.new) console steps found) }
+    {
+        if self.lacks_cause() {
+            return self.begin_cause(job);
+        }
+        self.drop_lines(None, job)
+    }
+
+    /// The line that waits is begun, and not answered: what it moves may be the cause of an alarm. If none waits, that is bad.
+    #[tactic(auto, using(crate::proofs::Known::rose_on, crate::proofs::Known::all_same_on, crate::proofs::Known::caused_on))]
+    fn begin_cause<J: Source>(&mut self, job: &mut J) -> Result<Option<Finding>, Unread>
+        requires known { KnowsJob self.old.sending.reader (J.state job.old) }
+        ensures read { MatchResult result (λ found. KnowsJob self.new.sending.reader (J.state job.new) × IsSame (J.state job.old) (J.state job.new)) (λ e. (e ≡ Unread.Job) × Rose (J.state job.old).faults (J.state job.new).faults) }
+        ensures listening { self.new.listening.reader ≡ self.old.listening.reader }
+        ensures recorded { self.new.recorded.reader ≡ self.old.recorded.reader }
+        ensures goes_on { IfOk result (λ found. (console steps : SourceState) → GoesOn self.old self.new (J.state job.old) console steps (J.state job.new) console steps found) }
+    {
+        match self.sending.look(job) {
+            Err(_) => Err(Unread::Job),
+            Ok(Item::Line) => {
+                self.break_line();
+                Ok(None)
+            }
+            Ok(Item::Stop | Item::Nothing) => Ok(Some(self.bad_behind())),
+        }
+    }
+
+    /// The mark of a reset behind the last line comes next, and what a reset tells. The mark breaks a rule if the alarm has no cause.
+    #[tactic(auto, using(crate::proofs::Known::rose_on, crate::proofs::Known::all_same_on, crate::proofs::Known::caused_on))]
+    fn reset_marked<J: Source>(&mut self, k: u32, job: &mut J) -> Result<Option<Finding>, Unread>
+        requires known { KnowsJob self.old.sending.reader (J.state job.old) }
+        requires next { IsNext self.old (mark_of (Some k)) }
+        ensures read { MatchResult result (λ found. KnowsJob self.new.sending.reader (J.state job.new) × IsSame (J.state job.old) (J.state job.new)) (λ e. (e ≡ Unread.Job) × Rose (J.state job.old).faults (J.state job.new).faults) }
+        ensures listening { self.new.listening.reader ≡ self.old.listening.reader }
+        ensures recorded { self.new.recorded.reader ≡ self.old.recorded.reader }
+        ensures goes_on { IfOk result (λ found. (console steps : SourceState) → GoesOn self.old self.new (J.state job.old) console steps (J.state job.new) console steps found) }
+        ensures along { self.old.course.work.left ≡ [] → IfOk result (λ found. (console steps : SourceState) → StaysAlongIf (λ point more told rest. (lines : List (List ℕ)) × ResetComes (Some k) lines (is_alarm self.old.listening.known) point more told rest) self.old self.new (J.state job.old) console steps (J.state job.new) console steps found) }
+    {
+        if self.lacks_cause() {
+            self.break_off();
+            return Ok(None);
+        }
+        self.drop_lines(Some(k), job)
     }
 
     /// The number of the last line, if this is the mark of a reset behind it.
@@ -151,8 +215,7 @@ impl Auditor {
                 }
                 Ok(Item::Stop) => {
                     self.sending.take_stop();
-                    self.make_reset(mark, dropped, alarm);
-                    return Ok(None);
+                    return Ok(self.make_reset(mark, dropped, alarm));
                 }
                 Ok(Item::Nothing) => {
                     return Ok(Some(self.none_comes(dropped)));
@@ -178,9 +241,10 @@ impl Auditor {
     }
 
     /// A reset comes, with its mark if records count.
-    fn make_reset(&mut self, mark: Option<u32>, dropped: u32, alarm: bool)
+    fn make_reset(&mut self, mark: Option<u32>, dropped: u32, alarm: bool) -> Option<Finding>
         requires next { IsNext self.old (mark_of mark) }
-        ensures along { self.old.course.work.left ≡ [] → (lines : List (List ℕ)) → dropped ≡ length lines → (job console steps : SourceState) → ReadsAlongIf (map a_text lines ++ a_stop ∷ []) (ResetComes mark lines alarm) self.old self.new job console steps None }
+        ensures bad { IfSome result (λ found. (line : ℕ) × (found ≡ Finding.BadReplies line)) }
+        ensures along { self.old.course.work.left ≡ [] → (lines : List (List ℕ)) → dropped ≡ length lines → (job console steps : SourceState) → ReadsAlongIf (map a_text lines ++ a_stop ∷ []) (ResetComes mark lines alarm) self.old self.new job console steps result }
         ensures so_far { (lines : List (List ℕ)) → dropped ≡ length lines → (job console steps : SourceState) (job_text console_text steps_text : List ℕ) →
             IsDropping self.old job console steps job_text console_text steps_text (map a_text lines ++ a_stop ∷ []) → IsUnderWay self.new job console steps job_text console_text steps_text }
         ensures sending { self.new.sending.reader ≡ self.old.sending.reader }
@@ -194,9 +258,10 @@ impl Auditor {
     }
 
     /// A reset comes, with this mark.
-    fn take_reset(&mut self, k: u32, dropped: u32, alarm: bool)
+    fn take_reset(&mut self, k: u32, dropped: u32, alarm: bool) -> Option<Finding>
         requires next { IsNext self.old (mark_of (Some k)) }
-        ensures along { self.old.course.work.left ≡ [] → (lines : List (List ℕ)) → dropped ≡ length lines → (job console steps : SourceState) → ReadsAlongIf (map a_text lines ++ a_stop ∷ []) (ResetComes (Some k) lines alarm) self.old self.new job console steps None }
+        ensures bad { IfSome result (λ found. (line : ℕ) × (found ≡ Finding.BadReplies line)) }
+        ensures along { self.old.course.work.left ≡ [] → (lines : List (List ℕ)) → dropped ≡ length lines → (job console steps : SourceState) → ReadsAlongIf (map a_text lines ++ a_stop ∷ []) (ResetComes (Some k) lines alarm) self.old self.new job console steps result }
         ensures so_far { (lines : List (List ℕ)) → dropped ≡ length lines → (job console steps : SourceState) (job_text console_text steps_text : List ℕ) →
             IsDropping self.old job console steps job_text console_text steps_text (map a_text lines ++ a_stop ∷ []) → IsUnderWay self.new job console steps job_text console_text steps_text }
         ensures sending { self.new.sending.reader ≡ self.old.sending.reader }
@@ -205,20 +270,24 @@ impl Auditor {
     {
         if self.course.reset(k, dropped, alarm) {
             self.recorded.take();
-            return;
+            return None;
         }
         self.break_off();
-        self.pass_reset(dropped, alarm);
+        self.pass_reset(dropped, alarm)
     }
 
-    /// A reset comes where records count no more.
-    fn pass_reset(&mut self, dropped: u32, alarm: bool)
+    /// A reset comes where records count no more. If it may not, what it tells is bad.
+    fn pass_reset(&mut self, dropped: u32, alarm: bool) -> Option<Finding>
         requires broken { self.old.broken ≡ None → ⊥ }
+        ensures bad { IfSome result (λ found. (line : ℕ) × (found ≡ Finding.BadReplies line)) }
         ensures sending { self.new.sending ≡ self.old.sending }
         ensures listening { self.new.listening ≡ self.old.listening }
         ensures recorded { self.new.recorded ≡ self.old.recorded }
         ensures broken { self.new.broken ≡ None → ⊥ }
     {
-        let _ = self.course.reset_unrecorded(dropped, alarm);
+        if self.course.reset_unrecorded(dropped, alarm) {
+            return None;
+        }
+        Some(self.bad_behind())
     }
 }

@@ -1,4 +1,4 @@
-use Rattle.std.proofs.Common.{◌≡◌, ◌+◌, ◌∙◌, ◌∷◌, ◌++◌, [], map, None, ℕ, Bool, ap, refl, sym, subst, arith}
+use Rattle.std.proofs.Common.{◌≡◌, ◌+◌, ◌∙◌, ◌∷◌, ◌++◌, [], map, ℕ, Bool, ap, refl, sym, subst, arith}
 use Rattle.std.proofs.lemmas.List.{length_push}
 use Rattle.audit_readers.specs.Jobs.{JobRead}
 use Rattle.run_texts.specs.Sent.Sent.{a_text, a_stop}
@@ -8,7 +8,7 @@ use Rattle.audit_texts.specs.SoFar.{IsItem}
 use Rattle.run_audit.specs.UnderWay.{mark_of}
 use Rattle.audit_texts.specs.declared.sending.Item.{Item}
 use Rattle.run_audit.specs.declared.auditor.Auditor.{Auditor}
-use Rattle.run_audit.proofs.Under.{drops_none, drops_on, drops_more, line_dropped, dropping_read, bad_found, next_stays}
+use Rattle.run_audit.proofs.Under.{drops_none, drops_on, drops_more, line_dropped, dropping_read, bad_found, next_stays, on_or_bad}
 use Rattle.run_audit.proofs.LinesAlong.{line_drops, never_nothing, none_dropped, not_so_many, stop_comes}
 use Rattle.audit_course.specs.declared.judge.CourseJudge.{CourseJudge}
 use Rattle.run_audit.specs.Along.{LeadsAlong, ResetComes}
@@ -60,7 +60,7 @@ pub make_reset-requires : goal.make_reset-requires
 make_reset-requires g c = record { next = next_stays c.args.self.now (record c.lines.self { sending = c.take_stop.new.self }) (mark_of c.args.mark) c.lines.invariant.others.recorded c.lines.invariant.others.broken c.requires.next }
 
 pub returns-in-Ok-Stop-clause-goes_on : goal.returns-in-Ok-Stop-clause-goes_on
-returns-in-Ok-Stop-clause-goes_on g c = λ console steps jt ct st u.
+returns-in-Ok-Stop-clause-goes_on g c = λ console steps.
     let i = c.lines.invariant in
     let a = c.lines.self in
     let b : Auditor = record a { sending = c.look.new.self } in
@@ -69,10 +69,11 @@ returns-in-Ok-Stop-clause-goes_on g c = λ console steps jt ct st u.
     let after = g.J.Source.state c.look.new.source in
     let look = c.in-Ok-Stop.ensures in
     let item = subst (λ (x : Item). IsItem x c.look.new.self) c.in-Ok-Stop.field-0-is look.item in
+    on_or_bad c.args.self.now c.make_reset.new.self (g.J.Source.state c.args.job.now) console steps after console steps c.make_reset.result c.make_reset.ensures.bad (λ jt ct st u.
     let d = i.dropping console steps jt ct st u in
     let read = drops_on a b before console steps after (map a_text d.0) jt ct st look.so_far (λ t told h. h) (λ t told h. h) (λ none. (none, λ f ss rs xs h. h)) d.2 in
     let more = drops_more b e after console steps (map a_text d.0) a_stop jt ct st (λ t told h. h) (λ t told h. h) (λ t told h. c.take_stop.ensures.told item after t told h) (λ none. (none, λ f ss rs xs h. h)) read in
-    c.make_reset.ensures.so_far d.0 d.1 after console steps jt ct st more
+    c.make_reset.ensures.so_far d.0 d.1 after console steps jt ct st more)
 
 pub returns-in-Ok-Nothing-clause-goes_on : goal.returns-in-Ok-Nothing-clause-goes_on
 returns-in-Ok-Nothing-clause-goes_on g c = λ console steps.
@@ -102,7 +103,7 @@ returns-in-Ok-Stop-clause-along g c = λ done console steps jt ct st events f ma
     let w = stop_comes d c.look.new.self c.take_stop.new.self after look.so_far look.last item (c.take_stop.ensures.told item after) c.take_stop.ensures.last in
     let same = c.lines.invariant.others.course in
     let v = c.make_reset.ensures.along (ap (λ (k : CourseJudge). k.work.left) same ∙ done) n.0 w.0 after console steps jt ct st events f may w.1.0 (subst (λ (b : Bool). ResetComes c.args.mark n.0 b w.1.0.along.judged.point w.1.0.along.more w.1.0.along.told w.1.0.along.rest) (sym (c.is_alarm-alarm.ensures ∙ ap is_alarm c.known.ensures)) w.1.1) in
-    subst (λ (m : ℕ). LeadsAlong c.make_reset.new.self after console steps jt ct st events f m None) w.1.2 v
+    subst (λ (m : ℕ). LeadsAlong c.make_reset.new.self after console steps jt ct st events f m c.make_reset.result) w.1.2 v
 
 pub returns-in-Ok-Nothing-clause-along : goal.returns-in-Ok-Nothing-clause-along
 returns-in-Ok-Nothing-clause-along g c = λ done console steps jt ct st events f may u n.

@@ -31,6 +31,6 @@ pub returns-in-Some-reset_behind-clause-along : goal.returns-in-Some-reset_behin
 returns-in-Some-reset_behind-clause-along g c = λ done calm.
     let a = c.args.self.now in
     let mark = c.in-Some-reset_behind.ensures.some in
-    goes_on_by c.drop_lines-in-Some-reset_behind.result (λ found on console steps jt ct st events f may u is.
+    goes_on_by c.reset_marked.result (λ found on console steps jt ct st events f may u is.
     let untaken = subst (λ (o : Option Record). IsUntaken a.course o u.rest) c.in-Some.is is.0 in
-    on console steps jt ct st events f may u (reset_comes_along u c.in-Some.record c.in-Some-reset_behind.k untaken (subst (IsDone a.course) c.in-Some.is done) is.1 mark.0 mark.1)) (c.drop_lines-in-Some-reset_behind.ensures.along done.done)
+    on console steps jt ct st events f may u (reset_comes_along u c.in-Some.record c.in-Some-reset_behind.k untaken (subst (IsDone a.course) c.in-Some.is done) is.1 mark.0 mark.1)) (c.reset_marked.ensures.along done.done)
