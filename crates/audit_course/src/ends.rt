@@ -288,6 +288,7 @@ impl CourseJudge {
         ensures yes { IsTrue result → EndsSoFar self.old self.new }
         ensures heard { StaysHeard self.old self.new }
         ensures number { self.new.work.number ≡ self.old.work.number }
+        ensures left { self.new.work.left ≡ self.old.work.left }
         ensures cuts { self.new.cuts ≡ self.old.cuts }
         ensures unanswered { self.new.unanswered ≡ self.old.unanswered }
         ensures halts { self.new.line.halts ≡ self.old.line.halts }
