@@ -281,6 +281,21 @@ fn bad_replies_and_lines_that_are_not_audited_are_told(rt: HostRuntime) -> Resul
             found: Audit::Foreign { line: 2 },
             said: b"line 2 isn't audited\n",
         },
+        // Behind a line that raises an alarm no line is sent, if the console tells the alarm.
+        Row {
+            job: b"$20=1\nG0X1\nG38.2X1\n",
+            console: b"\r\nGrbl 1.1h ['$' for help]\r\nok\r\nALARM:2\r\n[MSG:Reset to continue]\r\n",
+            steps: b"E\n",
+            found: Audit::Fits { events: 0 },
+            said: b"fits: 0 events\n",
+        },
+        Row {
+            job: b"$20=1\nG0X1\nG38.2X1\n",
+            console: TWO_OK,
+            steps: b"E\n",
+            found: Audit::Foreign { line: 3 },
+            said: b"line 3 isn't audited\n",
+        },
         Row {
             job: b"G0X0.004 ($H G38.2)",
             console: ONE_OK,

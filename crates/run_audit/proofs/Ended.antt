@@ -76,11 +76,20 @@ pub ends_rightly : (a b : Auditor) (x : Listening) (j c s : SourceState) (jt ct 
     → IsAtEnd (record a { listening = x }) j c s jt ct st events f → IsRightly b events (Fits counted)
 ends_rightly a b x j c s jt ct st events counted f sending stays count u = record {
   fits = ap Fits (count ∙ u.judged.events ∙ ap length (sym (no_event u.records)) ∙ sym (ap (λ (rs : List Record). length (events_among rs)) u.records_are) ∙ sym f.count);
+  done = stays.left ∙ u.done;
   none_foreign = ap (λ (y : Sending). y.foreign) sending ∙ u.audited;
   all_read = all_read b.sending b.course.unanswered b.course.line.halts b.course.work.number (stays.answered ∙ u.answered)
       (subst (λ (y : Sending). IsAllRead y b.course.line.halts b.course.work.number) (sym sending)
       (subst (λ (h : Bool). IsAllRead a.sending h b.course.work.number) (sym stays.halts) (subst (λ (n : ℕ). IsAllRead a.sending a.course.line.halts n) (sym stays.number) u.all)));
 }
+
+-- if the alarm that was raised was told, what is read of the job behind it has no line that is not audited
+pub read_rightly : (a : Auditor) (s : Sending) (told : Bool) (events : ℕ) (found : Finding) → told ≡ false → (a.course.work.left ≡ [] → told ≡ (not a.course.unanswered && a.course.line.halts))
+    → (a.sending.over ≡ true → IsItem Nothing a.sending → s ≡ a.sending) → IsRightly a events found → s.foreign ≡ 0
+read_rightly a s told events found none is over r = by r.all_read where
+  by : ((not a.course.unanswered && a.course.line.halts) ≡ true) ⊎ ((a.sending.over ≡ true) × IsItem Nothing a.sending) → s.foreign ≡ 0
+  by (inl halts) = absurd (let no : false ≡ true = sym none ∙ is r.done ∙ halts in cc)
+  by (inr all) = ap (λ (x : Sending). x.foreign) (over all.0 all.1) ∙ r.none_foreign
 
 -- the console is at its end
 pub no_reply_follows : {A : Type 0} (a : Auditor) (j c s : SourceState) (jt ct st : List ℕ) (events : ℕ) (f : FitsWith jt ct st events) → EndsNot false a.listening c → IsAuditable jt ct st events f → IsAtEnd a j c s jt ct st events f → A

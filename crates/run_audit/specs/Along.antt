@@ -67,6 +67,7 @@ pub record IsReading (a : Auditor) (job console steps : SourceState) (job_text c
 -- that they fit is found, and nothing is left that another answer could come of
 pub record IsRightly (a : Auditor) (events : ℕ) (found : Finding) : Type 0 where
   pub fits : found ≡ Fits events
+  pub done : a.course.work.left ≡ []
   pub none_foreign : a.sending.foreign ≡ 0
   pub all_read : ((not a.course.unanswered && a.course.line.halts) ≡ true) ⊎ ((a.sending.over ≡ true) × IsItem Nothing a.sending)
 

@@ -69,6 +69,7 @@ EndsStepsAlong a b steps (Some found) =
 pub record EndStays (j k : CourseJudge) : Type 0 where
   pub cuts : k.cuts ≡ j.cuts
   pub number : k.work.number ≡ j.work.number
+  pub left : k.work.left ≡ j.work.left
   pub halts : k.line.halts ≡ j.line.halts
   pub answered : k.unanswered ≡ j.unanswered
 

@@ -1,6 +1,9 @@
 //! How an audit ends.
 
-ghost use Rattle.std.specs.Prelude.{◌≡◌, ◌≤◌, ℕ, List, Some, None, true, false, MatchResult, IfOk, IsTrue};
+ghost use Rattle.std.specs.Prelude.{◌≡◌, ◌≤◌, ◌&&◌, [], ℕ, List, Some, None, true, false, not, MatchResult, IfOk, IsTrue};
+ghost use Rattle.status_report.specs.declared.Reply.TheVariants.{Alarm};
+ghost use Rattle.run_rules.specs.Work.Task.{tell};
+ghost use Rattle.line_interpreter.specs.Lefts.{IsNextOf};
 ghost use Rattle.step_line.specs.declared.Record.TheVariants as kinds;
 ghost use Rattle.outside.specs.Causes.{Rose, SourceState};
 ghost use Rattle.audit_texts.specs.Reading.{KnowsJob, KnowsConsole, KnowsSteps, IsSame};
@@ -13,8 +16,10 @@ ghost use Rattle.run_audit.specs.declared.auditor.Finding.{Finding as AnyFinding
 ghost use Rattle.run_audit.specs.UnderWay.{IsUnderWay, OthersStay, JudgeStays, Finishes, FinishesSteps, MayFit, IsNext, CanBeRead, IsRight, IsSaid};
 
 use crate::auditor::{Auditor, Finding, Unread};
+use audit_course::Next;
 use audit_texts::Item;
 use outside::Source;
+use status_report::Reply;
 use step_line::Record;
 
 impl Auditor {
@@ -197,7 +202,26 @@ impl Auditor {
         Ok(self.said(found))
     }
 
-    /// Reads the job to its end, unless a line has raised an alarm: then it is read.
+    /// Whether an alarm is to be told next of the line at hand.
+    fn tells_alarm(&self) -> bool
+        ensures yes { (n : ℕ) → self.now.course.unanswered ≡ false → IsNextOf (tell (Alarm n)) self.now.course.work.left → result ≡ true }
+        ensures no { self.now.course.work.left ≡ [] → result ≡ false }
+    {
+        match self.course.next() {
+            Next::Tell => matches!(self.course.reply(), Reply::Alarm(_)),
+            Next::Work | Next::Nothing => false,
+        }
+    }
+
+    /// Whether the last line has raised an alarm, and the console has told it.
+    fn has_told_alarm(&self) -> bool
+        ensures told { IsTrue result → (n : ℕ) → IsNextOf (tell (Alarm n)) self.now.course.work.left → ⊥ }
+        ensures done { self.now.course.work.left ≡ [] → result ≡ (not self.now.course.unanswered && self.now.course.line.halts) }
+    {
+        self.course.has_alarm() && !self.tells_alarm()
+    }
+
+    /// Reads the job to its end, unless a line has raised an alarm that was told: then it is read.
     #[tactic(auto, using(crate::proofs::Known::rose_on, crate::proofs::Known::all_same_on, crate::proofs::Known::caused_on))]
     fn read_job<J: Source>(&mut self, job: &mut J) -> Result<(), Unread>
         requires known { KnowsJob self.old.sending.reader (J.state job.old) }
@@ -207,7 +231,7 @@ impl Auditor {
             CanBeRead self.old (J.state job.old) console steps job_text console_text steps_text → CanBeRead self.new (J.state job.new) console steps job_text console_text steps_text) }
         ensures along { IfOk result (λ done. (events : ℕ) (found : AnyFinding) → IsRightly self.old events found → self.new.sending.foreign ≡ 0) }
     {
-        if self.course.has_alarm() {
+        if self.has_told_alarm() {
             return Ok(());
         }
         self.read_on(job)
