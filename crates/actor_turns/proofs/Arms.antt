@@ -9,7 +9,7 @@ use Rattle.stream_host.specs.declared.host.Host.{Host}
 use Rattle.host_journal.specs.Steps.{Journal as HostJournal, port_log as host_log, HostLog}
 use Rattle.stream_host.specs.Hosts.{HostFits, HostTurned, HostTellsOn}
 use Rattle.stream_host.specs.Hosts.{IsBetween as IsBetweenOfHost}
-use Rattle.board_rules.specs.Ports.{BoardLog}
+use Rattle.board_journal.specs.Ports.{BoardLog}
 use Rattle.board_epochs.specs.Epochs.{Epochs, log_of as board_log}
 use Rattle.controller.specs.declared.controller.Controller.{Controller}
 use Rattle.controller.specs.Boards.{BoardFits, BoardTurned}

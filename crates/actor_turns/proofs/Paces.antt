@@ -5,7 +5,7 @@ use Rattle.outside.specs.declared.Actor.TheVariants as actors
 use Rattle.outside.specs.declared.Turn.{Turn}
 use Rattle.outside.specs.declared.Turn.TheVariants.{Did, Wait, Done}
 use Rattle.outside.specs.declared.On.TheVariants as on
-use Rattle.board_rules.specs.Steps.{Step}
+use Rattle.board_journal.specs.Steps.{Step}
 use Rattle.board_epochs.specs.Epochs.{Epochs}
 use Rattle.board_epochs.specs.Epochs.Epochs.{goes, resets}
 use Rattle.controller.specs.declared.controller.Controller.{Controller}

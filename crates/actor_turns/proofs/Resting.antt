@@ -7,7 +7,7 @@ use Rattle.outside.specs.declared.Turn.{Turn}
 use Rattle.outside.specs.declared.Turn.TheVariants.{Wait}
 use Rattle.outside.specs.declared.On.TheVariants as on
 use Rattle.host_journal.specs.Steps.{HostLog}
-use Rattle.board_rules.specs.Ports.{BoardLog}
+use Rattle.board_journal.specs.Ports.{BoardLog}
 use Rattle.pulse_engine.specs.Logs.{PieceLog}
 use Rattle.pulse_engine.specs.Logs.PieceEvent.{asked, none}
 use Rattle.motion_pulse.proofs.Waiting.{fits_none as pulse_fits}

@@ -19,8 +19,8 @@ use Rattle.host_journal.specs.declared.Reading.TheVariants.{Ended, Failed, Large
 use Rattle.host_journal.specs.Steps.{port_log as host_log, marks_of, got_of}
 use Rattle.stream_host.specs.Ran.{is_failed}
 use Rattle.board_rules.specs.Conduct.{IsFinished}
-use Rattle.board_rules.specs.Ports.{answered_in, known_in, sent_in}
-use Rattle.board_rules.specs.Steps.{Journal, port_log}
+use Rattle.board_journal.specs.Ports.{answered_in, known_in, sent_in}
+use Rattle.board_journal.specs.Steps.{Journal, port_log}
 use Rattle.board_rules.proofs.Unstopped.{journals_never_stop}
 use Rattle.board_epochs.specs.Epochs.{Closed, Epochs, AreEpochs, closed_log, log_of as board_log, opening_behind}
 use Rattle.board_epochs.specs.Epochs.Epochs.{goes, resets}

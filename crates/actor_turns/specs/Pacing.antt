@@ -7,8 +7,8 @@ use Rattle.outside.specs.declared.Turn.TheVariants.{Did, Wait, Done}
 use Rattle.outside.specs.declared.On.TheVariants as on
 use Rattle.host_journal.specs.Steps.{Journal as HostJournal}
 use Rattle.host_journal.specs.Steps.Step.{turned as host_turned}
-use Rattle.board_rules.specs.Steps.{Journal}
-use Rattle.board_rules.specs.Steps.Step.{turned as board_turned}
+use Rattle.board_journal.specs.Steps.{Journal}
+use Rattle.board_journal.specs.Steps.Step.{turned as board_turned}
 use Rattle.board_epochs.specs.Epochs.{Epochs}
 use Rattle.board_epochs.specs.Epochs.Epochs.{goes, resets}
 use Rattle.pulse_engine.specs.Steps.{AwaitsPiece}

@@ -10,8 +10,8 @@ use Rattle.host_journal.specs.Raises.{raises_in}
 use Rattle.stream_host.specs.Hosts.{HostFits, HostTurned, HostRests, TellsJob, TellsText}
 use Rattle.stream_host.specs.Hosts.{IsBetween as IsBetweenOfHost}
 use Rattle.stream_host.specs.Ran.{end_of}
-use Rattle.board_rules.specs.Ports.{link_steps, taken_in, answered_in, sent_in}
-use Rattle.board_rules.specs.Takes.{takes_in}
+use Rattle.board_journal.specs.Ports.{link_steps, taken_in, answered_in, sent_in}
+use Rattle.board_journal.specs.Takes.{takes_in}
 use Rattle.board_epochs.specs.Epochs.{Epochs, log_of as board_log}
 use Rattle.board_epochs.specs.Epochs.Epochs.{goes}
 use Rattle.epoch_runs.specs.Epochs.{halts_seen, pieces_sent}

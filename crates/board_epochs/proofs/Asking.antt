@@ -15,10 +15,10 @@ use Rattle.step_line.specs.declared.Piece.{Piece}
 use Rattle.step_line.specs.declared.Piece.TheVariants as pieces
 use Rattle.step_line.proofs.Finished.{together_both}
 use Rattle.board_rules.specs.Conduct.{Conducted, IsInHand}
-use Rattle.board_rules.specs.Openings.{Opening}
-use Rattle.board_rules.specs.Ports.{BoardLog, taken_in, published_in, known_in, sent_in, MayPublish, LacksPieceRoom}
-use Rattle.board_rules.specs.Ports.PortStep.{took}
-use Rattle.board_rules.specs.Steps.{Journal, port_log, taken_of, published_of, lines_of, open_of, whole_of, hand_of}
+use Rattle.board_journal.specs.Openings.{Opening}
+use Rattle.board_journal.specs.Ports.{BoardLog, taken_in, published_in, known_in, sent_in, MayPublish, LacksPieceRoom}
+use Rattle.board_journal.specs.Ports.PortStep.{took}
+use Rattle.board_journal.specs.Steps.{Journal, port_log, taken_of, published_of, lines_of, open_of, whole_of, hand_of}
 use Rattle.board_rules.proofs.Answering.{lfs_of_lines}
 use Rattle.board_rules.proofs.Ending.{no_ends_back, not_ended}
 use Rattle.board_rules.proofs.Keeping.{hand_is}

@@ -14,11 +14,11 @@ use Rattle.step_line.specs.Ordering.{has_ended}
 use Rattle.step_line.specs.declared.Piece.{Piece}
 use Rattle.status_report.specs.declared.Reply.{Reply}
 use Rattle.board_rules.specs.Conduct.{Conducted}
-use Rattle.board_rules.specs.Openings.{Opening}
-use Rattle.board_rules.specs.Ports.{BoardLog, asks_report, taken_in, answered_in, reports_in, published_in, known_in, link_steps, sent_in}
-use Rattle.board_rules.specs.Ports.PortStep.{took, found_mark, answered, reported, took_exec, found_halt}
-use Rattle.board_rules.specs.Steps.{Journal, port_log, taken_of, answered_of, published_of, given_of, planned_of, hand_of}
-use Rattle.board_rules.specs.Steps.Step.{at_port, turned}
+use Rattle.board_journal.specs.Openings.{Opening}
+use Rattle.board_journal.specs.Ports.{BoardLog, asks_report, taken_in, answered_in, reports_in, published_in, known_in, link_steps, sent_in}
+use Rattle.board_journal.specs.Ports.PortStep.{took, found_mark, answered, reported, took_exec, found_halt}
+use Rattle.board_journal.specs.Steps.{Journal, port_log, taken_of, answered_of, published_of, given_of, planned_of, hand_of}
+use Rattle.board_journal.specs.Steps.Step.{at_port, turned}
 use Rattle.board_rules.proofs.Ending.{NoEnds, no_ends_back, not_ended, published_in_turn, planned_none}
 use Rattle.board_rules.proofs.Given.{published_within}
 use Rattle.board_rules.proofs.Keeping.{hand_is}

@@ -6,8 +6,8 @@ use Rattle.step_line.specs.Finishing.{ticks_together}
 use Rattle.step_line.specs.Logs.{NewestFirst}
 use Rattle.step_line.specs.declared.Mark.TheVariants as marks
 use Rattle.step_line.specs.declared.Piece.{Piece}
-use Rattle.board_rules.specs.Ports.{BoardLog, known_in, sent_in, MayBeDone, LacksPieceRoom, HasTakenFew, HasFewReports, MayStop, MayAskHalt}
-use Rattle.board_rules.specs.Steps.{Journal, port_log, known_of}
+use Rattle.board_journal.specs.Ports.{BoardLog, known_in, sent_in, MayBeDone, LacksPieceRoom, HasTakenFew, HasFewReports, MayStop, MayAskHalt}
+use Rattle.board_journal.specs.Steps.{Journal, port_log, known_of}
 use Rattle.board_rules.proofs.Unstopped.{journals_never_stop}
 use Rattle.board_epochs.specs.Work.{Work, stage_of, halted_in}
 use Rattle.board_epochs.specs.Work.Stage.{stops, awaits_halt}

@@ -7,11 +7,11 @@ use Rattle.status_report.specs.Answering.{is_banner}
 use Rattle.status_report.specs.declared.Reply.{Reply}
 use Rattle.status_report.specs.declared.Reply.TheVariants as replies
 use Rattle.board_rules.specs.Conduct.{Conducted}
-use Rattle.board_rules.specs.Openings.{Opening}
-use Rattle.board_rules.specs.Ports.{link_steps}
-use Rattle.board_rules.specs.Ports.PortStep.{took, found_mark, answered, reported}
-use Rattle.board_rules.specs.Steps.{Journal, port_log, answered_of}
-use Rattle.board_rules.specs.Steps.Step.{at_port}
+use Rattle.board_journal.specs.Openings.{Opening}
+use Rattle.board_journal.specs.Ports.{link_steps}
+use Rattle.board_journal.specs.Ports.PortStep.{took, found_mark, answered, reported}
+use Rattle.board_journal.specs.Steps.{Journal, port_log, answered_of}
+use Rattle.board_journal.specs.Steps.Step.{at_port}
 use Rattle.board_rules.proofs.Greeting.{banners_in, banners_on, banners_first}
 use Rattle.board_rules.proofs.Greeted.{banner_told, fewer}
 use Rattle.board_epochs.specs.Resets.{MayReset}

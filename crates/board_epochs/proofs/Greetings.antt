@@ -7,9 +7,9 @@ use Rattle.status_report.specs.declared.Reply.{Reply}
 use Rattle.status_report.specs.declared.Reply.TheVariants.{Banner}
 use Rattle.step_line.specs.Logs.{NewestFirst}
 use Rattle.board_rules.specs.Conduct.{Conducted}
-use Rattle.board_rules.specs.Openings.{Opening, up_to_banner}
-use Rattle.board_rules.specs.Ports.{BoardLog, known_in, answered_in}
-use Rattle.board_rules.specs.Steps.{Journal, port_log, answered_of, left_of}
+use Rattle.board_journal.specs.Openings.{Opening, up_to_banner}
+use Rattle.board_journal.specs.Ports.{BoardLog, known_in, answered_in}
+use Rattle.board_journal.specs.Steps.{Journal, port_log, answered_of, left_of}
 use Rattle.board_rules.specs.Turns.{is_greeted}
 use Rattle.board_rules.proofs.Greeted.{greeted_where, greets_first, greets_still}
 use Rattle.board_epochs.specs.Epochs.{Closed, AreClosed, Epochs, AreEpochs, closed_log, log_behind, log_of, last_line, opening_behind}

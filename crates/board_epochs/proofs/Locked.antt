@@ -20,10 +20,10 @@ use Rattle.status_report.specs.declared.Reply.TheVariants as replies
 use Rattle.status_report.specs.declared.reports.Report.{Report}
 use Rattle.status_report.specs.declared.reports.State.TheVariants as told
 use Rattle.board_rules.specs.Conduct.{Conducted, IsReportAt, IsLocked, MayHappen, shown_as}
-use Rattle.board_rules.specs.Openings.{Opening}
-use Rattle.board_rules.specs.Ports.PortStep.{answered, reported}
-use Rattle.board_rules.specs.Steps.{Journal, answered_of, has_limited, lines_of, open_of, outcomes_of, motion_of}
-use Rattle.board_rules.specs.Steps.Step.{at_port, began, paused, became}
+use Rattle.board_journal.specs.Openings.{Opening}
+use Rattle.board_journal.specs.Ports.PortStep.{answered, reported}
+use Rattle.board_journal.specs.Steps.{Journal, answered_of, has_limited, lines_of, open_of, outcomes_of, motion_of}
+use Rattle.board_journal.specs.Steps.Step.{at_port, began, paused, became}
 use Rattle.board_rules.specs.Turns.{is_limited}
 use Rattle.board_rules.proofs.Alarms.{limited_alarmed}
 use Rattle.board_rules.proofs.Calming.{standing}

@@ -6,9 +6,9 @@ use Rattle.code_table.specs.declared.flags.Ovr.{Ovr}
 use Rattle.serial_ring.specs.Logs.{greeted_in}
 use Rattle.serial_ring.specs.Marks.{Mark as LinkMark, last_of}
 use Rattle.step_line.specs.declared.Piece.{Piece}
-use Rattle.board_rules.specs.Ports.{BoardLog, taken_in, link_steps, sent_in}
-use Rattle.board_rules.specs.Ports.PortStep.{took, found_mark, took_exec, took_ovr, published, no_piece_room, loaded, stored_stop, found_no_halt, found_halt}
-use Rattle.board_rules.specs.Steps.Step.{at_port, turned}
+use Rattle.board_journal.specs.Ports.{BoardLog, taken_in, link_steps, sent_in}
+use Rattle.board_journal.specs.Ports.PortStep.{took, found_mark, took_exec, took_ovr, published, no_piece_room, loaded, stored_stop, found_no_halt, found_halt}
+use Rattle.board_journal.specs.Steps.Step.{at_port, turned}
 use Rattle.motion_ring.specs.Sides as ring
 use Rattle.board_epochs.specs.Bounds.{loaded_mark}
 use Rattle.board_epochs.specs.Work.{Work, Stage, Works, MayWorkAt, stage_of, stage_at, by_mark, by_load, dropping, worked_in}

@@ -12,8 +12,8 @@ use Rattle.step_line.specs.Finishing.{ticks_together, unfinished}
 use Rattle.step_line.specs.declared.Mark.{Mark}
 use Rattle.step_line.specs.declared.Piece.{Piece}
 use Rattle.step_line.specs.declared.Piece.TheVariants as pieces
-use Rattle.board_rules.specs.Ports.{BoardLog, taken_in, answered_in, link_steps, reports_in, published_in, known_in, sent_in}
-use Rattle.board_rules.specs.Ports.PortStep.{took, found_mark, answered, reported, took_exec, published, loaded, stored_stop, found_halt}
+use Rattle.board_journal.specs.Ports.{BoardLog, taken_in, answered_in, link_steps, reports_in, published_in, known_in, sent_in}
+use Rattle.board_journal.specs.Ports.PortStep.{took, found_mark, answered, reported, took_exec, published, loaded, stored_stop, found_halt}
 use Rattle.board_rules.proofs.Unstopped.{NeverStops}
 use Rattle.status_report.specs.declared.Reply.{Reply}
 use Rattle.status_report.specs.declared.Reply.TheVariants as replies

@@ -12,8 +12,8 @@ use Rattle.run_texts.specs.Told.{told_at_reset}
 use Rattle.status_report.specs.Answering.{is_banner}
 use Rattle.step_line.specs.Logs.{NewestFirst}
 use Rattle.board_rules.specs.Conduct.{Conducted, MayOpen}
-use Rattle.board_rules.specs.Openings.{Opening, IsGreeting, IsPlaced, IsPlanSize, most_greetings}
-use Rattle.board_rules.specs.Steps.{Journal}
+use Rattle.board_journal.specs.Openings.{Opening, IsGreeting, IsPlaced, IsPlanSize, most_greetings}
+use Rattle.board_journal.specs.Steps.{Journal}
 use Rattle.board_rules.specs.Turns.{is_alarm, stands_still}
 use Rattle.board_rules.proofs.Opening.{opened}
 use Rattle.board_epochs.specs.Epochs.{Closed, opens_behind, opening_behind, next_opening, answered_state, reset_of, ticks_made}

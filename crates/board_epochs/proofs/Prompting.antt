@@ -7,11 +7,11 @@ use Rattle.step_line.specs.declared.Piece.TheVariants as pieces
 use Rattle.status_report.specs.declared.Reply.{Reply}
 use Rattle.status_report.specs.declared.Reply.TheVariants.{Bye}
 use Rattle.board_rules.specs.Conduct.{Conducted, IsLocked}
-use Rattle.board_rules.specs.Openings.{Opening}
-use Rattle.board_rules.specs.Ports.{asks_reset}
-use Rattle.board_rules.specs.Ports.PortStep.{took_exec}
-use Rattle.board_rules.specs.Steps.{Journal, has_limited, given_of, planned_of, closed_tells, motion_of}
-use Rattle.board_rules.specs.Steps.Step.{at_port, began, did, made_end, cut, closing}
+use Rattle.board_journal.specs.Openings.{Opening}
+use Rattle.board_journal.specs.Ports.{asks_reset}
+use Rattle.board_journal.specs.Ports.PortStep.{took_exec}
+use Rattle.board_journal.specs.Steps.{Journal, has_limited, given_of, planned_of, closed_tells, motion_of}
+use Rattle.board_journal.specs.Steps.Step.{at_port, began, did, made_end, cut, closing}
 use Rattle.board_rules.specs.Turns.{is_limited}
 use Rattle.board_rules.proofs.Alarms.{limited_alarmed}
 use Rattle.board_epochs.specs.Resets.{IsPrompt, MayReset, has_reset, drops_resets, is_closing}

@@ -10,8 +10,8 @@ use Rattle.step_line.specs.Pieces.{ComesBehind, JoinsOn}
 use Rattle.step_line.specs.declared.Mark.{Mark}
 use Rattle.step_line.specs.declared.Piece.{Piece}
 use Rattle.step_line.specs.declared.Piece.TheVariants as pieces
-use Rattle.board_rules.specs.Ports.{BoardLog, taken_in, published_in, known_in, sent_in, MayPublish, MayStop, MayBeDone, LacksPieceRoom, HasTakenFew, HasFewReports}
-use Rattle.board_rules.specs.Ports.PortStep.{published, stored_stop, found_halt}
+use Rattle.board_journal.specs.Ports.{BoardLog, taken_in, published_in, known_in, sent_in, MayPublish, MayStop, MayBeDone, LacksPieceRoom, HasTakenFew, HasFewReports}
+use Rattle.board_journal.specs.Ports.PortStep.{published, stored_stop, found_halt}
 use Rattle.board_rules.proofs.Unstopped.{NeverStops}
 use Rattle.board_epochs.specs.Epochs.{log_on}
 use Rattle.board_epochs.proofs.Onto.{onto, sent_on, known_on, taken_on, reports_on, Begins, ticks_are, unfinished_are, goes_there}

@@ -15,12 +15,12 @@ use Rattle.status_report.specs.declared.Reply.TheVariants as replies
 use Rattle.status_report.specs.declared.reports.Report.{Report}
 use Rattle.step_line.specs.Logs.{NewestFirst}
 use Rattle.board_rules.specs.Conduct.{Conducted, IsNextTask}
-use Rattle.board_rules.specs.Openings.{Opening}
-use Rattle.board_rules.specs.Ports.{BoardLog, known_in, link_steps, MayAnswer}
-use Rattle.board_rules.specs.Steps.{Journal, port_log, answered_of, left_of}
+use Rattle.board_journal.specs.Openings.{Opening}
+use Rattle.board_journal.specs.Ports.{BoardLog, known_in, link_steps, MayAnswer}
+use Rattle.board_journal.specs.Steps.{Journal, port_log, answered_of, left_of}
 use Rattle.board_rules.proofs.Greeting.{banners_in, banners_first, banners_are, since, may_answer}
 use Rattle.board_rules.proofs.Limits.{lines_in_bytes, answered_by_lines}
-use Rattle.board_rules.proofs.LinkSteps.{same_answered, same_taken}
+use Rattle.board_journal.proofs.LinkSteps.{same_answered, same_taken}
 use Rattle.board_epochs.specs.Bounds.{loaded_mark, AreMarked}
 use Rattle.board_epochs.specs.Epochs.{Closed, AreClosed, closed_log, log_on, log_behind, log_of, opening_behind}
 use Rattle.board_epochs.specs.Epochs.Epochs.{goes}

@@ -6,8 +6,8 @@ use Rattle.run_rules.specs.Outcomes.{start}
 use Rattle.run_texts.specs.Courses.{Reset, behind_the_reset, reset_state}
 use Rattle.run_texts.specs.Points.{Point}
 use Rattle.board_rules.specs.Conduct.{Conducted}
-use Rattle.board_rules.specs.Openings.{Opening}
-use Rattle.board_rules.specs.Steps.{Journal, before_of}
+use Rattle.board_journal.specs.Openings.{Opening}
+use Rattle.board_journal.specs.Steps.{Journal, before_of}
 use Rattle.board_rules.specs.Turns.{is_limited}
 use Rattle.board_rules.proofs.Lines.{number_is}
 use Rattle.board_epochs.specs.Work.{Work}

@@ -7,10 +7,10 @@ use Rattle.code_table.specs.declared.flags.Ovr.{Ovr}
 use Rattle.step_line.specs.declared.Mark.TheVariants as marks
 use Rattle.step_line.specs.declared.Piece.{Piece}
 use Rattle.step_line.specs.declared.Piece.TheVariants as pieces
-use Rattle.board_rules.specs.Ports.{PortStep, BoardLog, taken_in, known_in, sent_in, MayAskHalt}
-use Rattle.board_rules.specs.Ports.PortStep.{took, found_empty, found_closed, found_free, found_mark, answered, reported, no_reply_room, took_exec, took_ovr, published, no_piece_room, loaded, stored_stop, found_no_halt, found_halt}
-use Rattle.board_rules.specs.Steps.{port_log}
-use Rattle.board_rules.specs.Steps.Step.{at_port, turned}
+use Rattle.board_journal.specs.Ports.{PortStep, BoardLog, taken_in, known_in, sent_in, MayAskHalt}
+use Rattle.board_journal.specs.Ports.PortStep.{took, found_empty, found_closed, found_free, found_mark, answered, reported, no_reply_room, took_exec, took_ovr, published, no_piece_room, loaded, stored_stop, found_no_halt, found_halt}
+use Rattle.board_journal.specs.Steps.{port_log}
+use Rattle.board_journal.specs.Steps.Step.{at_port, turned}
 use Rattle.board_epochs.specs.Work.{Work, Stage, Works, MayWorkAt, stage_of, stage_at, by_mark, by_load, dropping, halted_in, worked_in}
 use Rattle.board_epochs.specs.Work.Stage.{awaits_mark, drops_changes, stops, awaits_halt, drops, publishes, awaits_done, over}
 

@@ -3,7 +3,7 @@ use Rattle.std.specs.Prelude.{◌≡◌, ℕ, ◌+◌, ◌*◌, ◌^◌, ◌≤�
 use Rattle.motion_ring.specs.Sides as ring
 use Rattle.serial_ring.specs.Logs.{marked_in, has_greeted}
 use Rattle.serial_ring.specs.Marks.{Mark as LinkMark, last_of}
-use Rattle.board_rules.specs.Ports.{BoardLog, taken_in, answered_in, reports_in, known_in, link_steps, sent_in}
+use Rattle.board_journal.specs.Ports.{BoardLog, taken_in, answered_in, reports_in, known_in, link_steps, sent_in}
 use Rattle.board_epochs.specs.Work.{worked_in}
 
 -- the mark that was loaded last

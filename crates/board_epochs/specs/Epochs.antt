@@ -10,11 +10,11 @@ use Rattle.run_texts.specs.Told.{told_at_reset}
 use Rattle.status_report.specs.Answering.{is_answer, lfs_in}
 use Rattle.step_line.specs.Logs.{NewestFirst}
 use Rattle.board_rules.specs.Conduct.{Conducted}
-use Rattle.board_rules.specs.Openings.{Opening, first_opening, before_first}
-use Rattle.board_rules.specs.Ports.{PortStep, BoardLog, taken_in, reports_in, known_in}
-use Rattle.board_rules.specs.Ports.PortStep.{answered, no_piece_room, loaded}
-use Rattle.board_rules.specs.Steps.{Journal, port_log, published_of, outcomes_of, whole_of, before_of, motion_of}
-use Rattle.board_rules.specs.Steps.Step.{at_port}
+use Rattle.board_journal.specs.Openings.{Opening, first_opening, before_first}
+use Rattle.board_journal.specs.Ports.{PortStep, BoardLog, taken_in, reports_in, known_in}
+use Rattle.board_journal.specs.Ports.PortStep.{answered, no_piece_room, loaded}
+use Rattle.board_journal.specs.Steps.{Journal, port_log, published_of, outcomes_of, whole_of, before_of, motion_of}
+use Rattle.board_journal.specs.Steps.Step.{at_port}
 use Rattle.board_rules.specs.Turns.{is_alarm, is_limited}
 use Rattle.board_epochs.specs.Resets.{MayReset, IsPrompt}
 use Rattle.board_epochs.specs.Work.{Work, Works, IsWorked, halted_in}

@@ -2,7 +2,7 @@
 use Rattle.std.specs.Prelude.{◌⊎◌, List}
 use Rattle.run_texts.specs.Fronts.{BeginsWith}
 use Rattle.status_report.specs.declared.Reply.{Reply}
-use Rattle.board_rules.specs.Openings.{up_to_banner}
+use Rattle.board_journal.specs.Openings.{up_to_banner}
 
 -- It begins with what greets, up to the banner, or is a front of what greets: no report comes before the banner.
 abbrev pub IsGreeted : (greeting answered : List Reply) → Type 0

@@ -1,11 +1,11 @@
 -- How a reset is asked for in an epoch, and how its work finds the board.
 use Rattle.std.specs.Prelude.{◌≡◌, Bool, true, false, ◌&&◌, ◌||◌, not, [], ◌∷◌}
 use Rattle.board_rules.specs.Conduct.{OwesNone}
-use Rattle.board_rules.specs.Openings.{Opening}
-use Rattle.board_rules.specs.Ports.{PortStep, asks_reset}
-use Rattle.board_rules.specs.Ports.PortStep.{took_exec}
-use Rattle.board_rules.specs.Steps.{Step, Journal, has_limited, left_of}
-use Rattle.board_rules.specs.Steps.Step.{at_port, began, closing}
+use Rattle.board_journal.specs.Openings.{Opening}
+use Rattle.board_journal.specs.Ports.{PortStep, asks_reset}
+use Rattle.board_journal.specs.Ports.PortStep.{took_exec}
+use Rattle.board_journal.specs.Steps.{Step, Journal, has_limited, left_of}
+use Rattle.board_journal.specs.Steps.Step.{at_port, began, closing}
 use Rattle.board_rules.specs.Turns.{this_turn, tells_next}
 
 -- the run is being closed

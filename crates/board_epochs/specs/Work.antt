@@ -10,10 +10,10 @@ use Rattle.serial_ring.specs.Logs.{greeted_in}
 use Rattle.serial_ring.specs.Marks.{last_of}
 use Rattle.step_line.specs.declared.Mark.TheVariants as marks
 use Rattle.step_line.specs.declared.Piece.TheVariants as pieces
-use Rattle.board_rules.specs.Ports.{PortStep, BoardLog, asks_report, taken_in, link_steps, sent_in, MayBeDone, HasTakenFew, HasFewReports, LacksPieceRoom}
-use Rattle.board_rules.specs.Ports.PortStep.{took, found_mark, took_exec, took_ovr, published, no_piece_room, loaded, stored_stop, found_no_halt, found_halt}
-use Rattle.board_rules.specs.Steps.{Step, Journal, port_log}
-use Rattle.board_rules.specs.Steps.Step.{at_port, turned}
+use Rattle.board_journal.specs.Ports.{PortStep, BoardLog, asks_report, taken_in, link_steps, sent_in, MayBeDone, HasTakenFew, HasFewReports, LacksPieceRoom}
+use Rattle.board_journal.specs.Ports.PortStep.{took, found_mark, took_exec, took_ovr, published, no_piece_room, loaded, stored_stop, found_no_halt, found_halt}
+use Rattle.board_journal.specs.Steps.{Step, Journal, port_log}
+use Rattle.board_journal.specs.Steps.Step.{at_port, turned}
 use Rattle.board_rules.specs.Turns.{this_turn, publishing, loads, lacks_piece_room, by_wait}
 
 -- What is done for a reset, the latest first: steps at the port, and ends of turns. What a reset changes in the board itself comes

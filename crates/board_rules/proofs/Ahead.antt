@@ -5,7 +5,7 @@ use Rattle.run_rules.specs.Work.Task.{ask, tell, pause, normal, finish, halt}
 use Rattle.status_report.specs.Answering.{is_bye}
 use Rattle.planner_runs.specs.declared.Action.{Action}
 use Rattle.planner_runs.specs.declared.Action.TheVariants.{Add, Mark, Rest}
-use Rattle.board_rules.specs.Steps.{left_by, without_asks}
+use Rattle.board_journal.specs.Steps.{left_by, without_asks}
 use Rattle.board_rules.specs.Turns.{only_replies, counts_tries}
 use Rattle.units.specs.Truths.{one_if}
 use Rattle.board_rules.specs.Within.{tells_none, last_three, work_ahead, ahead}

@@ -15,10 +15,10 @@ use Rattle.status_report.specs.declared.Reply.TheVariants.{Alarm, Message, Bye}
 use Rattle.step_line.specs.declared.Piece.TheVariants as pieces
 use Rattle.step_line.specs.declared.Segment.{Segment}
 use Rattle.step_line.specs.declared.planned_move.PlannedMove.{PlannedMove}
-use Rattle.board_rules.specs.Openings.{first_opening}
-use Rattle.board_rules.specs.Ports.PortStep.{answered, published, loaded}
-use Rattle.board_rules.specs.Steps.{Journal}
-use Rattle.board_rules.specs.Steps.Step.{at_port, began, made_end, became, halted, closing, turned}
+use Rattle.board_journal.specs.Openings.{first_opening}
+use Rattle.board_journal.specs.Ports.PortStep.{answered, published, loaded}
+use Rattle.board_journal.specs.Steps.{Journal}
+use Rattle.board_journal.specs.Steps.Step.{at_port, began, made_end, became, halted, closing, turned}
 use Rattle.board_rules.specs.Conduct.{Conducted}
 use Rattle.board_rules.proofs.Example.{ends, nothing, no_changes, under, elsewhere}
 use Rattle.board_rules.proofs.MovingExample.{IsOneSegment, moved, j7, c7}

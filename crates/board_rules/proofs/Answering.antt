@@ -13,9 +13,9 @@ use Rattle.run_rules.specs.Told.{replies_after, limits_in}
 use Rattle.board_rules.proofs.Lined.{as_many, limits_are, all_answer, all_answered}
 use Rattle.units.specs.Truths.{one_if}
 use Rattle.run_rules.specs.Work.{Outcome}
-use Rattle.board_rules.specs.Openings.{Opening}
-use Rattle.board_rules.specs.Steps.{Journal, taken_of, has_limited, answered_of, whole_of, open_of, lines_of, outcomes_of, left_of, closed_tells}
-use Rattle.board_rules.specs.Steps.Step.{closing}
+use Rattle.board_journal.specs.Openings.{Opening}
+use Rattle.board_journal.specs.Steps.{Journal, taken_of, has_limited, answered_of, whole_of, open_of, lines_of, outcomes_of, left_of, closed_tells}
+use Rattle.board_journal.specs.Steps.Step.{closing}
 use Rattle.board_rules.specs.Conduct.{Conducted, IsNextTask}
 use Rattle.board_rules.specs.Whole.{AreLines}
 use Rattle.board_rules.proofs.Opening.{greeted_answers, opened}

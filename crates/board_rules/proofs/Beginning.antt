@@ -10,9 +10,9 @@ use Rattle.run_rules.specs.Finding.{Fate}
 use Rattle.run_rules.specs.Finding.{Fate as fates}
 use Rattle.run_rules.proofs.Finding.{with_cause, found_caused}
 use Rattle.run_rules.proofs.Fates.{fate}
-use Rattle.board_rules.specs.Openings.{Opening}
-use Rattle.board_rules.specs.Steps.{Journal, before_of, open_of, motion_of}
-use Rattle.board_rules.specs.Steps.Step.{began}
+use Rattle.board_journal.specs.Openings.{Opening}
+use Rattle.board_journal.specs.Steps.{Journal, before_of, open_of, motion_of}
+use Rattle.board_journal.specs.Steps.Step.{began}
 use Rattle.board_rules.specs.Turns.{has_jogged, machine_in}
 use Rattle.board_rules.specs.Conduct.{MayBegin}
 use Rattle.board_rules.specs.Whole.{has_any_moved}

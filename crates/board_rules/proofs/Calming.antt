@@ -10,15 +10,15 @@ use Rattle.status_report.specs.declared.Reply.{Reply}
 use Rattle.step_line.specs.Asking.{Asked, ticks_of_all}
 use Rattle.line_geom.specs.declared.Block.{Block}
 use Rattle.planner_runs.specs.Runs.{ticks_left, ticks_left_in}
-use Rattle.board_rules.specs.Openings.{Opening}
+use Rattle.board_journal.specs.Openings.{Opening}
 use Rattle.run_rules.specs.Work.{Task, Outcome, asks, has_moves}
 use Rattle.run_rules.specs.Work.Task.{tell}
 use Rattle.run_rules.specs.Cuts.{ticks_asked_for}
 use Rattle.run_rules.specs.Reports.{settled_to, moves, fewest}
-use Rattle.board_rules.specs.Ports.PortStep.{answered, loaded, found_halt}
-use Rattle.board_rules.specs.Steps.{Journal, has_limited, outcomes_of, known_of, plan_of, left_of, before_of, closed_tells}
+use Rattle.board_journal.specs.Ports.PortStep.{answered, loaded, found_halt}
+use Rattle.board_journal.specs.Steps.{Journal, has_limited, outcomes_of, known_of, plan_of, left_of, before_of, closed_tells}
 use Rattle.board_rules.specs.Cuts.{counts_of}
-use Rattle.board_rules.specs.Steps.Step.{at_port, began, did, cut, halted}
+use Rattle.board_journal.specs.Steps.Step.{at_port, began, did, cut, halted}
 use Rattle.board_rules.specs.Conduct.{Conducted, IsNextTask, ticks_given}
 use Rattle.board_rules.specs.Whole.{comes_to_rest, HasComeToRest, has_any_moved}
 use Rattle.board_rules.proofs.Counting.{left_to_ask, counts_are, length_counts, counts_begun, counts_did}

@@ -9,15 +9,15 @@ use Rattle.feed_hold.specs.Motions.{Call, IsBy, asks, hold_byte, cancel_byte}
 use Rattle.feed_hold.specs.Motions.Call.{on_exec, on_pause, on_stopped}
 use Rattle.feed_hold.proofs.Reaching.{StaysOrReaches, reached}
 use Rattle.flight.specs.Places.{end_from}
-use Rattle.board_rules.specs.Openings.{Opening}
+use Rattle.board_journal.specs.Openings.{Opening}
 use Rattle.step_line.specs.declared.Mark.TheVariants as marks
 use Rattle.step_line.specs.declared.Piece.{Piece}
 use Rattle.step_line.specs.declared.Piece.TheVariants as pieces
 use Rattle.step_line.specs.Finishing.{ticks_together}
-use Rattle.board_rules.specs.Ports.{asks_reset}
-use Rattle.board_rules.specs.Ports.PortStep.{took_exec, published}
-use Rattle.board_rules.specs.Steps.{Journal, port_log, given_of, published_of, known_of, motion_of}
-use Rattle.board_rules.specs.Steps.Step.{at_port, paused, became, cut}
+use Rattle.board_journal.specs.Ports.{asks_reset}
+use Rattle.board_journal.specs.Ports.PortStep.{took_exec, published}
+use Rattle.board_journal.specs.Steps.{Journal, port_log, given_of, published_of, known_of, motion_of}
+use Rattle.board_journal.specs.Steps.Step.{at_port, paused, became, cut}
 use Rattle.board_rules.specs.Cuts.{parts_of, has_cut, is_cancelling, begins_cancel, cancels_of, pending, asks_cancel, cancel_words_in}
 use Rattle.board_rules.specs.Turns.{this_turn, unobeyed_by, unobeyed_of, loads}
 use Rattle.board_rules.specs.Conduct.{Conducted, MayHappen, IsStopped, ticks_published, MayOpen}

@@ -4,7 +4,7 @@ use Rattle.std.specs.List.{list_any}
 use Rattle.feed_hold.specs.declared.Motion.{Motion}
 use Rattle.feed_hold.specs.declared.Motion.TheVariants as motions
 use Rattle.line_geom.specs.declared.Block.{Block}
-use Rattle.board_rules.specs.Openings.{Opening}
+use Rattle.board_journal.specs.Openings.{Opening}
 use Rattle.run_rules.specs.declared.machine.Machine.TheVariants.{Runs, Jogs, Locked}
 use Rattle.run_rules.specs.Work.{Outcome, Kind, accepted_code, has_moves, asks}
 use Rattle.run_rules.specs.Work.Kind.{of_none}
@@ -13,9 +13,9 @@ use Rattle.run_rules.specs.Outcomes.{jogged_behind}
 use Rattle.run_rules.specs.Locking.{BecomesIn}
 use Rattle.run_rules.specs.Finding.{Fate, Fate as fates}
 use Rattle.run_rules.proofs.Finding.{IsCaused, found_becomes}
-use Rattle.board_rules.specs.Ports.PortStep.{answered}
-use Rattle.board_rules.specs.Steps.{Journal, plan_of, motion_of, left_of, open_of, before_of, closed_tells}
-use Rattle.board_rules.specs.Steps.Step.{at_port, began, did, made_end, evened, paused, became, cut, halted, closing, turned}
+use Rattle.board_journal.specs.Ports.PortStep.{answered}
+use Rattle.board_journal.specs.Steps.{Journal, plan_of, motion_of, left_of, open_of, before_of, closed_tells}
+use Rattle.board_journal.specs.Steps.Step.{at_port, began, did, made_end, evened, paused, became, cut, halted, closing, turned}
 use Rattle.board_rules.specs.Turns.{this_turn, found_none, is_full, awaits_motion, has_blocks, has_jogged, machine_in, begins_in, is_going, is_locked, starts_cycle}
 use Rattle.board_rules.specs.Conduct.{Conducted}
 use Rattle.board_rules.specs.Whole.{comes_to_rest}

@@ -18,14 +18,14 @@ use Rattle.plan_rules.specs.declared.Mode.TheVariants.{Go, Hold}
 use Rattle.planner_runs.specs.declared.Action.{Action}
 use Rattle.planner_runs.specs.declared.Action.TheVariants.{Add, Take, Override, Mark, Rest, Clear, Reset}
 use Rattle.planner_runs.specs.Runs.{IsAtRest}
-use Rattle.board_rules.specs.Openings.{Opening}
+use Rattle.board_journal.specs.Openings.{Opening}
 use Rattle.run_rules.specs.Work.{Task, closing_work}
 use Rattle.run_rules.specs.Work.Task.{ask, tell, pause, normal, finish, halt}
-use Rattle.board_rules.specs.Ports.{MayBeDone}
-use Rattle.board_rules.specs.Ports.PortStep.{took, found_closed, answered, published, loaded, found_halt}
+use Rattle.board_journal.specs.Ports.{MayBeDone}
+use Rattle.board_journal.specs.Ports.PortStep.{took, found_closed, answered, published, loaded, found_halt}
 use Rattle.board_rules.specs.Turns.{stands_still}
-use Rattle.board_rules.specs.Steps.{Journal, port_log, has_limited, motion_of, without_asks, known_of, given_of, planned_of, hand_of, plan_of, left_of, plan_after, whole_of, has_closed, closed_tells}
-use Rattle.board_rules.specs.Steps.Step.{at_port, began, did, made_end, evened, paused, became, cut, halted, closing}
+use Rattle.board_journal.specs.Steps.{Journal, port_log, has_limited, motion_of, without_asks, known_of, given_of, planned_of, hand_of, plan_of, left_of, plan_after, whole_of, has_closed, closed_tells}
+use Rattle.board_journal.specs.Steps.Step.{at_port, began, did, made_end, evened, paused, became, cut, halted, closing}
 use Rattle.board_rules.specs.Conduct.{Conducted, ticks_given, Gives, MayDo, MayEnd, MayEven, MayHappen, MayPause, MayTell, IsFinished}
 use Rattle.board_rules.specs.Whole.{IsSpent}
 use Rattle.step_line.proofs.Finished.{together_both}

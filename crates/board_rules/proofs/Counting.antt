@@ -3,7 +3,7 @@ use Rattle.std.proofs.Common.{◌≡◌, ℕ, zero, suc, ◌+◌, ◌-◌, ◌�
 use Rattle.std.specs.List.{AllByRecursion, flat_map, sum}
 use Rattle.std.proofs.lemmas.List.{length-map, map-append}
 use Rattle.std.proofs.lemmas.List.Sums.{sum_by-append, sum_by-cons}
-use Rattle.board_rules.specs.Openings.{Opening}
+use Rattle.board_journal.specs.Openings.{Opening}
 use Rattle.run_rules.specs.Cuts.{ticks_asked_for, counts_asked, cut_to, with_cut}
 use Rattle.run_rules.specs.Work.{Outcome, asks}
 use Rattle.run_rules.specs.Told.{asked_in}
@@ -19,8 +19,8 @@ use Rattle.step_line.specs.declared.Piece.{Piece}
 use Rattle.step_line.specs.declared.Piece.TheVariants as pieces
 use Rattle.step_line.specs.declared.Record.{Record}
 use Rattle.step_line.proofs.Finished.{together_both}
-use Rattle.board_rules.specs.Steps.{Journal, has_limited, outcomes_of, plan_of, left_of}
-use Rattle.board_rules.specs.Steps.Step.{began, did}
+use Rattle.board_journal.specs.Steps.{Journal, has_limited, outcomes_of, plan_of, left_of}
+use Rattle.board_journal.specs.Steps.Step.{began, did}
 use Rattle.board_rules.specs.Parts.{Part, IsCutPart, lines_in, pieces_in, counts_in, AreNumbered}
 use Rattle.board_rules.specs.Cuts.{part_outcomes, part_given, part_plan, part_counts, has_halted, parts_of, counts_of}
 use Rattle.board_rules.specs.Conduct.{Conducted, ticks_given}

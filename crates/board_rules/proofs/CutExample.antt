@@ -38,10 +38,10 @@ use Rattle.run_rules.specs.declared.machine.Machine.TheVariants.{Jogs}
 use Rattle.run_rules.specs.Finding.{Found}
 use Rattle.run_rules.specs.Outcomes.{start, after}
 use Rattle.status_report.specs.declared.Reply.TheVariants.{Ok}
-use Rattle.board_rules.specs.Openings.{first_opening}
-use Rattle.board_rules.specs.Ports.PortStep.{answered, took_exec, published, loaded}
-use Rattle.board_rules.specs.Steps.{Journal, before_of, left_of, plan_of}
-use Rattle.board_rules.specs.Steps.Step.{at_port, began, did, became, cut, turned}
+use Rattle.board_journal.specs.Openings.{first_opening}
+use Rattle.board_journal.specs.Ports.PortStep.{answered, took_exec, published, loaded}
+use Rattle.board_journal.specs.Steps.{Journal, before_of, left_of, plan_of}
+use Rattle.board_journal.specs.Steps.Step.{at_port, began, did, became, cut, turned}
 use Rattle.board_rules.specs.Turns.{has_blocks}
 use Rattle.board_rules.specs.Conduct.{Conducted}
 use Rattle.board_rules.proofs.Example.{ends, nothing, no_changes, under, untrue, elsewhere}

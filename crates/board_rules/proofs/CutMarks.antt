@@ -12,13 +12,13 @@ use Rattle.step_line.specs.Finishing.{ticks_together}
 use Rattle.plan_rules.specs.declared.Mode.TheVariants.{Go, Hold}
 use Rattle.planner_runs.specs.declared.Action.{Action}
 use Rattle.planner_runs.specs.declared.Action.TheVariants.{Add, Take, Override, Mark, Rest, Clear, Reset}
-use Rattle.board_rules.specs.Openings.{Opening}
+use Rattle.board_journal.specs.Openings.{Opening}
 use Rattle.run_rules.specs.Work.{Task, Outcome, telling}
 use Rattle.run_rules.specs.Work.Task.{ask}
 use Rattle.run_rules.specs.Outcomes.{Before, Becomes}
-use Rattle.board_rules.specs.Ports.PortStep.{answered, published, loaded, found_halt}
-use Rattle.board_rules.specs.Steps.{Journal, published_of, known_of, open_of, left_of, left_by, without_asks, hand_of, plan_of}
-use Rattle.board_rules.specs.Steps.Step.{at_port, began, did, made_end, became, cut, closing, turned}
+use Rattle.board_journal.specs.Ports.PortStep.{answered, published, loaded, found_halt}
+use Rattle.board_journal.specs.Steps.{Journal, published_of, known_of, open_of, left_of, left_by, without_asks, hand_of, plan_of}
+use Rattle.board_journal.specs.Steps.Step.{at_port, began, did, made_end, became, cut, closing, turned}
 use Rattle.board_rules.specs.Turns.{unobeyed_of}
 use Rattle.board_rules.specs.Conduct.{Conducted, Gives, MayDo, IsStopped, IsTimely, ticks_published}
 use Rattle.board_rules.proofs.Beginning.{caused, of_begun}

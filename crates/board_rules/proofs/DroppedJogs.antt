@@ -11,11 +11,11 @@ use Rattle.run_rules.specs.Work.Task.{ask, tell, pause, normal, finish, halt}
 use Rattle.step_line.specs.Asking.{Asked}
 use Rattle.step_line.specs.Asking.Asked.{a_move, a_mark, a_rest}
 use Rattle.step_line.specs.declared.Piece.{Piece}
-use Rattle.board_rules.specs.Openings.{Opening}
-use Rattle.board_rules.specs.Ports.PortStep.{answered}
+use Rattle.board_journal.specs.Openings.{Opening}
+use Rattle.board_journal.specs.Ports.PortStep.{answered}
 use Rattle.board_rules.specs.Parts.{DropsLast}
-use Rattle.board_rules.specs.Steps.{Step, Journal, left_of, motion_of, open_of}
-use Rattle.board_rules.specs.Steps.Step.{at_port, began, did, made_end, evened, paused, cut, halted, closing}
+use Rattle.board_journal.specs.Steps.{Step, Journal, left_of, motion_of, open_of}
+use Rattle.board_journal.specs.Steps.Step.{at_port, began, did, made_end, evened, paused, cut, halted, closing}
 use Rattle.board_rules.specs.Cuts.{part_outcomes}
 use Rattle.board_rules.specs.Turns.{has_jogged, machine_in}
 use Rattle.board_rules.specs.Conduct.{Conducted, MayDo}

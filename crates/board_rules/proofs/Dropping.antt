@@ -3,7 +3,7 @@ use Rattle.std.proofs.Common.{◌≡◌, ◌+◌, true, false, List, [], ◌∷�
 use Rattle.status_report.specs.declared.Reply.{Reply}
 use Rattle.run_rules.specs.Work.{Task, asks, tells, has_moves, pauses}
 use Rattle.run_rules.specs.Work.Task.{ask, tell, pause}
-use Rattle.board_rules.specs.Steps.{without_asks}
+use Rattle.board_journal.specs.Steps.{without_asks}
 use Rattle.board_rules.specs.Turns.{tells_next}
 use Rattle.board_rules.specs.Whole.{comes_to_rest}
 

@@ -12,8 +12,8 @@ use Rattle.planner_runs.specs.declared.Action.TheVariants.{Add, Take, Override, 
 use Rattle.planner_runs.specs.Runs.{Plans, AllFollow, fresh_plan, with_move, cleared}
 use Rattle.planner_runs.proofs.Runs.{fresh_starts}
 use Rattle.planner_runs.proofs.Following.{start_follows}
-use Rattle.board_rules.specs.Openings.{Opening}
-use Rattle.board_rules.specs.Steps.{Journal, given_of, planned_of, plan_of, hand_of, actions_of, published_of}
+use Rattle.board_journal.specs.Openings.{Opening}
+use Rattle.board_journal.specs.Steps.{Journal, given_of, planned_of, plan_of, hand_of, actions_of, published_of}
 use Rattle.board_rules.specs.Conduct.{Conducted, IsInHand}
 use Rattle.board_rules.proofs.Keeping.{run_is, hand_is}
 use Rattle.board_rules.proofs.Closing.{At, going, to_finish, to_tell, over, phase_is}

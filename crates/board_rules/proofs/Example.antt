@@ -39,10 +39,10 @@ use Rattle.status_report.specs.declared.Reply.TheVariants.{Banner, Ok, Bye}
 use Rattle.step_line.specs.Asking.Asked.{a_mark, a_move}
 use Rattle.step_line.specs.declared.Mark.TheVariants as marks
 use Rattle.step_line.specs.declared.Piece.TheVariants as pieces
-use Rattle.board_rules.specs.Openings.{Opening, first_opening}
-use Rattle.board_rules.specs.Ports.PortStep.{found_empty, found_closed, answered, took_exec, published, loaded}
-use Rattle.board_rules.specs.Steps.{Journal, left_of}
-use Rattle.board_rules.specs.Steps.Step.{at_port, began, did, made_end, became, closing, turned}
+use Rattle.board_journal.specs.Openings.{Opening, first_opening}
+use Rattle.board_journal.specs.Ports.PortStep.{found_empty, found_closed, answered, took_exec, published, loaded}
+use Rattle.board_journal.specs.Steps.{Journal, left_of}
+use Rattle.board_journal.specs.Steps.Step.{at_port, began, did, made_end, became, closing, turned}
 use Rattle.board_rules.specs.Turns.{this_turn, publishing, replans, takes_changes, unobeyed_of, halts_next, starts_cycle, tries_of, most_tries}
 use Rattle.board_rules.specs.Conduct.{Conducted, MayOpen, EndsTurn, AreWaiting}
 use Rattle.board_rules.proofs.Taking.{line_taken, words_taken, may_take_line, may_take_words}

@@ -7,12 +7,12 @@ use Rattle.step_line.specs.Asking.Asked.{a_move, a_mark, a_rest}
 use Rattle.plan_rules.specs.declared.Mode.TheVariants.{Go}
 use Rattle.planner_runs.specs.declared.Action.{Action}
 use Rattle.planner_runs.specs.declared.Action.TheVariants.{Add, Take, Mark, Rest, Clear, Reset}
-use Rattle.board_rules.specs.Openings.{Opening}
+use Rattle.board_journal.specs.Openings.{Opening}
 use Rattle.run_rules.specs.Work.{Task}
 use Rattle.run_rules.specs.Work.Task.{ask, tell, pause, normal, finish, halt}
-use Rattle.board_rules.specs.Ports.PortStep.{took, answered}
-use Rattle.board_rules.specs.Steps.{Journal, left_of, left_by, without_asks, whole_of, closed_tells, motion_of}
-use Rattle.board_rules.specs.Steps.Step.{at_port, began, did, made_end, evened, paused, cut, halted, closing, turned}
+use Rattle.board_journal.specs.Ports.PortStep.{took, answered}
+use Rattle.board_journal.specs.Steps.{Journal, left_of, left_by, without_asks, whole_of, closed_tells, motion_of}
+use Rattle.board_journal.specs.Steps.Step.{at_port, began, did, made_end, evened, paused, cut, halted, closing, turned}
 use Rattle.board_rules.specs.Turns.{this_turn, missed_of, is_due, is_halting, is_counted, counts_tries, owes_report, is_reply_back, is_report_back, awaits_motion, needs_motion}
 use Rattle.board_rules.specs.Within.{tells_none}
 use Rattle.board_rules.specs.Conduct.{Conducted, IsNextTask, MayDo}

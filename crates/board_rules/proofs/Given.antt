@@ -2,11 +2,11 @@
 use Rattle.std.proofs.Common.{◌≡◌, ℕ, ◌+◌, ◌≤◌, [], ◌∷◌, ◌++◌, ap, ◌∙◌, arith}
 use Rattle.step_line.specs.Finishing.{ticks_together}
 use Rattle.step_line.proofs.Finished.{together_both}
-use Rattle.board_rules.specs.Openings.{Opening}
-use Rattle.board_rules.specs.Ports.{MayBeDone}
-use Rattle.board_rules.specs.Ports.PortStep.{published, loaded, found_halt}
-use Rattle.board_rules.specs.Steps.{Journal, port_log, hand_of, known_of, published_of}
-use Rattle.board_rules.specs.Steps.Step.{at_port}
+use Rattle.board_journal.specs.Openings.{Opening}
+use Rattle.board_journal.specs.Ports.{MayBeDone}
+use Rattle.board_journal.specs.Ports.PortStep.{published, loaded, found_halt}
+use Rattle.board_journal.specs.Steps.{Journal, port_log, hand_of, known_of, published_of}
+use Rattle.board_journal.specs.Steps.Step.{at_port}
 use Rattle.board_rules.specs.Conduct.{Conducted, ticks_given, ticks_published}
 use Rattle.board_rules.proofs.Keeping.{hand_is}
 use Rattle.board_rules.proofs.Unstopped.{done_within}

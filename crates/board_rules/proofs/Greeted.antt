@@ -13,11 +13,11 @@ use Rattle.status_report.specs.declared.reports.Report.{Report}
 use Rattle.step_line.specs.Asking.Asked.{a_move, a_mark, a_rest}
 use Rattle.step_line.specs.declared.Piece.{Piece}
 use Rattle.board_rules.specs.Conduct.{Conducted, MayDo}
-use Rattle.board_rules.specs.Openings.{Opening, up_to_banner}
-use Rattle.board_rules.specs.Ports.{BoardLog, answered_in, link_steps}
-use Rattle.board_rules.specs.Ports.PortStep.{answered, reported, took_exec}
-use Rattle.board_rules.specs.Steps.{Journal, port_log, taken_of, answered_of, outcomes_of, left_of, closed_tells, without_asks}
-use Rattle.board_rules.specs.Steps.Step.{at_port, began, did, made_end, evened, paused, cut, halted, closing}
+use Rattle.board_journal.specs.Openings.{Opening, up_to_banner}
+use Rattle.board_journal.specs.Ports.{BoardLog, answered_in, link_steps}
+use Rattle.board_journal.specs.Ports.PortStep.{answered, reported, took_exec}
+use Rattle.board_journal.specs.Steps.{Journal, port_log, taken_of, answered_of, outcomes_of, left_of, closed_tells, without_asks}
+use Rattle.board_journal.specs.Steps.Step.{at_port, began, did, made_end, evened, paused, cut, halted, closing}
 use Rattle.board_rules.specs.Turns.{is_greeted, owes_report, tells_next}
 use Rattle.board_rules.proofs.Greeting.{banners_in, banners_on, banners_first, banners_are, since}
 use Rattle.board_rules.proofs.Keeping.{told_is}

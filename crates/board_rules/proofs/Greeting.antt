@@ -12,18 +12,18 @@ use Rattle.serial_ring.specs.Logs.{has_greeted, answers_since, lfs_since}
 use Rattle.run_rules.specs.Told.{replies_after}
 use Rattle.run_rules.specs.Work.{Task, Outcome, tells}
 use Rattle.run_rules.specs.Work.Task.{tell}
-use Rattle.board_rules.specs.Openings.{Opening}
-use Rattle.board_rules.specs.Ports.{BoardLog, taken_in, answered_in, link_steps, MayAnswer}
-use Rattle.board_rules.specs.Ports.PortStep.{took, answered, reported}
-use Rattle.board_rules.specs.Steps.{Journal, port_log, taken_of, answered_of, outcomes_of, left_of, closed_tells}
-use Rattle.board_rules.specs.Steps.Step.{at_port}
+use Rattle.board_journal.specs.Openings.{Opening}
+use Rattle.board_journal.specs.Ports.{BoardLog, taken_in, answered_in, link_steps, MayAnswer}
+use Rattle.board_journal.specs.Ports.PortStep.{took, answered, reported}
+use Rattle.board_journal.specs.Steps.{Journal, port_log, taken_of, answered_of, outcomes_of, left_of, closed_tells}
+use Rattle.board_journal.specs.Steps.Step.{at_port}
 use Rattle.board_rules.specs.Conduct.{Conducted, MayTake, MayTell, IsNextTask}
 use Rattle.board_rules.proofs.Opening.{opened}
 use Rattle.board_rules.proofs.Answering.{answers_are, answer_is_due, closing_none}
 use Rattle.board_rules.proofs.Keeping.{told_is}
 use Rattle.board_rules.proofs.Limits.{few_answered}
 use Rattle.board_rules.proofs.Lined.{all_answer, all_greet_none}
-use Rattle.board_rules.proofs.LinkSteps.{same_answered}
+use Rattle.board_journal.proofs.LinkSteps.{same_answered}
 
 abbrev pub banners_in : List Reply → ℕ
 banners_in rs = count_by is_banner rs

@@ -12,7 +12,7 @@ use Rattle.run_rules.proofs.Alarms.{beyond}
 use Rattle.run_rules.proofs.Each.{by_either, HoldsOfEach, holds_of_each}
 use Rattle.run_rules.proofs.Finding.{with_cause, free_caused}
 use Rattle.run_rules.proofs.Items.{PassesTasks, holds_of_move, holds_of_work}
-use Rattle.board_rules.specs.Steps.{without_asks}
+use Rattle.board_journal.specs.Steps.{without_asks}
 use Rattle.board_rules.specs.Turns.{halts_next}
 
 -- ---- tasks

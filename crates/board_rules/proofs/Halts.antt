@@ -9,7 +9,7 @@ use Rattle.planner_runs.specs.declared.Action.{Action}
 use Rattle.planner_runs.specs.declared.Action.TheVariants.{Override}
 use Rattle.planner_runs.specs.Runs.{all_asked, ticks_left}
 use Rattle.planner_runs.proofs.Legal.{halted_heads_are_legal}
-use Rattle.board_rules.specs.Openings.{Opening}
+use Rattle.board_journal.specs.Openings.{Opening}
 use Rattle.run_rules.specs.Cuts.{ticks_asked_for, counts_asked}
 use Rattle.run_rules.specs.Outcomes.{Passed}
 use Rattle.run_rules.specs.Outcomes.Passed.{a_line}
@@ -20,10 +20,10 @@ use Rattle.step_line.specs.Asking.{Asked, ticks_of_all}
 use Rattle.step_line.specs.Finishing.{ticks_together}
 use Rattle.step_line.specs.Pieces.{ticks_of}
 use Rattle.step_line.specs.declared.Piece.{Piece}
-use Rattle.board_rules.specs.Ports.PortStep.{loaded, found_halt}
+use Rattle.board_journal.specs.Ports.PortStep.{loaded, found_halt}
 use Rattle.board_rules.specs.Parts.{IsAlarmedPart, lines_in, counts_in}
-use Rattle.board_rules.specs.Steps.{Step, Journal, has_limited, outcomes_of, known_of, given_of, planned_of, left_of, plan_after}
-use Rattle.board_rules.specs.Steps.Step.{at_port, began, did, made_end, cut, halted}
+use Rattle.board_journal.specs.Steps.{Step, Journal, has_limited, outcomes_of, known_of, given_of, planned_of, left_of, plan_after}
+use Rattle.board_journal.specs.Steps.Step.{at_port, began, did, made_end, cut, halted}
 use Rattle.board_rules.specs.Cuts.{part_outcomes, part_actions, part_given, part_start, part_plan, has_halted, parts_of, passed_of}
 use Rattle.board_rules.specs.Conduct.{Conducted, ticks_given}
 use Rattle.board_rules.proofs.Alarms.{opposite, stage_is, halted_alarmed, halted_once, halting_left, only_override, none_asked, part_plan_is}

@@ -40,10 +40,10 @@ use Rattle.step_line.specs.declared.Piece.TheVariants as pieces
 use Rattle.step_line.specs.declared.Segment.{Segment}
 use Rattle.step_line.specs.declared.planned_move.PlannedMove.{PlannedMove}
 use Rattle.step_line.specs.Finishing.{ticks_together}
-use Rattle.board_rules.specs.Openings.{first_opening}
-use Rattle.board_rules.specs.Ports.PortStep.{found_empty, found_closed, answered, published, loaded}
-use Rattle.board_rules.specs.Steps.{Journal}
-use Rattle.board_rules.specs.Steps.Step.{at_port, began, did, made_end, became, closing, turned}
+use Rattle.board_journal.specs.Openings.{first_opening}
+use Rattle.board_journal.specs.Ports.PortStep.{found_empty, found_closed, answered, published, loaded}
+use Rattle.board_journal.specs.Steps.{Journal}
+use Rattle.board_journal.specs.Steps.Step.{at_port, began, did, made_end, became, closing, turned}
 use Rattle.board_rules.specs.Turns.{has_blocks}
 use Rattle.board_rules.specs.Conduct.{Conducted}
 use Rattle.board_rules.proofs.Example.{opens, ends, nothing, no_changes, under, untrue, elsewhere}

@@ -12,16 +12,16 @@ use Rattle.plan_rules.specs.declared.Mode.TheVariants.{Go, Hold}
 use Rattle.step_line.specs.Asking.Asked.{a_move}
 use Rattle.step_line.specs.declared.Piece.{Piece}
 use Rattle.step_line.specs.declared.planned_move.PlannedMove.{PlannedMove}
-use Rattle.board_rules.specs.Openings.{Opening}
+use Rattle.board_journal.specs.Openings.{Opening}
 use Rattle.run_rules.specs.declared.machine.Machine.{Machine}
 use Rattle.run_rules.specs.Work.{Task, Outcome, Kind, asks, asks_move, has_moves}
 use Rattle.run_rules.specs.Work.Task.{ask, pause}
 use Rattle.run_rules.specs.Outcomes.{jogged_behind}
 use Rattle.run_rules.specs.Finding.{Fate, IsJogWork}
 use Rattle.run_rules.specs.Finding.{Fate as fates}
-use Rattle.board_rules.specs.Ports.PortStep.{answered}
-use Rattle.board_rules.specs.Steps.{Journal, plan_of, motion_of, left_of, open_of}
-use Rattle.board_rules.specs.Steps.Step.{at_port, began, did, made_end, evened, paused, became, cut, halted, closing, turned}
+use Rattle.board_journal.specs.Ports.PortStep.{answered}
+use Rattle.board_journal.specs.Steps.{Journal, plan_of, motion_of, left_of, open_of}
+use Rattle.board_journal.specs.Steps.Step.{at_port, began, did, made_end, evened, paused, became, cut, halted, closing, turned}
 use Rattle.board_rules.specs.Turns.{has_blocks, has_jogged, waits_to_jog, machine_in, begins_in, is_alarm, is_going}
 use Rattle.board_rules.proofs.Locking.{begins_or_locked}
 use Rattle.board_rules.specs.Conduct.{Conducted, MayDo, MayHappen, MayOpen}

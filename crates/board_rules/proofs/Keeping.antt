@@ -25,15 +25,15 @@ use Rattle.plan_rules.specs.Plans.{Planned}
 use Rattle.planner_runs.specs.Runs.{IsPlannerRun, Plans, NeedsNoOther, DisturbedOnlyBy, NeverClears, IsNoReset, NeverResets, normal_overrides, fresh_plan, cleared}
 use Rattle.planner_runs.proofs.Runs.{goes_on, grows_by_override, grows_by_clear, disturbed_on, disturbed_more, disturbed_keeps, resets_on}
 use Rattle.plan_rules.specs.declared.Mode.TheVariants.{Go, Hold}
-use Rattle.board_rules.specs.Openings.{Opening}
+use Rattle.board_journal.specs.Openings.{Opening}
 use Rattle.run_rules.specs.Work.{Task, Outcome, tells, told_by}
 use Rattle.run_rules.specs.Work.Task.{ask, pause, normal, finish, halt}
 use Rattle.run_rules.specs.Told.{replies_after}
 use Rattle.board_rules.proofs.Opening.{tells_telling}
-use Rattle.board_rules.specs.Ports.{PortStep, asks_reset, has_changes, BoardLog, holds_at, has_held_in, cancels_at, has_cancelled_in, has_slowed_in, changes_at, has_changed_in}
-use Rattle.board_rules.specs.Ports.PortStep.{answered, reported, took_exec, took_ovr, published}
-use Rattle.board_rules.specs.Steps.{Journal, port_log, has_limited, outcomes_of, answered_of, actions_of, planned_of, given_of, published_of, hand_of, plan_of, motion_of, left_of, left_by, plan_after, closed_tells}
-use Rattle.board_rules.specs.Steps.Step.{at_port, began, did, made_end, evened, paused, became, cut, halted, closing}
+use Rattle.board_journal.specs.Ports.{PortStep, asks_reset, has_changes, BoardLog, holds_at, has_held_in, cancels_at, has_cancelled_in, has_slowed_in, changes_at, has_changed_in}
+use Rattle.board_journal.specs.Ports.PortStep.{answered, reported, took_exec, took_ovr, published}
+use Rattle.board_journal.specs.Steps.{Journal, port_log, has_limited, outcomes_of, answered_of, actions_of, planned_of, given_of, published_of, hand_of, plan_of, motion_of, left_of, left_by, plan_after, closed_tells}
+use Rattle.board_journal.specs.Steps.Step.{at_port, began, did, made_end, evened, paused, became, cut, halted, closing}
 use Rattle.board_rules.specs.Parts.{Part, AreDisturbedOnlyBy}
 use Rattle.board_rules.specs.Cuts.{part_actions, parts_of}
 use Rattle.board_rules.specs.Turns.{unobeyed_of}

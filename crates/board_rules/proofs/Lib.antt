@@ -2,7 +2,6 @@ pub mod Truths
 pub mod Opening
 pub mod Locking
 pub mod DroppedJogs
-pub mod LinkSteps
 pub mod Tasks
 pub mod Dropping
 pub mod Plain
@@ -53,7 +52,6 @@ pub mod Standing
 pub mod JogExample
 pub mod CutExample
 pub mod AlarmExample
-pub mod Asking
 pub mod Marks
 pub mod HaltWorks
 pub mod Lasts

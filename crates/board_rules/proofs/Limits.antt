@@ -29,11 +29,11 @@ use Rattle.planner_runs.specs.Runs.{Plans, with_move, cleared, all_asked, ticks_
 use Rattle.planner_runs.proofs.Ticks.{ticks_from_start}
 use Rattle.run_rules.specs.Work.{Outcome, asks, tells}
 use Rattle.run_rules.specs.Told.{asked_in, replies_after}
-use Rattle.board_rules.specs.Openings.{Opening}
-use Rattle.board_rules.specs.Ports.{reports_in, MayPublish}
-use Rattle.board_rules.specs.Ports.PortStep.{took}
-use Rattle.board_rules.specs.Steps.{Journal, port_log, taken_of, answered_of, published_of, lines_of, outcomes_of, left_of, closed_tells, hand_of, open_of, whole_of}
-use Rattle.board_rules.specs.Steps.Step.{at_port}
+use Rattle.board_journal.specs.Openings.{Opening}
+use Rattle.board_journal.specs.Ports.{reports_in, MayPublish}
+use Rattle.board_journal.specs.Ports.PortStep.{took}
+use Rattle.board_journal.specs.Steps.{Journal, port_log, taken_of, answered_of, published_of, lines_of, outcomes_of, left_of, closed_tells, hand_of, open_of, whole_of}
+use Rattle.board_journal.specs.Steps.Step.{at_port}
 use Rattle.board_rules.specs.Conduct.{Conducted, IsInHand, ticks_given, ticks_published}
 use Rattle.board_rules.proofs.Opening.{opened}
 use Rattle.board_rules.proofs.Plain.{length_apart}

@@ -12,9 +12,9 @@ use Rattle.run_rules.specs.Told.{limits_in}
 use Rattle.run_rules.specs.Work.{Outcome, is_limit, tells}
 use Rattle.run_rules.proofs.Answering.{AnswersOrHalts, answers_or_halts, told_once, one_counted, one_each, begun_greets_none}
 use Rattle.units.specs.Truths.{one_if}
-use Rattle.board_rules.specs.Openings.{Opening}
-use Rattle.board_rules.specs.Steps.{Journal, has_limited, open_of, lines_of, outcomes_of, before_of}
-use Rattle.board_rules.specs.Steps.Step.{began}
+use Rattle.board_journal.specs.Openings.{Opening}
+use Rattle.board_journal.specs.Steps.{Journal, has_limited, open_of, lines_of, outcomes_of, before_of}
+use Rattle.board_journal.specs.Steps.Step.{began}
 use Rattle.board_rules.specs.Conduct.{Conducted}
 use Rattle.board_rules.proofs.Beginning.{caused, of_begun}
 

@@ -16,11 +16,11 @@ use Rattle.run_rules.specs.Locking.{FollowsFrom}
 use Rattle.run_rules.proofs.Going.{became_on}
 use Rattle.run_rules.proofs.Locking.{line_goes_on, cut_goes_on}
 use Rattle.board_rules.specs.Turns.{is_limited}
-use Rattle.board_rules.specs.Openings.{Opening, before_first}
-use Rattle.board_rules.specs.Steps.{Journal, taken_of, open_of, whole_of, lines_of, outcomes_of, before_of, given_of, left_of, left_by, without_asks, closed_tells}
+use Rattle.board_journal.specs.Openings.{Opening, before_first}
+use Rattle.board_journal.specs.Steps.{Journal, taken_of, open_of, whole_of, lines_of, outcomes_of, before_of, given_of, left_of, left_by, without_asks, closed_tells}
 use Rattle.board_rules.specs.Cuts.{passed_of}
-use Rattle.board_rules.specs.Ports.PortStep.{took, answered}
-use Rattle.board_rules.specs.Steps.Step.{at_port, began, did, made_end, evened, paused, cut, halted, closing}
+use Rattle.board_journal.specs.Ports.PortStep.{took, answered}
+use Rattle.board_journal.specs.Steps.Step.{at_port, began, did, made_end, evened, paused, cut, halted, closing}
 use Rattle.board_rules.proofs.Alarms.{alarmed_is}
 use Rattle.board_rules.proofs.Beginning.{jogged_is}
 use Rattle.board_rules.proofs.Jogging.{cancel_is_jog}

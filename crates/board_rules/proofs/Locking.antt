@@ -11,9 +11,9 @@ use Rattle.run_rules.specs.declared.machine.Machine.TheVariants.{Locked}
 use Rattle.run_rules.specs.Finding.{is_locked as is_locked_machine}
 use Rattle.run_rules.specs.Locking.{unlocks, locked_behind}
 use Rattle.run_rules.specs.Work.{Outcome}
-use Rattle.board_rules.specs.Openings.{Opening}
-use Rattle.board_rules.specs.Steps.{Journal, lines_of, open_of, motion_of}
-use Rattle.board_rules.specs.Steps.Step.{began, paused, became}
+use Rattle.board_journal.specs.Openings.{Opening}
+use Rattle.board_journal.specs.Steps.{Journal, lines_of, open_of, motion_of}
+use Rattle.board_journal.specs.Steps.Step.{began, paused, became}
 use Rattle.board_rules.specs.Turns.{is_limited, stands_still, is_locked, begins_in, machine_in}
 use Rattle.board_rules.specs.Conduct.{Conducted, MayHappen}
 use Rattle.board_rules.proofs.Truths.{both_left}

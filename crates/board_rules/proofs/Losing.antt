@@ -8,7 +8,7 @@ use Rattle.feed_hold.specs.declared.Motion.TheVariants as motions
 use Rattle.plan_rules.specs.Plans.{Planned}
 use Rattle.line_geom.specs.declared.Block.{Block}
 use Rattle.planner_runs.specs.Runs.{ticks_left_in, ticks_left}
-use Rattle.board_rules.specs.Openings.{Opening}
+use Rattle.board_journal.specs.Openings.{Opening}
 use Rattle.run_rules.specs.declared.machine.Machine.TheVariants.{Runs}
 use Rattle.run_rules.specs.Cuts.{ticks_for, ticks_asked_for, LosesJogsAlone}
 use Rattle.run_rules.specs.Finding.{Fate}
@@ -22,8 +22,8 @@ use Rattle.step_line.specs.Asking.{Asked, ticks_of_one, ticks_of_all}
 use Rattle.step_line.specs.Finishing.{ticks_together}
 use Rattle.step_line.specs.Pieces.{ticks_of}
 use Rattle.step_line.proofs.Finished.{together_both}
-use Rattle.board_rules.specs.Steps.{Journal, plan_of, motion_of, left_of, open_of, whole_of}
-use Rattle.board_rules.specs.Steps.Step.{began, did, cut}
+use Rattle.board_journal.specs.Steps.{Journal, plan_of, motion_of, left_of, open_of, whole_of}
+use Rattle.board_journal.specs.Steps.Step.{began, did, cut}
 use Rattle.board_rules.specs.Cuts.{part_outcomes, part_given, part_plan}
 use Rattle.board_rules.specs.Turns.{has_blocks, has_jogged, machine_in, begins_in, starts_cycle}
 use Rattle.board_rules.specs.Conduct.{Conducted}

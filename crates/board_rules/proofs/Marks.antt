@@ -22,10 +22,10 @@ use Rattle.run_rules.specs.Asks.{spindle_after, flood_after, item_work, work_of,
 use Rattle.run_rules.specs.Work.{Task, Outcome, asking, telling}
 use Rattle.run_rules.specs.Work.Task.{ask, tell, pause, normal, finish, halt}
 use Rattle.run_rules.specs.Outcomes.{Before, Becomes}
-use Rattle.board_rules.specs.Openings.{Opening}
-use Rattle.board_rules.specs.Ports.PortStep.{answered}
-use Rattle.board_rules.specs.Steps.{Journal, open_of, left_of, left_by, without_asks, plan_after, plan_of}
-use Rattle.board_rules.specs.Steps.Step.{at_port, began, did, made_end, evened, paused, cut, halted, closing}
+use Rattle.board_journal.specs.Openings.{Opening}
+use Rattle.board_journal.specs.Ports.PortStep.{answered}
+use Rattle.board_journal.specs.Steps.{Journal, open_of, left_of, left_by, without_asks, plan_after, plan_of}
+use Rattle.board_journal.specs.Steps.Step.{at_port, began, did, made_end, evened, paused, cut, halted, closing}
 use Rattle.board_rules.specs.Turns.{counts_tries}
 use Rattle.board_rules.proofs.Beginning.{caused, of_begun}
 use Rattle.board_rules.specs.Conduct.{Conducted, Gives, MayDo, IsNextTask}

@@ -3,8 +3,8 @@ use Rattle.std.proofs.Common.{◌≡◌, ◌⊎◌, inl, inr, false, true, sym, 
 use Rattle.feed_hold.specs.declared.Motion.{Motion}
 use Rattle.feed_hold.specs.declared.Motion.TheVariants.{Idle, Run, Holding, Held, Jog, Cancelling, Stopping, Alarm}
 use Rattle.feed_hold.specs.Motions.{is_stopping}
-use Rattle.board_rules.specs.Openings.{Opening}
-use Rattle.board_rules.specs.Steps.{Journal, has_limited, motion_of}
+use Rattle.board_journal.specs.Openings.{Opening}
+use Rattle.board_journal.specs.Steps.{Journal, has_limited, motion_of}
 use Rattle.board_rules.specs.Turns.{is_limited}
 use Rattle.board_rules.specs.Conduct.{Conducted, IsLocked}
 use Rattle.board_rules.proofs.Alarms.{limited_alarmed, unlimited_calm}

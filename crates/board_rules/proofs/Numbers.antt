@@ -14,7 +14,7 @@ use Rattle.planner_runs.specs.declared.Action.TheVariants.{Add, Take, Override, 
 use Rattle.plan_rules.specs.Plans.{Planned}
 use Rattle.planner_runs.specs.Runs.{Plans, normal_overrides, ticks_left}
 use Rattle.planner_runs.proofs.Legal.{cut_heads_are_legal}
-use Rattle.board_rules.specs.Openings.{Opening}
+use Rattle.board_journal.specs.Openings.{Opening}
 use Rattle.run_rules.specs.Outcomes.{Passed}
 use Rattle.run_rules.specs.Outcomes.Passed.{a_line, a_cut}
 use Rattle.run_rules.specs.Work.{Task, Outcome, asks}
@@ -26,9 +26,9 @@ use Rattle.step_line.specs.declared.Mark.TheVariants as marks
 use Rattle.step_line.specs.declared.Piece.{Piece}
 use Rattle.step_line.specs.declared.Piece.TheVariants as pieces
 use Rattle.units.specs.declared.Steps3.{Steps3}
-use Rattle.board_rules.specs.Ports.PortStep.{answered}
-use Rattle.board_rules.specs.Steps.{Journal, outcomes_of, actions_of, planned_of, given_of, plan_of, motion_of, left_of, plan_after}
-use Rattle.board_rules.specs.Steps.Step.{at_port, began, did, made_end, evened, paused, became, cut, halted, closing}
+use Rattle.board_journal.specs.Ports.PortStep.{answered}
+use Rattle.board_journal.specs.Steps.{Journal, outcomes_of, actions_of, planned_of, given_of, plan_of, motion_of, left_of, plan_after}
+use Rattle.board_journal.specs.Steps.Step.{at_port, began, did, made_end, evened, paused, became, cut, halted, closing}
 use Rattle.board_rules.specs.Parts.{IsCutPart, lines_in, actions_in, pieces_in, passed_in, last_number, AreNumbered, plan_behind, AreJoined}
 use Rattle.board_rules.specs.Cuts.{part_outcomes, part_actions, part_given, part_start, has_halted, parts_of, passed_of, has_cut}
 use Rattle.board_rules.specs.Turns.{has_blocks, stands_still}

@@ -11,8 +11,8 @@ use Rattle.status_report.specs.Answering.{is_answer, answers_in}
 use Rattle.status_report.specs.declared.Reply.TheVariants.{Banner}
 use Rattle.status_report.proofs.Answered.{answers_first, answers_on}
 use Rattle.step_line.specs.Asking.{Asked}
-use Rattle.board_rules.specs.Openings.{Opening, IsGreeting}
-use Rattle.board_rules.specs.Steps.{Journal}
+use Rattle.board_journal.specs.Openings.{Opening, IsGreeting}
+use Rattle.board_journal.specs.Steps.{Journal}
 use Rattle.board_rules.specs.Turns.{stands_still, halts_next}
 use Rattle.board_rules.specs.Conduct.{Conducted, MayOpen}
 use Rattle.board_rules.specs.Whole.{has_work}

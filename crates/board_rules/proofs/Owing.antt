@@ -4,11 +4,11 @@ use Rattle.status_report.specs.declared.Reply.{Reply}
 use Rattle.status_report.specs.declared.Reply.TheVariants as replies
 use Rattle.status_report.specs.declared.reports.Report.{Report}
 use Rattle.status_report.specs.Answering.{is_report, reports_among}
-use Rattle.board_rules.specs.Openings.{Opening}
-use Rattle.board_rules.specs.Ports.{asks_report, reports_in}
-use Rattle.board_rules.specs.Ports.PortStep.{answered, reported, took_exec}
-use Rattle.board_rules.specs.Steps.{Journal, port_log, answered_of}
-use Rattle.board_rules.specs.Steps.Step.{at_port}
+use Rattle.board_journal.specs.Openings.{Opening}
+use Rattle.board_journal.specs.Ports.{asks_report, reports_in}
+use Rattle.board_journal.specs.Ports.PortStep.{answered, reported, took_exec}
+use Rattle.board_journal.specs.Steps.{Journal, port_log, answered_of}
+use Rattle.board_journal.specs.Steps.Step.{at_port}
 use Rattle.board_rules.specs.Turns.{owes_report}
 use Rattle.board_rules.specs.Conduct.{Conducted}
 use Rattle.board_rules.proofs.Plain.{reports_on}

@@ -11,7 +11,7 @@ use Rattle.planner_runs.specs.Runs.{Plans, IsStart, NeverResets, normal_override
 use Rattle.line_geom.specs.declared.Block.{Block}
 use Rattle.planner_runs.proofs.Runs.{goes_on, grows_by_override, keeps_on, fresh_starts, clears_behind}
 use Rattle.planner_runs.proofs.Ticks.{ticks_from_start}
-use Rattle.board_rules.specs.Openings.{Opening}
+use Rattle.board_journal.specs.Openings.{Opening}
 use Rattle.run_rules.specs.Work.{Outcome, Task, asked_by_task, asks}
 use Rattle.run_rules.specs.Work.Task.{ask, normal}
 use Rattle.run_rules.specs.Told.{asked_in}
@@ -21,9 +21,9 @@ use Rattle.step_line.specs.declared.Record.{Record}
 use Rattle.step_line.specs.Asking.{Asked, ticks_of_one, ticks_of_all}
 use Rattle.step_line.specs.Asking.Asked.{a_move, a_mark, a_rest}
 use Rattle.step_line.specs.Pieces.{ticks_of}
-use Rattle.board_rules.specs.Ports.PortStep.{answered}
-use Rattle.board_rules.specs.Steps.{Journal, plan_of, left_of, left_by, plan_after}
-use Rattle.board_rules.specs.Steps.Step.{at_port, began, did, made_end, evened, paused, cut, halted, closing}
+use Rattle.board_journal.specs.Ports.PortStep.{answered}
+use Rattle.board_journal.specs.Steps.{Journal, plan_of, left_of, left_by, plan_after}
+use Rattle.board_journal.specs.Steps.Step.{at_port, began, did, made_end, evened, paused, cut, halted, closing}
 use Rattle.board_rules.specs.Cuts.{part_outcomes, part_actions, part_given, part_start, part_plan, has_halted}
 use Rattle.board_rules.specs.Conduct.{Conducted, MayDo, Gives}
 use Rattle.board_rules.specs.Parts.{but_last}

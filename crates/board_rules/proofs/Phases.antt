@@ -17,12 +17,12 @@ use Rattle.run_rules.specs.Work.Task.{ask, tell, pause, normal, finish, halt}
 use Rattle.run_rules.specs.Outcomes.{Before, Becomes, either}
 use Rattle.run_rules.proofs.Answering.{one_answer}
 use Rattle.run_rules.proofs.Each.{HoldsOfEach, holds_of_each}
-use Rattle.board_rules.specs.Openings.{Opening, IsGreeting}
+use Rattle.board_journal.specs.Openings.{Opening, IsGreeting}
 use Rattle.std.specs.List.{AllByRecursion}
-use Rattle.board_rules.specs.Ports.{PortStep}
-use Rattle.board_rules.specs.Ports.PortStep.{took, found_empty, found_closed, found_free, found_mark, answered, reported, no_reply_room, took_exec, took_ovr, published, no_piece_room, loaded, stored_stop, found_no_halt, found_halt}
-use Rattle.board_rules.specs.Steps.{Step, Journal, has_limited, outcomes_of, answered_of, left_of, without_asks, before_of, open_of, closed_tells}
-use Rattle.board_rules.specs.Steps.Step.{at_port, began, did, made_end, evened, paused, became, cut, halted, closing, turned}
+use Rattle.board_journal.specs.Ports.{PortStep}
+use Rattle.board_journal.specs.Ports.PortStep.{took, found_empty, found_closed, found_free, found_mark, answered, reported, no_reply_room, took_exec, took_ovr, published, no_piece_room, loaded, stored_stop, found_no_halt, found_halt}
+use Rattle.board_journal.specs.Steps.{Step, Journal, has_limited, outcomes_of, answered_of, left_of, without_asks, before_of, open_of, closed_tells}
+use Rattle.board_journal.specs.Steps.Step.{at_port, began, did, made_end, evened, paused, became, cut, halted, closing, turned}
 use Rattle.board_rules.specs.Whole.{has_any_moved}
 use Rattle.board_rules.proofs.Alarms.{opposite}
 use Rattle.board_rules.proofs.Beginning.{caused, of_begun, begun_halts}

@@ -31,12 +31,12 @@ use Rattle.flight.proofs.Places.{moved_on, end_on_from, ends_from, in_segment_fr
 use Rattle.flight.proofs.Flying.{joined_on}
 use Rattle.run_rules.specs.Work.{Task, asks_move, telling}
 use Rattle.run_rules.specs.Work.Task.{ask, tell, pause, normal, finish}
-use Rattle.board_rules.specs.Openings.{Opening, IsPlaced}
+use Rattle.board_journal.specs.Openings.{Opening, IsPlaced}
 use Rattle.status_report.specs.declared.Reply.{Reply}
-use Rattle.board_rules.specs.Ports.{PortStep}
-use Rattle.board_rules.specs.Ports.PortStep.{answered}
-use Rattle.board_rules.specs.Steps.{Step, Journal, actions_of, given_of, planned_of, published_of, hand_of, plan_of, left_of as tasks_left, without_asks, before_of, open_of}
-use Rattle.board_rules.specs.Steps.Step.{at_port, began, did, made_end, evened, paused, became, cut, halted, closing, turned}
+use Rattle.board_journal.specs.Ports.{PortStep}
+use Rattle.board_journal.specs.Ports.PortStep.{answered}
+use Rattle.board_journal.specs.Steps.{Step, Journal, actions_of, given_of, planned_of, published_of, hand_of, plan_of, left_of as tasks_left, without_asks, before_of, open_of}
+use Rattle.board_journal.specs.Steps.Step.{at_port, began, did, made_end, evened, paused, became, cut, halted, closing, turned}
 use Rattle.board_rules.specs.Cuts.{has_halted}
 use Rattle.board_rules.specs.Conduct.{Conducted, MayDo, MayAtPort, Gives, IsInHand}
 use Rattle.board_rules.proofs.Alarms.{stage_is, only_override}

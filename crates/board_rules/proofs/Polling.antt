@@ -2,9 +2,9 @@
 -- passed and none was handed back.
 use Rattle.std.proofs.Common.{◌≡◌, Bool, true, false, ◌||◌, [], ◌∷◌, refl, ap, ◌∙◌}
 use Rattle.std.specs.List.{list_any}
-use Rattle.board_rules.specs.Ports.PortStep.{took, found_empty, found_closed, answered, reported, no_reply_room}
-use Rattle.board_rules.specs.Steps.{Step, Journal}
-use Rattle.board_rules.specs.Steps.Step.{at_port}
+use Rattle.board_journal.specs.Ports.PortStep.{took, found_empty, found_closed, answered, reported, no_reply_room}
+use Rattle.board_journal.specs.Steps.{Step, Journal}
+use Rattle.board_journal.specs.Steps.Step.{at_port}
 use Rattle.board_rules.specs.Turns.{passing, found_none, polls_byte, polls_room, lacks_reply_room}
 
 neither : (a b : Bool) → (a || b) ≡ false → (a ≡ false) × (b ≡ false)

@@ -8,15 +8,15 @@ use Rattle.planner_runs.specs.Runs.{fresh_plan}
 use Rattle.planner_runs.proofs.Runs.{fresh_starts, rests_behind}
 use Rattle.step_line.specs.declared.Piece.{Piece}
 use Rattle.step_line.specs.Finishing.{ticks_together}
-use Rattle.board_rules.specs.Openings.{Opening}
+use Rattle.board_journal.specs.Openings.{Opening}
 use Rattle.run_rules.specs.Work.{Outcome}
 use Rattle.run_rules.specs.Outcomes.{Before}
 use Rattle.run_rules.specs.Locking.{BecomesIn}
 use Rattle.run_rules.specs.Finding.{Found, is_locked as is_locked_machine}
 use Rattle.run_rules.proofs.Finding.{becomes_still, becomes_locked}
 use Rattle.board_rules.proofs.Locking.{finds_locked}
-use Rattle.board_rules.specs.Steps.{Journal, before_of, open_of, known_of, given_of, published_of, planned_of, actions_of, hand_of, plan_of, motion_of}
-use Rattle.board_rules.specs.Steps.Step.{began}
+use Rattle.board_journal.specs.Steps.{Journal, before_of, open_of, known_of, given_of, published_of, planned_of, actions_of, hand_of, plan_of, motion_of}
+use Rattle.board_journal.specs.Steps.Step.{began}
 use Rattle.board_rules.specs.Turns.{has_blocks, machine_in, is_going, is_locked}
 use Rattle.board_rules.specs.Conduct.{Conducted, IsDrained, ticks_published}
 use Rattle.board_rules.specs.Whole.{IsFoundMoving}

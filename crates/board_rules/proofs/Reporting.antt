@@ -37,12 +37,12 @@ use Rattle.run_rules.specs.Work.Task.{pause}
 use Rattle.run_rules.specs.Cuts.{ticks_asked_for}
 use Rattle.run_rules.specs.Outcomes.{Before, at_place}
 use Rattle.run_rules.specs.Reports.{settled_to, moves, has_pause, raises_alarm, state_behind, steps_in_thousandths, shows_machine, shows_room, turns_shown, fewest, most, may_move, is_held, Shows, Course, IsAhead, FitsReport, Reported}
-use Rattle.board_rules.specs.Openings.{Opening}
-use Rattle.board_rules.specs.Ports.{PortStep, BoardLog, published_in, has_held_in, has_changed_in}
-use Rattle.board_rules.specs.Ports.PortStep.{answered, reported, published, loaded, found_halt}
+use Rattle.board_journal.specs.Openings.{Opening}
+use Rattle.board_journal.specs.Ports.{PortStep, BoardLog, published_in, has_held_in, has_changed_in}
+use Rattle.board_journal.specs.Ports.PortStep.{answered, reported, published, loaded, found_halt}
 use Rattle.board_rules.specs.Turns.{is_limited, stands_still}
-use Rattle.board_rules.specs.Steps.{Step, Journal, port_log, has_limited, outcomes_of, answered_of, given_of, published_of, known_of, plan_of, motion_of, left_of, left_by, before_of}
-use Rattle.board_rules.specs.Steps.Step.{at_port, began, did, made_end, paused, became, cut, halted, closing, turned}
+use Rattle.board_journal.specs.Steps.{Step, Journal, port_log, has_limited, outcomes_of, answered_of, given_of, published_of, known_of, plan_of, motion_of, left_of, left_by, before_of}
+use Rattle.board_journal.specs.Steps.Step.{at_port, began, did, made_end, paused, became, cut, halted, closing, turned}
 use Rattle.board_rules.specs.Cuts.{counts_of}
 use Rattle.board_rules.specs.Conduct.{Conducted, IsReportAt, MayHappen, shown_as, feed_of, ticks_given, IsLocked}
 use Rattle.board_rules.specs.Whole.{course_of}

@@ -3,7 +3,7 @@ use Rattle.std.proofs.Common.{◌≡◌, ℕ, zero, suc, ◌+◌, ◌-◌, ◌�
 use Rattle.std.specs.List.{sum}
 use Rattle.std.proofs.lemmas.Bool.Decides.{nat_tests}
 use Rattle.std.proofs.lemmas.List.{take_all}
-use Rattle.board_rules.specs.Openings.{Opening}
+use Rattle.board_journal.specs.Openings.{Opening}
 use Rattle.run_rules.specs.declared.machine.Machine.{Machine}
 use Rattle.run_rules.specs.Cuts.{counts_asked, cut_to, with_cut}
 use Rattle.run_rules.specs.Finding.{Fate}
@@ -12,8 +12,8 @@ use Rattle.run_rules.specs.Outcomes.{jogged_behind}
 use Rattle.run_rules.specs.Reports.{settled_to, fewest, most}
 use Rattle.run_rules.specs.Work.{Outcome, Kind}
 use Rattle.step_line.specs.Finishing.{ticks_together}
-use Rattle.board_rules.specs.Steps.{Journal, outcomes_of, open_of, motion_of}
-use Rattle.board_rules.specs.Steps.Step.{began, cut, halted}
+use Rattle.board_journal.specs.Steps.{Journal, outcomes_of, open_of, motion_of}
+use Rattle.board_journal.specs.Steps.Step.{began, cut, halted}
 use Rattle.board_rules.specs.Parts.{counts_in}
 use Rattle.board_rules.specs.Cuts.{part_outcomes, part_given, has_halted, parts_of, counts_of}
 use Rattle.board_rules.specs.Turns.{has_jogged, machine_in}

@@ -6,10 +6,10 @@ use Rattle.planner_runs.specs.Runs.{NeedsNoOther, DisturbedOnlyBy, normal_overri
 use Rattle.planner_runs.proofs.Runs.{disturbed_on, disturbed_more, needs_less}
 use Rattle.run_rules.specs.Told.{asked_in}
 use Rattle.step_line.specs.Asking.{Asked}
-use Rattle.board_rules.specs.Openings.{Opening}
-use Rattle.board_rules.specs.Ports.{has_slowed_in, has_changed_in}
-use Rattle.board_rules.specs.Steps.{Journal, port_log, has_limited}
-use Rattle.board_rules.specs.Steps.Step.{at_port, began, did, evened, cut}
+use Rattle.board_journal.specs.Openings.{Opening}
+use Rattle.board_journal.specs.Ports.{has_slowed_in, has_changed_in}
+use Rattle.board_journal.specs.Steps.{Journal, port_log, has_limited}
+use Rattle.board_journal.specs.Steps.Step.{at_port, began, did, evened, cut}
 use Rattle.board_rules.specs.Parts.{IsSlowedOnlyBy}
 use Rattle.board_rules.specs.Cuts.{part_outcomes, part_actions}
 use Rattle.board_rules.specs.Conduct.{Conducted}

@@ -9,9 +9,9 @@ use Rattle.planner_runs.specs.declared.Action.{Action}
 use Rattle.planner_runs.specs.declared.Action.TheVariants.{Take, Clear, Reset}
 use Rattle.plan_rules.specs.declared.Mode.TheVariants.{Go, Hold}
 use Rattle.step_line.specs.declared.Piece.{Piece}
-use Rattle.board_rules.specs.Openings.{Opening}
-use Rattle.board_rules.specs.Steps.{Journal, plan_after, plan_of, motion_of}
-use Rattle.board_rules.specs.Steps.Step.{did, paused, became, cut, halted}
+use Rattle.board_journal.specs.Openings.{Opening}
+use Rattle.board_journal.specs.Steps.{Journal, plan_after, plan_of, motion_of}
+use Rattle.board_journal.specs.Steps.Step.{did, paused, became, cut, halted}
 use Rattle.board_rules.specs.Turns.{is_going}
 use Rattle.board_rules.specs.Conduct.{Conducted, MayDo, MayHappen}
 

@@ -10,13 +10,13 @@ use Rattle.step_line.specs.declared.Piece.{Piece}
 use Rattle.step_line.specs.Asking.Asked.{a_move, a_mark, a_rest}
 use Rattle.planner_runs.specs.declared.Action.{Action}
 use Rattle.planner_runs.specs.declared.Action.TheVariants.{Add, Take, Override, Mark, Rest, Clear, Reset}
-use Rattle.board_rules.specs.Openings.{Opening}
+use Rattle.board_journal.specs.Openings.{Opening}
 use Rattle.run_rules.specs.Work.{Task, Outcome, asks_move, has_moves}
 use Rattle.run_rules.specs.Work.Task.{ask, tell, pause, normal, halt}
 use Rattle.run_rules.specs.Reports.{moves}
-use Rattle.board_rules.specs.Ports.PortStep.{answered}
-use Rattle.board_rules.specs.Steps.{Step, Journal, plan_of, motion_of, left_of, before_of, closed_tells, plan_after}
-use Rattle.board_rules.specs.Steps.Step.{at_port, began, did, made_end, evened, paused, became, cut, halted, closing, turned}
+use Rattle.board_journal.specs.Ports.PortStep.{answered}
+use Rattle.board_journal.specs.Steps.{Step, Journal, plan_of, motion_of, left_of, before_of, closed_tells, plan_after}
+use Rattle.board_journal.specs.Steps.Step.{at_port, began, did, made_end, evened, paused, became, cut, halted, closing, turned}
 use Rattle.board_rules.specs.Turns.{has_blocks, stands_still}
 use Rattle.board_rules.specs.Conduct.{Conducted, Gives, IsNextTask, MayDo, MayHappen, MayRest, MayOpen}
 use Rattle.board_rules.specs.Whole.{has_work, comes_to_rest, has_any_moved}

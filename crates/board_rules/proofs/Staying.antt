@@ -5,10 +5,10 @@ use Rattle.code_table.specs.declared.flags.Exec.{Exec}
 use Rattle.feed_hold.specs.declared.Motion.TheVariants.{Held}
 use Rattle.feed_hold.specs.Motions.{asks, hold_byte, cancel_byte, start_byte, after, after_requests}
 use Rattle.feed_hold.specs.Motions.Call.{on_exec}
-use Rattle.board_rules.specs.Ports.{asks_reset}
-use Rattle.board_rules.specs.Ports.PortStep.{took_exec}
-use Rattle.board_rules.specs.Steps.{Journal}
-use Rattle.board_rules.specs.Steps.Step.{at_port}
+use Rattle.board_journal.specs.Ports.{asks_reset}
+use Rattle.board_journal.specs.Ports.PortStep.{took_exec}
+use Rattle.board_journal.specs.Steps.{Journal}
+use Rattle.board_journal.specs.Steps.Step.{at_port}
 use Rattle.board_rules.specs.Turns.{flags_taken, requests_taken, changes_taken, asks_no_start}
 
 both : (a b : Bool) → (a && b) ≡ true → (a ≡ true) × (b ≡ true)

@@ -10,16 +10,16 @@ use Rattle.feed_hold.specs.declared.Motion.TheVariants as motions
 use Rattle.feed_hold.specs.Motions.{asks, hold_byte, cancel_byte, start_byte, after_hold, after_cancel, after_start, after_word, is_stopping}
 use Rattle.feed_hold.specs.Motions.Call.{on_exec}
 use Rattle.outside.specs.declared.Turn.TheVariants.{Did}
-use Rattle.board_rules.specs.Openings.{Opening}
-use Rattle.board_rules.specs.Ports.{asks_report, asks_reset, has_changes}
-use Rattle.board_rules.specs.Ports.PortStep.{took, took_exec, took_ovr}
+use Rattle.board_journal.specs.Openings.{Opening}
+use Rattle.board_journal.specs.Ports.{asks_report, asks_reset, has_changes}
+use Rattle.board_journal.specs.Ports.PortStep.{took, took_exec, took_ovr}
 use Rattle.line_geom.specs.declared.Block.{Block}
 use Rattle.run_rules.specs.Work.{has_moves}
 use Rattle.run_rules.specs.Work.Task.{ask}
 use Rattle.step_line.specs.Asking.Asked.{a_move}
 use Rattle.step_line.specs.declared.planned_move.PlannedMove.{PlannedMove}
-use Rattle.board_rules.specs.Steps.{Journal, taken_of, plan_of, motion_of, left_of}
-use Rattle.board_rules.specs.Steps.Step.{at_port, became, turned}
+use Rattle.board_journal.specs.Steps.{Journal, taken_of, plan_of, motion_of, left_of}
+use Rattle.board_journal.specs.Steps.Step.{at_port, became, turned}
 use Rattle.board_rules.specs.Turns.{this_turn, is_greeted, unobeyed_of, owes_report, has_blocks, has_jogged, has_jog_to_start, is_full, is_limited, waits_to_jog, starts_cycle}
 use Rattle.board_rules.specs.Conduct.{Conducted, IsNextTask, AreWaiting, MayPoll, MayTake}
 use Rattle.board_rules.proofs.Turning.{few_tries, obeyed_between}

@@ -18,10 +18,10 @@ use Rattle.plan_rules.specs.Segments.{advanced}
 use Rattle.plan_rules.specs.declared.Mode.{Mode}
 use Rattle.planner_runs.specs.declared.Action.{Action}
 use Rattle.planner_runs.specs.declared.Action.TheVariants.{Take}
-use Rattle.board_rules.specs.Openings.{Opening}
-use Rattle.board_rules.specs.Ports.PortStep.{published, no_piece_room, loaded}
-use Rattle.board_rules.specs.Steps.{Step, Journal, left_of, whole_of, left_by, without_asks, hand_of, plan_of, motion_of}
-use Rattle.board_rules.specs.Steps.Step.{at_port, began, did, made_end, evened, became, cut, halted, closing, turned}
+use Rattle.board_journal.specs.Openings.{Opening}
+use Rattle.board_journal.specs.Ports.PortStep.{published, no_piece_room, loaded}
+use Rattle.board_journal.specs.Steps.{Step, Journal, left_of, whole_of, left_by, without_asks, hand_of, plan_of, motion_of}
+use Rattle.board_journal.specs.Steps.Step.{at_port, began, did, made_end, evened, became, cut, halted, closing, turned}
 use Rattle.board_rules.specs.Cuts.{has_cut, is_cancelling}
 use Rattle.board_rules.proofs.Dropping.{pauses_kept}
 use Rattle.board_rules.specs.Turns.{this_turn, publishing, moving, ends_turn, obeys, unobeyed_by, unobeyed_of, owes_report, takes_changes, replans, is_full, has_segment, is_due, is_halting, is_counted, counts_tries, is_reply_back, is_report_back, tries_of}

@@ -8,11 +8,11 @@ use Rattle.feed_hold.specs.declared.Motion.{Motion}
 use Rattle.feed_hold.specs.Motions.Call.{on_exec}
 use Rattle.outside.specs.declared.Turn.{Turn}
 use Rattle.outside.specs.declared.Turn.TheVariants.{Did, Wait, Done}
-use Rattle.board_rules.specs.Openings.{Opening}
-use Rattle.board_rules.specs.Ports.PortStep.{took_exec}
-use Rattle.board_rules.specs.Ports.{asks_reset}
-use Rattle.board_rules.specs.Steps.{Step, Journal}
-use Rattle.board_rules.specs.Steps.Step.{at_port, became, turned}
+use Rattle.board_journal.specs.Openings.{Opening}
+use Rattle.board_journal.specs.Ports.PortStep.{took_exec}
+use Rattle.board_journal.specs.Ports.{asks_reset}
+use Rattle.board_journal.specs.Steps.{Step, Journal}
+use Rattle.board_journal.specs.Steps.Step.{at_port, became, turned}
 use Rattle.board_rules.specs.Turns.{this_turn, publishing, ends_turn, takes_requests, obeys, unobeyed_of, owes_report, takes_changes, replans, tries_of, most_tries}
 use Rattle.board_rules.specs.Conduct.{Conducted, MayTurn}
 

@@ -6,10 +6,10 @@ use Rattle.feed_hold.specs.Motions.{after}
 use Rattle.feed_hold.specs.Motions.Call.{on_unlock}
 use Rattle.run_rules.specs.Work.{Outcome, is_limit, asks}
 use Rattle.status_report.specs.declared.Reply.{Reply}
-use Rattle.board_rules.specs.Openings.{Opening}
-use Rattle.board_rules.specs.Ports.PortStep.{answered}
-use Rattle.board_rules.specs.Steps.{Journal, has_limited, before_of, motion_of}
-use Rattle.board_rules.specs.Steps.Step.{at_port, began, became}
+use Rattle.board_journal.specs.Openings.{Opening}
+use Rattle.board_journal.specs.Ports.PortStep.{answered}
+use Rattle.board_journal.specs.Steps.{Journal, has_limited, before_of, motion_of}
+use Rattle.board_journal.specs.Steps.Step.{at_port, began, became}
 use Rattle.board_rules.specs.Turns.{is_alarm, is_limited, is_locked}
 use Rattle.board_rules.specs.Conduct.{Conducted, IsLocked}
 use Rattle.board_rules.proofs.Alarms.{opposite, limited_alarmed, still_locked}

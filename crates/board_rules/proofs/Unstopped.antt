@@ -8,11 +8,11 @@ use Rattle.step_line.specs.Ordering.{ComesNext, InTurn, has_ended}
 use Rattle.motion_ring.specs.declared.lists.Sent.{Sent}
 use Rattle.motion_ring.specs.Sides as ring
 use Rattle.motion_ring.proofs.Ticks.{together_reversed, few_pieces}
-use Rattle.board_rules.specs.Openings.{Opening}
-use Rattle.board_rules.specs.Ports.{BoardLog, published_in, sent_in, unstopped, MayPublish, MayBeDone}
-use Rattle.board_rules.specs.Ports.PortStep.{published, stored_stop, found_halt}
-use Rattle.board_rules.specs.Steps.{Journal, port_log, published_of}
-use Rattle.board_rules.specs.Steps.Step.{at_port}
+use Rattle.board_journal.specs.Openings.{Opening}
+use Rattle.board_journal.specs.Ports.{BoardLog, published_in, sent_in, unstopped, MayPublish, MayBeDone}
+use Rattle.board_journal.specs.Ports.PortStep.{published, stored_stop, found_halt}
+use Rattle.board_journal.specs.Steps.{Journal, port_log, published_of}
+use Rattle.board_journal.specs.Steps.Step.{at_port}
 use Rattle.board_rules.specs.Conduct.{Conducted, ticks_published}
 
 -- no stop was stored, and no halt found

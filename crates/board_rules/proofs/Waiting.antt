@@ -8,16 +8,16 @@ use Rattle.outside.specs.declared.Turn.{Turn}
 use Rattle.outside.specs.declared.Turn.TheVariants.{Did, Wait, Done}
 use Rattle.line_geom.specs.declared.Block.{Block}
 use Rattle.planner_runs.specs.declared.Action.TheVariants.{Add, Mark, Rest, Clear, Reset}
-use Rattle.board_rules.specs.Openings.{Opening}
+use Rattle.board_journal.specs.Openings.{Opening}
 use Rattle.run_rules.specs.Work.{Task}
 use Rattle.run_rules.specs.Work.Task.{ask, pause, normal, finish, halt}
 use Rattle.step_line.specs.Asking.Asked.{a_move, a_mark, a_rest}
 use Rattle.step_line.specs.Finishing.{unfinished, most_unfinished}
 use Rattle.step_line.specs.declared.planned_move.PlannedMove.{PlannedMove}
-use Rattle.board_rules.specs.Ports.{PortStep, asks_report}
-use Rattle.board_rules.specs.Ports.PortStep.{took, answered, reported, no_reply_room, took_exec, published, no_piece_room}
-use Rattle.board_rules.specs.Steps.{Journal, published_of, left_of, plan_of, motion_of}
-use Rattle.board_rules.specs.Steps.Step.{at_port, began, did, made_end, evened, paused, cut, halted, closing, turned}
+use Rattle.board_journal.specs.Ports.{PortStep, asks_report}
+use Rattle.board_journal.specs.Ports.PortStep.{took, answered, reported, no_reply_room, took_exec, published, no_piece_room}
+use Rattle.board_journal.specs.Steps.{Journal, published_of, left_of, plan_of, motion_of}
+use Rattle.board_journal.specs.Steps.Step.{at_port, began, did, made_end, evened, paused, cut, halted, closing, turned}
 use Rattle.board_rules.specs.Turns.{this_turn, passing, found_none, lacks_piece_room, lacks_reply_room, owes_report, tells_next, halts_next, is_limited, has_blocks, is_full, has_segment, is_due, starts_cycle, missed_of, begun_while_due, waits_at, waits_by, waits_of, waits_while_due}
 use Rattle.board_rules.specs.Conduct.{Conducted, MayTurn, Needs, IsNextTask, AreWaiting}
 use Rattle.board_rules.proofs.Opening.{none_asked_told, no_halt_told}

@@ -9,8 +9,8 @@ use Rattle.run_rules.specs.Asks.{planned}
 use Rattle.run_rules.specs.Work.{Outcome, telling, asking, has_moves}
 use Rattle.run_rules.specs.Work.Task.{tell}
 use Rattle.run_rules.specs.Outcomes.{Before, Becomes}
-use Rattle.board_rules.specs.Openings.{Opening}
-use Rattle.board_rules.specs.Steps.{Journal, open_of}
+use Rattle.board_journal.specs.Openings.{Opening}
+use Rattle.board_journal.specs.Steps.{Journal, open_of}
 use Rattle.board_rules.specs.Conduct.{MayBegin}
 use Rattle.board_rules.proofs.Beginning.{caused, of_begun}
 use Rattle.board_rules.specs.Whole.{has_work, WorkRests}

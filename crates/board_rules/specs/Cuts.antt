@@ -16,11 +16,11 @@ use Rattle.run_rules.specs.Outcomes.Passed.{a_line, a_cut}
 use Rattle.step_line.specs.Finishing.{ticks_together}
 use Rattle.step_line.specs.Logs.{NewestFirst}
 use Rattle.step_line.specs.declared.Piece.{Piece}
-use Rattle.board_rules.specs.Openings.{Opening}
-use Rattle.board_rules.specs.Ports.{PortStep, BoardLog}
-use Rattle.board_rules.specs.Ports.PortStep.{took_exec}
-use Rattle.board_rules.specs.Steps.{Step, Journal, outcomes_of, actions_of, planned_of, plan_from, plan_of, given_of, left_of, motion_of}
-use Rattle.board_rules.specs.Steps.Step.{began, paused, became, cut, halted}
+use Rattle.board_journal.specs.Openings.{Opening}
+use Rattle.board_journal.specs.Ports.{PortStep, BoardLog}
+use Rattle.board_journal.specs.Ports.PortStep.{took_exec}
+use Rattle.board_journal.specs.Steps.{Step, Journal, outcomes_of, actions_of, planned_of, plan_from, plan_of, given_of, left_of, motion_of}
+use Rattle.board_journal.specs.Steps.Step.{began, paused, became, cut, halted}
 use Rattle.board_rules.specs.Parts.{Part, counts_in}
 
 -- ---- since the last cut

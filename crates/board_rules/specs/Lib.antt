@@ -1,6 +1,3 @@
-pub mod Ports
-pub mod Openings
-pub mod Steps
 pub mod Parts
 pub mod Cuts
 pub mod Turns
@@ -8,7 +5,6 @@ pub mod Conduct
 pub mod Within
 pub mod Limiting
 pub mod Whole
-pub mod Takes
 pub use Rattle.planner_runs.specs.Runs
 pub use Rattle.run_rules.specs.Lines
 pub use Rattle.run_rules.specs.Outcomes

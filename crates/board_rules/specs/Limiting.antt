@@ -2,8 +2,8 @@
 use Rattle.std.specs.Prelude.{Bool, false, [], ◌∷◌}
 use Rattle.feed_hold.specs.Motions.{Call}
 use Rattle.feed_hold.specs.Motions.Call.{on_limit}
-use Rattle.board_rules.specs.Steps.{Journal}
-use Rattle.board_rules.specs.Steps.Step.{began, became}
+use Rattle.board_journal.specs.Steps.{Journal}
+use Rattle.board_journal.specs.Steps.Step.{began, became}
 use Rattle.board_rules.specs.Turns.{halts_next}
 
 abbrev pub pending_behind : Call → Bool → Bool

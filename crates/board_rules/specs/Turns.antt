@@ -22,11 +22,11 @@ use Rattle.run_rules.specs.Outcomes.{jogged_behind, begins_with_dollar}
 use Rattle.serial_ring.specs.Logs.{has_greeted}
 use Rattle.status_report.specs.Answering.{is_bye}
 use Rattle.step_line.specs.Asking.Asked.{a_move, a_rest}
-use Rattle.board_rules.specs.Openings.{Opening}
-use Rattle.board_rules.specs.Ports.{PortStep, asks_reset, has_changes, owes_in, link_steps}
-use Rattle.board_rules.specs.Ports.PortStep.{took, found_empty, found_closed, found_free, answered, reported, no_reply_room, took_exec, took_ovr, published, no_piece_room, loaded}
-use Rattle.board_rules.specs.Steps.{Step, Journal, port_log, open_of, whole_of, lines_of, has_limited, left_of, plan_of, motion_of}
-use Rattle.board_rules.specs.Steps.Step.{at_port, began, did, made_end, evened, paused, became, cut, halted, closing, turned}
+use Rattle.board_journal.specs.Openings.{Opening}
+use Rattle.board_journal.specs.Ports.{PortStep, asks_reset, has_changes, owes_in, link_steps}
+use Rattle.board_journal.specs.Ports.PortStep.{took, found_empty, found_closed, found_free, answered, reported, no_reply_room, took_exec, took_ovr, published, no_piece_room, loaded}
+use Rattle.board_journal.specs.Steps.{Step, Journal, port_log, open_of, whole_of, lines_of, has_limited, left_of, plan_of, motion_of}
+use Rattle.board_journal.specs.Steps.Step.{at_port, began, did, made_end, evened, paused, became, cut, halted, closing, turned}
 
 -- the steps after the last turn's end
 abbrev pub this_turn : Journal → Journal

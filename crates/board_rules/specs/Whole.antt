@@ -11,9 +11,9 @@ use Rattle.run_rules.specs.Work.Task.{ask}
 use Rattle.step_line.specs.Asking.Asked.{a_move, a_mark, a_rest}
 use Rattle.step_line.specs.declared.Piece.TheVariants as pieces
 use Rattle.step_line.specs.Pieces.{ticks_of}
-use Rattle.board_rules.specs.Openings.{Opening}
-use Rattle.board_rules.specs.Ports.{has_held_in, has_changed_in}
-use Rattle.board_rules.specs.Steps.{Journal, port_log, has_limited, published_of, outcomes_of, known_of, given_of, planned_of, hand_of, plan_of, whole_of, has_closed, left_of, motion_of}
+use Rattle.board_journal.specs.Openings.{Opening}
+use Rattle.board_journal.specs.Ports.{has_held_in, has_changed_in}
+use Rattle.board_journal.specs.Steps.{Journal, port_log, has_limited, published_of, outcomes_of, known_of, given_of, planned_of, hand_of, plan_of, whole_of, has_closed, left_of, motion_of}
 use Rattle.board_rules.specs.Cuts.{counts_of}
 use Rattle.board_rules.specs.Turns.{this_turn, loads, has_blocks, is_going, is_limited}
 use Rattle.board_rules.specs.Conduct.{IsDrained, ticks_given, ticks_published}

@@ -6,10 +6,10 @@ use Rattle.feed_hold.specs.declared.Motion.TheVariants.{Holding, Cancelling, Hel
 use Rattle.run_rules.specs.Work.{Task, pauses}
 use Rattle.step_line.specs.declared.Piece.{Piece}
 use Rattle.units.specs.Truths.{one_if}
-use Rattle.board_rules.specs.Openings.{Opening}
-use Rattle.board_rules.specs.Ports.PortStep.{published, no_piece_room, loaded}
-use Rattle.board_rules.specs.Steps.{Step, Journal, port_log, open_of, whole_of, left_of, closed_tells, hand_of, plan_of, motion_of}
-use Rattle.board_rules.specs.Steps.Step.{at_port}
+use Rattle.board_journal.specs.Openings.{Opening}
+use Rattle.board_journal.specs.Ports.PortStep.{published, no_piece_room, loaded}
+use Rattle.board_journal.specs.Steps.{Step, Journal, port_log, open_of, whole_of, left_of, closed_tells, hand_of, plan_of, motion_of}
+use Rattle.board_journal.specs.Steps.Step.{at_port}
 use Rattle.board_rules.specs.Cuts.{has_cut}
 use Rattle.board_rules.specs.Turns.{
   this_turn,

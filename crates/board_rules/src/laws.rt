@@ -17,7 +17,7 @@ ghost use Rattle.outside.specs.declared.Turn.{Turn as AnyTurn};
 ghost use Rattle.outside.specs.declared.Turn.TheVariants.{Wait};
 ghost use Rattle.planner_runs.specs.declared.Action.TheVariants.{Take};
 ghost use Rattle.planner_runs.specs.Runs.{IsPlannerRun, IsAtRest, Plans, IsStart, normal_overrides, all_asked, ticks_left};
-ghost use Rattle.board_rules.specs.Openings.{Opening, IsPlaced, IsPlanSize, before_first, first_opening, up_to_banner};
+ghost use Rattle.board_journal.specs.Openings.{Opening, IsPlaced, IsPlanSize, before_first, first_opening, up_to_banner};
 ghost use Rattle.run_rules.specs.declared.State.{State};
 ghost use Rattle.run_rules.specs.States.{IsOpening};
 ghost use Rattle.run_rules.specs.Work.{Outcome, is_limit, tells, asks};
@@ -40,7 +40,7 @@ ghost use Rattle.status_report.specs.Answering.{lfs_in, is_answer, answers_in, w
 ghost use Rattle.step_line.specs.declared.Piece.{Piece as AnyPiece};
 ghost use Rattle.step_line.specs.declared.Segment.{Segment as AnySegment};
 ghost use Rattle.step_line.specs.Places.{place_after};
-ghost use Rattle.board_rules.specs.Steps.Step.{at_port, began, did, became, cut, halted, turned};
+ghost use Rattle.board_journal.specs.Steps.Step.{at_port, began, did, became, cut, halted, turned};
 ghost use Rattle.units.specs.Truths.{one_if};
 ghost use Rattle.board_rules.specs.Parts.{IsCutPart, IsAlarmedPart, IsSlowedOnlyBy, AreDisturbedOnlyBy, but_last, lines_in, actions_in, pieces_in, passed_in, plan_behind, AreJoined, AreNumbered};
 ghost use Rattle.board_rules.specs.Cuts.{
@@ -59,12 +59,12 @@ ghost use Rattle.board_rules.specs.Cuts.{
   pending,
   cancel_words_in,
 };
-ghost use Rattle.board_rules.specs.Ports.{MayAnswer, MayPublish, MayBeDone, asks_reset, sent_in, unstopped, has_held_in, has_slowed_in, has_changed_in, reports_in};
+ghost use Rattle.board_journal.specs.Ports.{MayAnswer, MayPublish, MayBeDone, asks_reset, sent_in, unstopped, has_held_in, has_slowed_in, has_changed_in, reports_in};
 ghost use Rattle.board_rules.specs.Whole.{course_of};
 ghost use Rattle.run_rules.specs.Reports.{Reported};
-ghost use Rattle.board_rules.specs.Ports.PortStep.{answered, took_exec, took_ovr, reported, published, no_piece_room};
+ghost use Rattle.board_journal.specs.Ports.PortStep.{answered, took_exec, took_ovr, reported, published, no_piece_room};
 ghost use Rattle.status_report.specs.declared.reports.Report.{Report as AnyReport};
-ghost use Rattle.board_rules.specs.Steps.{
+ghost use Rattle.board_journal.specs.Steps.{
   Step,
   Journal,
   port_log,

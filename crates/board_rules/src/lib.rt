@@ -1,8 +1,7 @@
-//! What a board may do next, what a board that keeps to it has done, and the trait of its port.
+//! What a board may do next, and what a board that keeps to it has done.
 #![tactic(auto)]
 
 mod laws;
-mod ports;
 
 pub use laws::{
     boards_answer_each_line_once, boards_do_a_bounded_amount, boards_end_well,
@@ -13,4 +12,3 @@ pub use laws::{
     cuts_lose_jogs_alone, halts_drop_what_is_left, lines_follow_cuts,
     machines_are_unlocked_by_lines, runs_begin_from_an_opening,
 };
-pub use ports::BoardPort;

@@ -8,9 +8,9 @@ use Rattle.run_rules.specs.Work.Task.{ask}
 use Rattle.step_line.specs.Asking.Asked.{a_move}
 use Rattle.step_line.specs.declared.planned_move.PlannedMove.{PlannedMove}
 use Rattle.planner_runs.specs.declared.Action.TheVariants.{Add}
-use Rattle.board_rules.specs.Openings.{Opening}
-use Rattle.board_rules.specs.Steps.{Journal, open_of, whole_of, left_of, hand_of, plan_of, motion_of}
-use Rattle.board_rules.specs.Steps.Step.{did}
+use Rattle.board_journal.specs.Openings.{Opening}
+use Rattle.board_journal.specs.Steps.{Journal, open_of, whole_of, left_of, hand_of, plan_of, motion_of}
+use Rattle.board_journal.specs.Steps.Step.{did}
 use Rattle.run_rules.specs.Outcomes.{begins_with_dollar}
 use Rattle.board_rules.specs.Turns.{this_turn, moving, found_none, is_full, is_limited, has_blocks, has_jogged, awaits_motion}
 use Rattle.board_rules.specs.Conduct.{IsNextTask, AreWaiting, MayStart}

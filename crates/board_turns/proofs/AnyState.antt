@@ -10,10 +10,10 @@ use Rattle.status_report.specs.declared.Reply.{Reply}
 use Rattle.status_report.specs.declared.Reply.TheVariants.{Banner, Alarm, Message}
 use Rattle.step_line.specs.Logs.{NewestFirst}
 use Rattle.units.specs.Truths.{one_if}
-use Rattle.board_rules.specs.Openings.{Opening}
+use Rattle.board_journal.specs.Openings.{Opening}
 use Rattle.board_rules.specs.Cuts.{has_cut}
-use Rattle.board_rules.specs.Steps.{Journal, left_of, left_at, left_by, without_asks, motion_of, closed_tells}
-use Rattle.board_rules.specs.Steps.Step.{at_port, began, did, made_end, evened, paused, became, cut, halted, closing, turned}
+use Rattle.board_journal.specs.Steps.{Journal, left_of, left_at, left_by, without_asks, motion_of, closed_tells}
+use Rattle.board_journal.specs.Steps.Step.{at_port, began, did, made_end, evened, paused, became, cut, halted, closing, turned}
 use Rattle.board_rules.specs.Turns.{is_alarm}
 use Rattle.board_epochs.specs.Epochs.{Closed, opening_behind}
 use Rattle.board_turns.specs.declared.board.Flags.{Flags}

@@ -6,7 +6,7 @@ use Rattle.feed_hold.specs.declared.Motion.TheVariants as motions
 use Rattle.feed_hold.specs.Motions.{after as after_call}
 use Rattle.feed_hold.specs.Motions.Call.{on_start, on_limit, on_unlock}
 use Rattle.outside.specs.declared.Turn.TheVariants.{Did}
-use Rattle.board_rules.specs.Openings.{Opening}
+use Rattle.board_journal.specs.Openings.{Opening}
 use Rattle.run_rules.specs.Work.{Task, Outcome, is_limit}
 use Rattle.run_rules.specs.Outcomes.{after, jogged_behind, begins_with_dollar}
 use Rattle.run_rules.specs.Finding.{Found}
@@ -14,10 +14,10 @@ use Rattle.line_interpreter.specs.Interpreting.{Interpreting}
 use Rattle.line_interpreter.specs.Lefts.{IsTodo}
 use Rattle.line_interpreter.specs.declared.tasks.Todo.{Todo}
 use Rattle.line_interpreter.specs.declared.tasks.Todo.TheVariants as todo
-use Rattle.board_rules.specs.Steps.{Journal, port_log, has_limited, lines_of, open_of, whole_of, before_of, left_of, given_of, hand_of, plan_of, motion_of}
-use Rattle.board_rules.specs.Ports.PortStep.{answered, no_reply_room}
-use Rattle.board_rules.specs.Steps.{Step}
-use Rattle.board_rules.specs.Steps.Step.{at_port, began, became}
+use Rattle.board_journal.specs.Steps.{Journal, port_log, has_limited, lines_of, open_of, whole_of, before_of, left_of, given_of, hand_of, plan_of, motion_of}
+use Rattle.board_journal.specs.Ports.PortStep.{answered, no_reply_room}
+use Rattle.board_journal.specs.Steps.{Step}
+use Rattle.board_journal.specs.Steps.Step.{at_port, began, became}
 use Rattle.board_rules.specs.Cuts.{has_cut, is_cancelling}
 use Rattle.board_rules.proofs.Beginning.{caused, of_begun}
 use Rattle.board_rules.specs.Turns.{this_turn, publishing, moving, ends_turn, owes_report, unobeyed_of, flags_taken, found_none, has_blocks, has_jogged, machine_in, tries_of, missed_of, is_due, is_full, awaits_motion, halts_next, is_alarm, is_limited, is_locked, awaits_unlock, begins_in, starts_cycle, is_reply_back, are_many}

@@ -6,13 +6,13 @@ use Rattle.outside.specs.declared.On.{On}
 use Rattle.outside.specs.declared.On.TheVariants.{SegmentRoom}
 use Rattle.outside.specs.declared.Turn.{Turn}
 use Rattle.outside.specs.declared.Turn.TheVariants.{Did, Wait}
-use Rattle.board_rules.specs.Openings.{Opening}
+use Rattle.board_journal.specs.Openings.{Opening}
 use Rattle.run_rules.specs.Work.{Task, pauses}
 use Rattle.run_rules.specs.Work.Task.{ask, tell, pause, normal, finish, halt}
 use Rattle.status_report.specs.declared.Reply.{Reply}
 use Rattle.step_line.specs.Asking.Asked.{a_move, a_mark, a_rest}
-use Rattle.board_rules.specs.Ports.{BoardLog}
-use Rattle.board_rules.specs.Steps.{Step, Journal, left_of, plan_of, motion_of, closed_tells}
+use Rattle.board_journal.specs.Ports.{BoardLog}
+use Rattle.board_journal.specs.Steps.{Step, Journal, left_of, plan_of, motion_of, closed_tells}
 use Rattle.board_rules.specs.Cuts.{has_cut}
 use Rattle.board_rules.specs.Turns.{this_turn, publishing, passing, moving, ends_turn, found_none, lacks_reply_room, unobeyed_of, owes_report, takes_changes, replans, flags_taken, awaits_motion, has_jogged, is_full, begins_in, halts_next, is_halting, is_limited, is_counted, has_blocks, has_segment, is_due, starts_cycle, tries_of, missed_of, waits_of, counts_tries}
 use Rattle.board_rules.specs.Conduct.{AreWaiting, IsNextTask}

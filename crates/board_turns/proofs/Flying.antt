@@ -9,11 +9,11 @@ use Rattle.motion_ring.specs.declared.lists.Sent.{Sent}
 use Rattle.motion_ring.specs.Sides.{unfinished_in}
 use Rattle.flight.specs.Flights.{Flying, Flies, IsFit, BeginsAt, flight_room}
 use Rattle.flight.specs.Places.{end_from}
-use Rattle.board_rules.specs.Openings.{Opening}
-use Rattle.board_rules.specs.Ports.{MayPublish, MayBeDone}
-use Rattle.board_rules.specs.Ports.PortStep.{loaded}
-use Rattle.board_rules.specs.Steps.{Journal, port_log, published_of, known_of, hand_of}
-use Rattle.board_rules.specs.Steps.Step.{at_port}
+use Rattle.board_journal.specs.Openings.{Opening}
+use Rattle.board_journal.specs.Ports.{MayPublish, MayBeDone}
+use Rattle.board_journal.specs.Ports.PortStep.{loaded}
+use Rattle.board_journal.specs.Steps.{Journal, port_log, published_of, known_of, hand_of}
+use Rattle.board_journal.specs.Steps.Step.{at_port}
 use Rattle.board_rules.proofs.Placing.{next_begins}
 use Rattle.board_rules.specs.Conduct.{Conducted}
 use Rattle.board_rules.proofs.Unstopped.{journals_never_stop, sent_alone, done_within}

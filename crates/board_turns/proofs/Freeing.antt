@@ -1,7 +1,7 @@
 -- What words of flags are to be taken, or obeyed, behind steps that leave them.
 use Rattle.std.proofs.Common.{ℕ, ◌≡◌, Bool, true, sym, ap, ◌∙◌, subst}
-use Rattle.board_rules.specs.Openings.{Opening}
-use Rattle.board_rules.specs.Steps.{Journal}
+use Rattle.board_journal.specs.Openings.{Opening}
+use Rattle.board_journal.specs.Steps.{Journal}
 use Rattle.board_turns.specs.declared.board.Board.{Board}
 use Rattle.board_turns.specs.declared.board.Flags.{Flags}
 use Rattle.board_turns.specs.declared.board.Flags.TheVariants as words

@@ -21,11 +21,11 @@ use Rattle.step_line.specs.declared.Piece.{Piece}
 use Rattle.step_line.specs.declared.planned_move.PlannedMove.{PlannedMove}
 use Rattle.run_rules.specs.Work.{Task, has_moves, pauses}
 use Rattle.run_rules.specs.Work.Task.{ask, tell}
-use Rattle.board_rules.specs.Openings.{Opening}
-use Rattle.board_rules.specs.Ports.{asks_reset}
-use Rattle.board_rules.specs.Ports.PortStep.{took_exec}
-use Rattle.board_rules.specs.Steps.{Step, Journal, left_of, whole_of, closed_tells, hand_of, plan_of, motion_of}
-use Rattle.board_rules.specs.Steps.Step.{at_port, became}
+use Rattle.board_journal.specs.Openings.{Opening}
+use Rattle.board_journal.specs.Ports.{asks_reset}
+use Rattle.board_journal.specs.Ports.PortStep.{took_exec}
+use Rattle.board_journal.specs.Steps.{Step, Journal, left_of, whole_of, closed_tells, hand_of, plan_of, motion_of}
+use Rattle.board_journal.specs.Steps.Step.{at_port, became}
 use Rattle.board_rules.specs.Cuts.{has_cut}
 use Rattle.board_rules.specs.Turns.{this_turn, ends_turn, is_going, publishing, passing, unobeyed_of, owes_report, takes_changes, replans, asks_no_start, flags_taken, has_blocks, has_jogged, has_jog_to_start, waits_to_jog, has_segment, is_full, is_due, is_halting, is_limited, halts_next, is_counted, is_held_up, needs_motion, awaits_motion, tells_next, starts_cycle, tries_of, most_tries}
 use Rattle.board_rules.specs.Conduct.{Conducted, EndsTurn, IsNextTask, AreWaiting, HasSlowedDown}

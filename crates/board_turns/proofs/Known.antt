@@ -10,9 +10,9 @@ use Rattle.run_rules.specs.Work.Task.{tell}
 use Rattle.status_report.specs.declared.Reply.{Reply}
 use Rattle.status_report.specs.declared.Reply.TheVariants as replies
 use Rattle.status_report.specs.Answering.{is_report}
-use Rattle.board_rules.specs.Openings.{Opening}
-use Rattle.board_rules.specs.Ports.{said}
-use Rattle.board_rules.specs.Ports.PortStep.{answered}
+use Rattle.board_journal.specs.Openings.{Opening}
+use Rattle.board_journal.specs.Ports.{said}
+use Rattle.board_journal.specs.Ports.PortStep.{answered}
 use Rattle.status_report.specs.Replies.{IsReply}
 use Rattle.step_line.specs.declared.Piece.{Piece}
 use Rattle.overrides.specs.Percents.{IsOverrides}
@@ -20,10 +20,10 @@ use Rattle.plan_rules.specs.Plans.{Planned}
 use Rattle.planner_runs.specs.Runs.{IsAtRest, fresh_plan}
 use Rattle.planner_runs.proofs.Runs.{fresh_starts, rests_behind, reached_from}
 use Rattle.line_interpreter.specs.Lefts.{IsNextOf}
-use Rattle.board_rules.specs.Ports.{MayPublish}
+use Rattle.board_journal.specs.Ports.{MayPublish}
 use Rattle.epoch_ports.specs.Serving.{MayTellNow, MayPublishNow}
-use Rattle.board_rules.specs.Ports.PortStep.{answered}
-use Rattle.board_rules.specs.Steps.{Journal, port_log, has_limited, whole_of, left_of, hand_of, plan_of, motion_of, planned_of, actions_of}
+use Rattle.board_journal.specs.Ports.PortStep.{answered}
+use Rattle.board_journal.specs.Steps.{Journal, port_log, has_limited, whole_of, left_of, hand_of, plan_of, motion_of, planned_of, actions_of}
 use Rattle.board_rules.specs.Turns.{is_due, has_segment, is_going, begins_in, halts_next, is_counted, is_halting, is_limited, tries_of}
 use Rattle.board_rules.specs.Conduct.{IsNextTask, IsInHand}
 use Rattle.board_rules.proofs.Keeping.{run_is}

@@ -18,11 +18,11 @@ use Rattle.line_interpreter.specs.Interpreting.{Interpreting}
 use Rattle.line_interpreter.specs.Lefts.{IsNextOf, IsTodo}
 use Rattle.line_interpreter.specs.declared.tasks.Todo.{Todo}
 use Rattle.line_interpreter.specs.declared.tasks.Todo.TheVariants as todo
-use Rattle.board_rules.specs.Openings.{Opening}
-use Rattle.board_rules.specs.Ports.{MayBeDone}
-use Rattle.board_rules.specs.Ports.PortStep.{loaded}
-use Rattle.board_rules.specs.Steps.{Journal, has_limited, port_log, left_of, whole_of, closed_tells, given_of, hand_of, plan_of, motion_of}
-use Rattle.board_rules.specs.Steps.Step.{at_port, became, halted, closing}
+use Rattle.board_journal.specs.Openings.{Opening}
+use Rattle.board_journal.specs.Ports.{MayBeDone}
+use Rattle.board_journal.specs.Ports.PortStep.{loaded}
+use Rattle.board_journal.specs.Steps.{Journal, has_limited, port_log, left_of, whole_of, closed_tells, given_of, hand_of, plan_of, motion_of}
+use Rattle.board_journal.specs.Steps.Step.{at_port, became, halted, closing}
 use Rattle.board_rules.specs.Turns.{this_turn, awaits_motion, halts_next, is_due, is_going, is_held_up, is_limited, is_slowing, tries_of, is_reply_back}
 use Rattle.board_rules.specs.Conduct.{AreWaiting, IsNextTask, IsStopped, MayClose, ticks_given}
 use Rattle.board_rules.proofs.Tasks.{none_next}

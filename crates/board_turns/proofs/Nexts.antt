@@ -13,15 +13,15 @@ use Rattle.step_line.specs.declared.Piece.{Piece}
 use Rattle.step_line.specs.declared.planned_move.PlannedMove.{PlannedMove}
 use Rattle.status_report.specs.declared.Reply.{Reply}
 use Rattle.status_report.specs.declared.Reply.TheVariants.{Bye}
-use Rattle.board_rules.specs.Openings.{Opening}
+use Rattle.board_journal.specs.Openings.{Opening}
 use Rattle.run_rules.specs.Work.{Task, pauses, closing_work}
 use Rattle.run_rules.specs.Work.Task.{ask, tell, pause, normal, finish, halt}
 use Rattle.step_line.specs.Asking.Asked.{a_move, a_mark, a_rest}
 use Rattle.line_interpreter.specs.Lefts.{IsTodo}
 use Rattle.line_interpreter.specs.declared.tasks.Todo.TheVariants as todo
-use Rattle.board_rules.specs.Ports.PortStep.{took, found_empty, found_closed, no_reply_room, answered}
-use Rattle.board_rules.specs.Steps.{Journal, has_limited, left_of, plan_of, motion_of, whole_of, has_closed}
-use Rattle.board_rules.specs.Steps.Step.{at_port, did, made_end, closing}
+use Rattle.board_journal.specs.Ports.PortStep.{took, found_empty, found_closed, no_reply_room, answered}
+use Rattle.board_journal.specs.Steps.{Journal, has_limited, left_of, plan_of, motion_of, whole_of, has_closed}
+use Rattle.board_journal.specs.Steps.Step.{at_port, did, made_end, closing}
 use Rattle.board_rules.specs.Turns.{this_turn, found_none, found_nothing, tells_next, awaits_motion, begins_in, halts_next, needs_motion, is_held_up, is_halting, is_limited, is_locked, stands_still, is_full, has_blocks, has_segment, has_jogged, is_due, tries_of, only_replies, counts_tries, are_many, is_reply_back}
 use Rattle.board_rules.specs.Conduct.{Conducted, IsLocked, AreWaiting, IsNextTask, MayPoll, MayStart, MayClose}
 use Rattle.board_rules.proofs.Tasks.{none_next, head_is}

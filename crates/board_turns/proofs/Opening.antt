@@ -18,9 +18,9 @@ use Rattle.units.specs.declared.Steps3.{Steps3}
 use Rattle.board_machine.specs.Machines.{Runs}
 use Rattle.board_machine.specs.declared.machine.Machine.{Machine}
 use Rattle.board_rules.specs.Conduct.{MayOpen}
-use Rattle.board_rules.specs.Openings.{Opening, IsPlaced, before_first}
-use Rattle.board_rules.specs.Ports.{taken_in}
-use Rattle.board_rules.specs.Steps.{Journal, port_log, published_of, motion_of, whole_of}
+use Rattle.board_journal.specs.Openings.{Opening, IsPlaced, before_first}
+use Rattle.board_journal.specs.Ports.{taken_in}
+use Rattle.board_journal.specs.Steps.{Journal, port_log, published_of, motion_of, whole_of}
 use Rattle.board_rules.specs.Turns.{is_alarm, is_limited}
 use Rattle.board_rules.proofs.Facts.{number_is}
 use Rattle.board_epochs.specs.Epochs.{next_opening, reset_of, answered_state}

@@ -20,12 +20,12 @@ use Rattle.flight.specs.Places.{machine_from}
 use Rattle.status_report.specs.declared.Reply.{Reply}
 use Rattle.status_report.specs.declared.Reply.TheVariants as replies
 use Rattle.status_report.specs.declared.reports.Report.{Report}
-use Rattle.board_rules.specs.Openings.{Opening}
-use Rattle.board_rules.specs.Ports.{BoardLog, said}
+use Rattle.board_journal.specs.Openings.{Opening}
+use Rattle.board_journal.specs.Ports.{BoardLog, said}
 use Rattle.epoch_ports.specs.Serving.{MayTellNow}
-use Rattle.board_rules.specs.Ports.PortStep.{found_free, reported, no_reply_room}
-use Rattle.board_rules.specs.Steps.{Step, Journal, port_log, published_of, known_of, whole_of, plan_of, motion_of, left_of}
-use Rattle.board_rules.specs.Steps.Step.{at_port, became}
+use Rattle.board_journal.specs.Ports.PortStep.{found_free, reported, no_reply_room}
+use Rattle.board_journal.specs.Steps.{Step, Journal, port_log, published_of, known_of, whole_of, plan_of, motion_of, left_of}
+use Rattle.board_journal.specs.Steps.Step.{at_port, became}
 use Rattle.board_rules.specs.Turns.{this_turn, publishing, passing, moving, ends_turn, found_none, lacks_reply_room, loads, has_blocks, is_going, is_due, flags_taken, unobeyed_of, owes_report, takes_changes, replans, tries_of, waits_of, is_reply_back, is_report_back}
 use Rattle.board_rules.specs.Conduct.{IsDrained, IsStopped, IsReportAt}
 use Rattle.units.specs.Truths.{one_if}

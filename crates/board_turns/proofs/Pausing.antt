@@ -4,9 +4,9 @@ use Rattle.outside.specs.declared.Turn.TheVariants.{Did}
 use Rattle.run_rules.specs.Work as work
 use Rattle.run_rules.specs.Work.Task.{pause}
 use Rattle.status_report.specs.declared.Reply.{Reply}
-use Rattle.board_rules.specs.Openings.{Opening}
-use Rattle.board_rules.specs.Steps.{Journal, left_of, whole_of}
-use Rattle.board_rules.specs.Steps.Step.{paused}
+use Rattle.board_journal.specs.Openings.{Opening}
+use Rattle.board_journal.specs.Steps.{Journal, left_of, whole_of}
+use Rattle.board_journal.specs.Steps.Step.{paused}
 use Rattle.board_rules.specs.Turns.{this_turn, awaits_motion, is_reply_back}
 use Rattle.board_rules.specs.Conduct.{IsNextTask}
 use Rattle.units.specs.Truths.{one_if}

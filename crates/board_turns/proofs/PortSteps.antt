@@ -1,6 +1,6 @@
 -- One lemma a step at the port: a board keeps on what its fields say of what it has done.
 use Rattle.std.proofs.Common.{◌≡◌, ℕ, inl, inr, List, [], ◌∷◌, ◌++◌, drop, Bool, true, false, cond, nat_lt, ◌&&◌, ◌||◌, sym, refl, ap, ◌∙◌, subst, arith}
-use Rattle.board_rules.specs.Openings.{Opening}
+use Rattle.board_journal.specs.Openings.{Opening}
 use Rattle.run_rules.specs.declared.State.{State}
 use Rattle.run_rules.specs.Work.{Task}
 use Rattle.run_rules.specs.Work.Task.{tell}
@@ -11,10 +11,10 @@ use Rattle.status_report.specs.declared.reports.Report.{Report}
 use Rattle.flight.specs.Flights.{Flying, Flies}
 use Rattle.step_line.specs.declared.Piece.{Piece}
 use Rattle.line_interpreter.specs.Interpreting.{Interpreting}
-use Rattle.board_rules.specs.Ports.{MayBeDone, LacksPieceRoom}
-use Rattle.board_rules.specs.Ports.PortStep.{found_empty, found_closed, answered, reported, no_reply_room, published, no_piece_room, loaded}
-use Rattle.board_rules.specs.Steps.{Journal, port_log, published_of, before_of, left_of, given_of, hand_of, plan_of, motion_of}
-use Rattle.board_rules.specs.Steps.Step.{at_port}
+use Rattle.board_journal.specs.Ports.{MayBeDone, LacksPieceRoom}
+use Rattle.board_journal.specs.Ports.PortStep.{found_empty, found_closed, answered, reported, no_reply_room, published, no_piece_room, loaded}
+use Rattle.board_journal.specs.Steps.{Journal, port_log, published_of, before_of, left_of, given_of, hand_of, plan_of, motion_of}
+use Rattle.board_journal.specs.Steps.Step.{at_port}
 use Rattle.board_rules.specs.Turns.{owes_report, tells_next, are_many, tries_of}
 use Rattle.board_rules.specs.Conduct.{IsNextTask, AsksForRoom, IsTimely, ReportsFirst, MayPoll, IsReportAt}
 use Rattle.board_rules.specs.Within.{MayHaveLooked}

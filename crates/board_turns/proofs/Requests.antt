@@ -4,13 +4,13 @@ use Rattle.code_table.specs.declared.flags.Exec.{Exec}
 use Rattle.code_table.specs.declared.flags.Ovr.{Ovr}
 use Rattle.feed_hold.specs.Motions.{after_word}
 use Rattle.feed_hold.specs.Motions.Call.{on_exec}
-use Rattle.board_rules.specs.Openings.{Opening}
+use Rattle.board_journal.specs.Openings.{Opening}
 use Rattle.overrides.specs.Percents.{IsOverrides, taken}
 use Rattle.planner_runs.specs.declared.Action.TheVariants.{Override}
-use Rattle.board_rules.specs.Ports.{has_changes}
-use Rattle.board_rules.specs.Ports.PortStep.{took_exec, took_ovr}
-use Rattle.board_rules.specs.Steps.{Journal, has_limited, port_log, given_of, hand_of, plan_of, motion_of}
-use Rattle.board_rules.specs.Steps.Step.{at_port, did, became}
+use Rattle.board_journal.specs.Ports.{has_changes}
+use Rattle.board_journal.specs.Ports.PortStep.{took_exec, took_ovr}
+use Rattle.board_journal.specs.Steps.{Journal, has_limited, port_log, given_of, hand_of, plan_of, motion_of}
+use Rattle.board_journal.specs.Steps.Step.{at_port, did, became}
 use Rattle.board_rules.specs.Turns.{is_greeted, owes_report, has_blocks, is_alarm, is_locked}
 use Rattle.feed_hold.specs.declared.Motion.{Motion as AnyMotion}
 use Rattle.feed_hold.specs.declared.Motion.TheVariants as motions

@@ -4,9 +4,9 @@ use Rattle.run_rules.specs.Work.{Task}
 use Rattle.run_rules.specs.Work.Task.{ask, tell, pause, normal, finish, halt}
 use Rattle.status_report.specs.declared.Reply.{Reply}
 use Rattle.status_report.specs.declared.Reply.TheVariants.{Bye}
-use Rattle.board_rules.specs.Openings.{Opening}
-use Rattle.board_rules.specs.Steps.{Journal, closed_tells, has_limited}
-use Rattle.board_rules.specs.Steps.Step.{closing}
+use Rattle.board_journal.specs.Openings.{Opening}
+use Rattle.board_journal.specs.Steps.{Journal, closed_tells, has_limited}
+use Rattle.board_journal.specs.Steps.Step.{closing}
 use Rattle.board_rules.specs.Turns.{awaits_motion, owes_report, tells_next}
 use Rattle.board_epochs.specs.Resets.{MayReset, has_reset, drops_resets, is_closing}
 use Rattle.board_epochs.proofs.Prompting.{going, none_told, undropped}

@@ -12,9 +12,9 @@ use Rattle.line_interpreter.specs.Interpreting.{Interpreting}
 use Rattle.line_interpreter.specs.Lefts.{IsNextOf, IsTodo}
 use Rattle.line_interpreter.specs.declared.tasks.Todo.{Todo}
 use Rattle.line_interpreter.specs.declared.tasks.Todo.TheVariants as todo
-use Rattle.board_rules.specs.Openings.{Opening}
-use Rattle.board_rules.specs.Steps.{Journal, given_of, hand_of, plan_of, motion_of}
-use Rattle.board_rules.specs.Steps.Step.{did, evened}
+use Rattle.board_journal.specs.Openings.{Opening}
+use Rattle.board_journal.specs.Steps.{Journal, given_of, hand_of, plan_of, motion_of}
+use Rattle.board_journal.specs.Steps.Step.{did, evened}
 use Rattle.board_rules.proofs.Tasks.{none_next, head_is}
 use Rattle.board_turns.specs.declared.board.Board.{Board}
 use Rattle.board_machine.specs.declared.machine.Machine.{Machine}

@@ -12,7 +12,7 @@ use Rattle.overrides.specs.Percents.{taken}
 use Rattle.line_geom.specs.declared.Block.{Block}
 use Rattle.plan_rules.specs.Plans.{Planned}
 use Rattle.planner_runs.specs.declared.Action.TheVariants.{Override}
-use Rattle.board_rules.specs.Openings.{Opening}
+use Rattle.board_journal.specs.Openings.{Opening}
 use Rattle.run_rules.specs.Work.{Task, has_moves}
 use Rattle.run_rules.specs.Work.Task.{ask}
 use Rattle.step_line.specs.Asking.Asked.{a_move}
@@ -20,10 +20,10 @@ use Rattle.step_line.specs.Finishing.{ticks_together}
 use Rattle.step_line.specs.declared.Mark.TheVariants as marks
 use Rattle.step_line.specs.declared.Piece.{Piece}
 use Rattle.step_line.specs.declared.Piece.TheVariants as pieces
-use Rattle.board_rules.specs.Ports.{MayBeDone, has_changes}
-use Rattle.board_rules.specs.Ports.PortStep.{took_ovr, loaded}
-use Rattle.board_rules.specs.Steps.{Journal, port_log, published_of, known_of, left_of, without_asks, hand_of, plan_of, motion_of}
-use Rattle.board_rules.specs.Steps.Step.{at_port, did, became, cut}
+use Rattle.board_journal.specs.Ports.{MayBeDone, has_changes}
+use Rattle.board_journal.specs.Ports.PortStep.{took_ovr, loaded}
+use Rattle.board_journal.specs.Steps.{Journal, port_log, published_of, known_of, left_of, without_asks, hand_of, plan_of, motion_of}
+use Rattle.board_journal.specs.Steps.Step.{at_port, did, became, cut}
 use Rattle.board_rules.specs.Cuts.{has_cut}
 use Rattle.board_rules.specs.Turns.{this_turn, loads, has_blocks, has_jogged, waits_to_jog, is_full, is_going, is_halting, is_slowing, is_due, awaits_motion}
 use Rattle.board_rules.specs.Conduct.{Conducted, HasSlowedDown, AreWaiting}

@@ -4,9 +4,9 @@ use Rattle.code_table.specs.declared.flags.Exec.{Exec}
 use Rattle.code_table.specs.Flags.{exec_bits, has_flag}
 use Rattle.feed_hold.specs.declared.Motion.{Motion}
 use Rattle.feed_hold.specs.Motions.{hold_byte, cancel_byte, start_byte, after_requests, after_word}
-use Rattle.board_rules.specs.Openings.{Opening}
-use Rattle.board_rules.specs.Ports.{asks_report, asks_reset}
-use Rattle.board_rules.specs.Steps.{Journal, hand_of, given_of, plan_of, motion_of}
+use Rattle.board_journal.specs.Openings.{Opening}
+use Rattle.board_journal.specs.Ports.{asks_report, asks_reset}
+use Rattle.board_journal.specs.Steps.{Journal, hand_of, given_of, plan_of, motion_of}
 use Rattle.board_rules.specs.Turns.{has_blocks, owes_report}
 use Rattle.board_rules.specs.Conduct.{MayTakeRequests}
 use Rattle.board_epochs.specs.Resets.{drops_resets, has_reset}

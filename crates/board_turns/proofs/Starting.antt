@@ -1,8 +1,8 @@
 -- What queued blocks start: the cycle, or a jog.
 use Rattle.std.proofs.Common.{◌-◌, ℕ, ◌≡◌, ◌≤◌, Bool, true, false, ◌&&◌, refl, arith, sym, ap, ◌∙◌}
 use Rattle.feed_hold.specs.declared.Motion.TheVariants as motions
-use Rattle.board_rules.specs.Openings.{Opening}
-use Rattle.board_rules.specs.Steps.{Journal, motion_of, plan_of}
+use Rattle.board_journal.specs.Openings.{Opening}
+use Rattle.board_journal.specs.Steps.{Journal, motion_of, plan_of}
 use Rattle.board_rules.specs.Cuts.{has_cut, is_cancelling}
 use Rattle.board_rules.specs.Turns.{is_alarm, is_halting, begins_in, is_full}
 use Rattle.board_machine.specs.Machines.{start_motion}

@@ -4,7 +4,7 @@ use Rattle.feed_hold.specs.declared.Motion.{Motion}
 use Rattle.feed_hold.specs.declared.Motion.TheVariants as motions
 use Rattle.feed_hold.specs.Motions.{after, is_stopping}
 use Rattle.feed_hold.specs.Motions.Call.{on_start, on_pause, on_drained}
-use Rattle.board_rules.specs.Openings.{Opening}
+use Rattle.board_journal.specs.Openings.{Opening}
 use Rattle.run_rules.specs.Work.Task.{ask, pause, normal, finish}
 use Rattle.step_line.specs.declared.Mark.{Mark as AnyMark}
 use Rattle.step_line.specs.declared.Piece.{Piece}
@@ -23,8 +23,8 @@ use Rattle.planner_runs.specs.declared.Action.TheVariants.{Add, Take, Mark, Rest
 use Rattle.planner_runs.specs.Runs.{IsAtRest, with_move, normal_overrides}
 use Rattle.planner_runs.proofs.Runs.{fresh_starts}
 use Rattle.line_interpreter.specs.Interpreting.{Interpreting}
-use Rattle.board_rules.specs.Steps.{Journal, has_limited, closed_tells, given_of, hand_of, plan_of, motion_of}
-use Rattle.board_rules.specs.Steps.Step.{did, made_end, evened, paused, became}
+use Rattle.board_journal.specs.Steps.{Journal, has_limited, closed_tells, given_of, hand_of, plan_of, motion_of}
+use Rattle.board_journal.specs.Steps.Step.{did, made_end, evened, paused, became}
 use Rattle.board_rules.specs.Cuts.{has_cut}
 use Rattle.board_rules.specs.Turns.{is_full, is_due, is_going, stands_still, is_locked, unobeyed_of}
 use Rattle.board_rules.specs.Conduct.{MayDo, IsNextTask, IsDrained, MayStart}

@@ -25,9 +25,9 @@ use Rattle.line_interpreter.specs.Interpreting.{Interpreting}
 use Rattle.line_interpreter.specs.Lefts.{IsTodo}
 use Rattle.line_interpreter.specs.declared.tasks.Todo.{Todo}
 use Rattle.line_interpreter.specs.declared.tasks.Todo.TheVariants as todo
-use Rattle.board_rules.specs.Openings.{Opening}
-use Rattle.board_rules.specs.Steps.{Journal, has_limited, outcomes_of, given_of, published_of, known_of, before_of, left_of, without_asks, hand_of, plan_of, motion_of}
-use Rattle.board_rules.specs.Steps.Step.{became, cut}
+use Rattle.board_journal.specs.Openings.{Opening}
+use Rattle.board_journal.specs.Steps.{Journal, has_limited, outcomes_of, given_of, published_of, known_of, before_of, left_of, without_asks, hand_of, plan_of, motion_of}
+use Rattle.board_journal.specs.Steps.Step.{became, cut}
 use Rattle.board_rules.specs.Cuts.{has_cut}
 use Rattle.board_rules.specs.Conduct.{Conducted, IsLocked, IsStopped}
 use Rattle.board_rules.proofs.Jogging.{OneMove, one_move, cancel_is_jog}

@@ -12,11 +12,11 @@ use Rattle.flight.specs.Flights.{Flying, Flies}
 use Rattle.plan_rules.specs.Plans.{Planned}
 use Rattle.line_geom.specs.declared.Block.{Block}
 use Rattle.step_line.specs.declared.Piece.{Piece}
-use Rattle.board_rules.specs.Openings.{Opening}
-use Rattle.board_rules.specs.Ports.{MayBeDone}
-use Rattle.board_rules.specs.Ports.PortStep.{found_free, loaded}
-use Rattle.board_rules.specs.Steps.{Journal, port_log, published_of, known_of, given_of, hand_of, plan_of, motion_of}
-use Rattle.board_rules.specs.Steps.Step.{at_port, became}
+use Rattle.board_journal.specs.Openings.{Opening}
+use Rattle.board_journal.specs.Ports.{MayBeDone}
+use Rattle.board_journal.specs.Ports.PortStep.{found_free, loaded}
+use Rattle.board_journal.specs.Steps.{Journal, port_log, published_of, known_of, given_of, hand_of, plan_of, motion_of}
+use Rattle.board_journal.specs.Steps.Step.{at_port, became}
 use Rattle.board_rules.specs.Turns.{this_turn, has_blocks, is_going, finds_free}
 use Rattle.board_rules.specs.Conduct.{IsDrained, HasSlowedDown, IsStopped, ticks_given, MayObey}
 use Rattle.board_rules.proofs.Taking.{no_jog_to_start}

@@ -4,9 +4,9 @@ use Rattle.std.specs.List.{list_any}
 use Rattle.outside.specs.declared.On.{On}
 use Rattle.outside.specs.declared.Turn.{Turn}
 use Rattle.outside.specs.declared.Turn.TheVariants.{Did, Wait, Done}
-use Rattle.board_rules.specs.Openings.{Opening}
-use Rattle.board_rules.specs.Steps.{Journal}
-use Rattle.board_rules.specs.Steps.Step.{turned}
+use Rattle.board_journal.specs.Openings.{Opening}
+use Rattle.board_journal.specs.Steps.{Journal}
+use Rattle.board_journal.specs.Steps.Step.{turned}
 use Rattle.board_rules.specs.Turns.{this_turn, moving, is_greeted, unobeyed_of, by_wait, by_turn, requests_taken, changes_taken, flags_taken, is_due, waits_of, waits_by}
 use Rattle.board_rules.specs.Conduct.{MayTurn, Waits}
 use Rattle.board_turns.specs.declared.board.Board.{Board}

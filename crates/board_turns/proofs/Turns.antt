@@ -6,10 +6,10 @@ use Rattle.status_report.specs.declared.Reply.{Reply}
 use Rattle.status_report.specs.declared.Reply.TheVariants.{Bye}
 use Rattle.flight.specs.Flights.{Flying}
 use Rattle.line_interpreter.specs.Interpreting.{Interpreting}
-use Rattle.board_rules.specs.Openings.{Opening}
-use Rattle.board_rules.specs.Ports.PortStep.{found_free}
-use Rattle.board_rules.specs.Steps.{Journal}
-use Rattle.board_rules.specs.Steps.Step.{at_port, closing, turned}
+use Rattle.board_journal.specs.Openings.{Opening}
+use Rattle.board_journal.specs.Ports.PortStep.{found_free}
+use Rattle.board_journal.specs.Steps.{Journal}
+use Rattle.board_journal.specs.Steps.Step.{at_port, closing, turned}
 use Rattle.board_rules.specs.Conduct.{MayTurn, MayClose}
 use Rattle.board_turns.specs.declared.board.Board.{Board}
 use Rattle.board_turns.specs.declared.board.Flags.{Flags}

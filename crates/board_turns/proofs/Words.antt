@@ -14,11 +14,11 @@ use Rattle.step_line.specs.Asking.Asked.{a_move}
 use Rattle.step_line.specs.declared.planned_move.PlannedMove.{PlannedMove}
 use Rattle.run_rules.specs.Work.{Task, pauses}
 use Rattle.run_rules.specs.Work.Task.{ask}
-use Rattle.board_rules.specs.Openings.{Opening}
-use Rattle.board_rules.specs.Ports.{BoardLog, asks_reset, has_changes}
-use Rattle.board_rules.specs.Ports.PortStep.{took_exec, took_ovr}
-use Rattle.board_rules.specs.Steps.{Step, Journal, port_log, left_of, closed_tells, plan_of, motion_of}
-use Rattle.board_rules.specs.Steps.Step.{at_port, did}
+use Rattle.board_journal.specs.Openings.{Opening}
+use Rattle.board_journal.specs.Ports.{BoardLog, asks_reset, has_changes}
+use Rattle.board_journal.specs.Ports.PortStep.{took_exec, took_ovr}
+use Rattle.board_journal.specs.Steps.{Step, Journal, port_log, left_of, closed_tells, plan_of, motion_of}
+use Rattle.board_journal.specs.Steps.Step.{at_port, did}
 use Rattle.board_rules.specs.Cuts.{has_cut}
 use Rattle.board_rules.specs.Turns.{this_turn, publishing, ends_turn, found_none, is_greeted, unobeyed_of, owes_report, takes_changes, replans, changes_taken, starts_cycle, has_blocks, has_jogged, has_jog_to_start, is_full, tries_of}
 use Rattle.board_rules.specs.Conduct.{IsNextTask, AreWaiting, MayObey}

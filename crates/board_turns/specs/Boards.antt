@@ -11,9 +11,9 @@ use Rattle.flight.specs.Flights.{Flying, Flies}
 use Rattle.code_table.specs.declared.flags.Exec.{Exec}
 use Rattle.std.specs.Option.{option_to_list}
 use Rattle.std.specs.declared.option.Option.{Option}
-use Rattle.board_rules.specs.Openings.{Opening, IsPlaced}
-use Rattle.board_rules.specs.Steps.{Step, Journal, taken_of, has_limited, published_of, known_of, open_of, whole_of, before_of, left_of, closed_tells, given_of, hand_of, plan_of, motion_of}
-use Rattle.board_rules.specs.Steps.Step.{turned}
+use Rattle.board_journal.specs.Openings.{Opening, IsPlaced}
+use Rattle.board_journal.specs.Steps.{Step, Journal, taken_of, has_limited, published_of, known_of, open_of, whole_of, before_of, left_of, closed_tells, given_of, hand_of, plan_of, motion_of}
+use Rattle.board_journal.specs.Steps.Step.{turned}
 use Rattle.board_rules.specs.Turns.{this_turn, ends_turn, is_greeted, unobeyed_of, owes_report, moving, is_full, is_counted, awaits_unlock, awaits_motion, has_jogged, changes_taken, flags_taken, tries_of, missed_of, waits_of}
 use Rattle.board_rules.specs.Conduct.{Conducted, AreWaiting}
 use Rattle.board_rules.specs.Cuts.{has_cut}

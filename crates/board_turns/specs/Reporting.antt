@@ -9,10 +9,10 @@ use Rattle.run_rules.specs.Reports.{Shows}
 use Rattle.status_report.specs.declared.reports.Report.{Report}
 use Rattle.status_report.specs.Reports.{IsReport}
 use Rattle.units.specs.Truths.{one_if}
-use Rattle.board_rules.specs.Openings.{Opening}
-use Rattle.board_rules.specs.Ports.PortStep.{found_free}
-use Rattle.board_rules.specs.Steps.{Step, Journal, published_of, known_of, plan_of, motion_of}
-use Rattle.board_rules.specs.Steps.Step.{at_port}
+use Rattle.board_journal.specs.Openings.{Opening}
+use Rattle.board_journal.specs.Ports.PortStep.{found_free}
+use Rattle.board_journal.specs.Steps.{Step, Journal, published_of, known_of, plan_of, motion_of}
+use Rattle.board_journal.specs.Steps.Step.{at_port}
 use Rattle.board_rules.specs.Turns.{
   this_turn,
   publishing,

@@ -18,13 +18,13 @@ use Rattle.run_rules.specs.Work.Task.{ask, pause, normal, finish, halt}
 use Rattle.line_interpreter.specs.Lefts.{IsNextOf}
 use Rattle.step_line.specs.Asking.Asked.{a_move, a_rest}
 use Rattle.step_line.specs.declared.planned_move.PlannedMove.{PlannedMove}
-use Rattle.board_rules.specs.Openings.{Opening}
-use Rattle.board_rules.specs.Ports.{BoardLog}
-use Rattle.board_rules.specs.Ports.{asks_reset, has_changes}
+use Rattle.board_journal.specs.Openings.{Opening}
+use Rattle.board_journal.specs.Ports.{BoardLog}
+use Rattle.board_journal.specs.Ports.{asks_reset, has_changes}
 use Rattle.status_report.specs.declared.Reply.{Reply}
-use Rattle.board_rules.specs.Ports.PortStep.{answered, no_reply_room, took_exec, took_ovr}
-use Rattle.board_rules.specs.Steps.{Step, Journal, has_limited, port_log, open_of, before_of, whole_of, left_of, closed_tells, published_of, known_of, hand_of, plan_of, motion_of}
-use Rattle.board_rules.specs.Steps.Step.{at_port, began, did, became, cut}
+use Rattle.board_journal.specs.Ports.PortStep.{answered, no_reply_room, took_exec, took_ovr}
+use Rattle.board_journal.specs.Steps.{Step, Journal, has_limited, port_log, open_of, before_of, whole_of, left_of, closed_tells, published_of, known_of, hand_of, plan_of, motion_of}
+use Rattle.board_journal.specs.Steps.Step.{at_port, began, did, became, cut}
 use Rattle.board_rules.specs.Cuts.{has_cut}
 use Rattle.run_rules.specs.Outcomes.{jogged_behind, begins_with_dollar}
 use Rattle.run_rules.specs.Finding.{Found}

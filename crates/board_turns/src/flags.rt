@@ -5,12 +5,12 @@ ghost use Rattle.code_table.specs.declared.flags.Exec.{Exec as AnyExec};
 ghost use Rattle.code_table.specs.declared.flags.Ovr.{Ovr as AnyOvr};
 ghost use Rattle.feed_hold.specs.declared.Motion.TheVariants.{Held};
 ghost use Rattle.outside.specs.declared.Turn.TheVariants.{Done};
-ghost use Rattle.board_rules.specs.Steps.{Journal, port_log};
-ghost use Rattle.board_rules.specs.Openings.{Opening};
+ghost use Rattle.board_journal.specs.Steps.{Journal, port_log};
+ghost use Rattle.board_journal.specs.Openings.{Opening};
 ghost use Rattle.board_epochs.specs.Resets.{drops_resets, has_reset};
 ghost use Rattle.board_turns.specs.Boards.{Keeps, AwaitsWords};
-ghost use Rattle.board_rules.specs.Ports.PortStep.{took_exec};
-ghost use Rattle.board_rules.specs.Steps.Step.{at_port};
+ghost use Rattle.board_journal.specs.Ports.PortStep.{took_exec};
+ghost use Rattle.board_journal.specs.Steps.Step.{at_port};
 ghost use Rattle.board_rules.specs.Turns.{is_greeted, owes_report, has_jog_to_start};
 ghost use Rattle.board_turns.specs.Turning.{HasPiece, IsHeldUp, HasSettled, asked, flags_behind, replanned, words_awaited, WorksOn};
 

@@ -5,9 +5,9 @@ ghost use Rattle.status_report.specs.Answering.{lfs_in};
 ghost use Rattle.board_epochs.specs.Epochs.{last_line, next_opening};
 ghost use Rattle.board_epochs.specs.Resets.{MayReset};
 ghost use Rattle.board_epochs.specs.Work.{Work, halted_in};
-ghost use Rattle.board_rules.specs.Openings.{Opening};
-ghost use Rattle.board_rules.specs.Ports.{MayBeDone, taken_in};
-ghost use Rattle.board_rules.specs.Steps.{Journal, port_log, taken_of};
+ghost use Rattle.board_journal.specs.Openings.{Opening};
+ghost use Rattle.board_journal.specs.Ports.{MayBeDone, taken_in};
+ghost use Rattle.board_journal.specs.Steps.{Journal, port_log, taken_of};
 ghost use Rattle.board_lines.specs.Inputs.{Reads};
 ghost use Rattle.board_turns.specs.Boards.{EpochFits, GoingBetween};
 

@@ -5,9 +5,9 @@ ghost use Rattle.feed_hold.specs.declared.Motion.TheVariants.{Cancelling, Alarm}
 ghost use Rattle.run_rules.specs.Locking.{unlocks};
 ghost use Rattle.outside.specs.declared.Turn.TheVariants.{Done};
 ghost use Rattle.board_rules.specs.Conduct.{IsNextTask};
-ghost use Rattle.board_rules.specs.Openings.{Opening};
-ghost use Rattle.board_rules.specs.Steps.{Journal, port_log, open_of, left_of, motion_of, outcomes_of, without_asks};
-ghost use Rattle.board_rules.specs.Steps.Step.{cut};
+ghost use Rattle.board_journal.specs.Openings.{Opening};
+ghost use Rattle.board_journal.specs.Steps.{Journal, port_log, open_of, left_of, motion_of, outcomes_of, without_asks};
+ghost use Rattle.board_journal.specs.Steps.Step.{cut};
 ghost use Rattle.board_rules.specs.Turns.{is_limited, tells_next};
 ghost use Rattle.run_rules.specs.Work.Task.{halt};
 ghost use Rattle.board_turns.specs.Boards.{Keeps};

@@ -19,11 +19,11 @@ use Rattle.status_report.specs.declared.Reply.TheVariants.{Banner}
 use Rattle.status_report.specs.Answering.{is_banner}
 use Rattle.step_line.specs.declared.Piece.{Piece}
 use Rattle.board_rules.specs.Conduct.{Conducted, MayAtPort, MayDo, Gives, MayHappen}
-use Rattle.board_rules.specs.Openings.{Opening, first_opening}
-use Rattle.board_rules.specs.Ports.{PortStep}
-use Rattle.board_rules.specs.Ports.PortStep.{took, answered, reported, no_reply_room, took_exec, published, no_piece_room}
-use Rattle.board_rules.specs.Steps.{Journal, answered_of, left_of, closed_tells, hand_of, plan_of, motion_of}
-use Rattle.board_rules.specs.Steps.Step.{at_port, began, did, made_end, evened, paused, became, cut, halted, closing, turned}
+use Rattle.board_journal.specs.Openings.{Opening, first_opening}
+use Rattle.board_journal.specs.Ports.{PortStep}
+use Rattle.board_journal.specs.Ports.PortStep.{took, answered, reported, no_reply_room, took_exec, published, no_piece_room}
+use Rattle.board_journal.specs.Steps.{Journal, answered_of, left_of, closed_tells, hand_of, plan_of, motion_of}
+use Rattle.board_journal.specs.Steps.Step.{at_port, began, did, made_end, evened, paused, became, cut, halted, closing, turned}
 use Rattle.board_rules.specs.Turns.{this_turn, moving, is_greeted, unobeyed_of, owes_report, tells_next, awaits_motion, lacks_reply_room, lacks_piece_room, has_blocks, is_going, is_held_up}
 use Rattle.board_rules.proofs.Greeted.{greeted_where, owed_greeted, reported_greeted, greets_still, greets_first}
 use Rattle.board_epochs.specs.Epochs.{Epochs}

@@ -4,8 +4,8 @@ use Rattle.outside.specs.declared.Turn.{Turn}
 use Rattle.run_rules.specs.declared.State.{State}
 use Rattle.run_rules.specs.States.{IsOpening}
 use Rattle.step_line.specs.Logs.{NewestFirst}
-use Rattle.board_rules.specs.Ports.{BoardLog}
-use Rattle.board_rules.specs.Steps.{Journal}
+use Rattle.board_journal.specs.Ports.{BoardLog}
+use Rattle.board_journal.specs.Steps.{Journal}
 use Rattle.board_rules.specs.Turns.{this_turn}
 use Rattle.board_epochs.specs.Epochs.{Closed, Epochs, log_of, opening_behind}
 use Rattle.board_epochs.specs.Epochs.Epochs.{goes, resets}

@@ -10,8 +10,8 @@ use Rattle.status_report.specs.declared.Reply.{Reply}
 use Rattle.status_report.specs.declared.Reply.TheVariants.{Banner}
 use Rattle.step_line.specs.Logs.{NewestFirst}
 use Rattle.board_rules.specs.Conduct.{IsFinished}
-use Rattle.board_rules.specs.Steps.{Step, Journal, answered_of}
-use Rattle.board_rules.specs.Steps.Step.{turned}
+use Rattle.board_journal.specs.Steps.{Step, Journal, answered_of}
+use Rattle.board_journal.specs.Steps.Step.{turned}
 use Rattle.board_rules.specs.Turns.{this_turn, moving, ends_turn, lacks_reply_room}
 use Rattle.board_epochs.specs.Epochs.{Closed, Epochs, AreEpochs, closed_log, last_line, log_behind, opening_behind}
 use Rattle.board_epochs.specs.Epochs.Epochs.{goes, resets}

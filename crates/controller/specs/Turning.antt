@@ -3,8 +3,8 @@ use Rattle.std.specs.Prelude.{ℕ, ◌-◌}
 use Rattle.outside.specs.declared.Turn.{Turn}
 use Rattle.run_rules.specs.declared.State.{State}
 use Rattle.step_line.specs.Logs.{NewestFirst}
-use Rattle.board_rules.specs.Ports.{BoardLog}
-use Rattle.board_rules.specs.Steps.{Journal}
+use Rattle.board_journal.specs.Ports.{BoardLog}
+use Rattle.board_journal.specs.Steps.{Journal}
 use Rattle.board_epochs.specs.Epochs.{Closed, Epochs, AreEpochs, log_of, opening_behind}
 use Rattle.board_epochs.specs.Epochs.Epochs.{goes}
 use Rattle.board_turns.specs.declared.board.Board.{Board}

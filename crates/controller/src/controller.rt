@@ -7,7 +7,7 @@ ghost use Rattle.board_epochs.specs.Epochs.{Epochs, log_of};
 ghost use Rattle.board_epochs.specs.Epochs.Epochs.{goes};
 ghost use Rattle.controller.specs.Boards.{BoardFits, BoardRests, BoardTurned, IsBetween, number_in};
 
-use board_rules::BoardPort;
+use board_journal::BoardPort;
 use board_turns::Board;
 use outside::Turn;
 use reset_work::{Counts, ResetWork};

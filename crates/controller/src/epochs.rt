@@ -4,7 +4,7 @@ ghost use Rattle.std.specs.Prelude.{◌-◌, ◌≡◌, ◌≢◌, ◌↔◌, �
 ghost use Rattle.outside.specs.declared.Turn.TheVariants.{Done};
 ghost use Rattle.run_rules.specs.declared.State.{State};
 ghost use Rattle.step_line.specs.Logs.{NewestFirst};
-ghost use Rattle.board_rules.specs.Steps.{Journal};
+ghost use Rattle.board_journal.specs.Steps.{Journal};
 ghost use Rattle.board_rules.specs.Turns.{this_turn};
 ghost use Rattle.board_epochs.specs.Epochs.{Closed, AreEpochs, closed_log, last_line, log_behind, log_of, opening_behind};
 ghost use Rattle.board_epochs.specs.Epochs.Epochs.{goes, resets};
@@ -17,7 +17,7 @@ ghost use Rattle.controller.specs.Boards.{GoesFits, ResetsFits, going_number, wo
 ghost use Rattle.controller.specs.Turning.{GoesOn, WentOn};
 
 use crate::controller::Controller;
-use board_rules::BoardPort;
+use board_journal::BoardPort;
 use epoch_ports::EpochSide;
 use outside::Turn;
 use reset_work::{Counts, ResetWork};

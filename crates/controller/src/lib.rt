@@ -6,7 +6,7 @@ mod controller;
 mod epochs;
 mod laws;
 
-pub use board_rules::BoardPort;
+pub use board_journal::BoardPort;
 pub use controller::Controller;
 pub use laws::{controllers_greet_first, controllers_keep_to_epochs};
 

@@ -6,10 +6,10 @@ use Rattle.run_rules.specs.Work.{Task}
 use Rattle.status_report.specs.Answering.{is_answer}
 use Rattle.status_report.specs.declared.Reply.{Reply}
 use Rattle.board_rules.specs.Conduct.{Conducted}
-use Rattle.board_rules.specs.Openings.{Opening}
-use Rattle.board_rules.specs.Ports.PortStep.{answered}
-use Rattle.board_rules.specs.Steps.{Step, Journal, has_limited, outcomes_of, left_of, left_by, closed_tells}
-use Rattle.board_rules.specs.Steps.Step.{at_port, began, did, became, cut, closing, turned}
+use Rattle.board_journal.specs.Openings.{Opening}
+use Rattle.board_journal.specs.Ports.PortStep.{answered}
+use Rattle.board_journal.specs.Steps.{Step, Journal, has_limited, outcomes_of, left_of, left_by, closed_tells}
+use Rattle.board_journal.specs.Steps.Step.{at_port, began, did, became, cut, closing, turned}
 use Rattle.board_rules.proofs.Alarms.{opposite}
 use Rattle.board_rules.proofs.Phases.{Ends, Phase, done_of, phase_is, answered_in_line, answer_ends, free_between}
 use Rattle.board_rules.proofs.Phases.Phase.{in_line, between, unanswered}

@@ -13,9 +13,9 @@ use Rattle.board_rules.specs.Conduct.{Conducted, IsFinished}
 use Rattle.board_rules.specs.Parts.{Part as CutPart}
 use Rattle.board_rules.specs.Cuts.{part_outcomes, part_start, part_of}
 use Rattle.board_rules.specs.Cuts.{parts_of as board_parts}
-use Rattle.board_rules.specs.Openings.{Opening}
-use Rattle.board_rules.specs.Steps.{Journal, known_of}
-use Rattle.board_rules.specs.Steps.Step.{began, cut}
+use Rattle.board_journal.specs.Openings.{Opening}
+use Rattle.board_journal.specs.Steps.{Journal, known_of}
+use Rattle.board_journal.specs.Steps.Step.{began, cut}
 use Rattle.board_rules.proofs.Closing.{spent}
 use Rattle.board_epochs.specs.Epochs.{Closed, Epochs, AreClosed, AreEpochs, IsEpoch, opening_behind, reset_of, ticks_made}
 use Rattle.board_epochs.specs.Epochs.Epochs.{goes, resets}

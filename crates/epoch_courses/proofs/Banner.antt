@@ -7,7 +7,7 @@ use Rattle.status_report.specs.declared.Reply.{Reply}
 use Rattle.status_report.specs.declared.Reply.TheVariants.{Banner}
 use Rattle.step_line.specs.Logs.{NewestFirst}
 use Rattle.board_rules.specs.Conduct.{IsFinished}
-use Rattle.board_rules.specs.Steps.{Journal}
+use Rattle.board_journal.specs.Steps.{Journal}
 use Rattle.board_epochs.specs.Epochs.{Closed, Epochs, AreEpochs, opening_behind}
 use Rattle.board_epochs.specs.Epochs.Epochs.{goes}
 use Rattle.board_epochs.specs.Greetings.{IsGreeted}

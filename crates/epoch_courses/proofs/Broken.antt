@@ -15,11 +15,11 @@ use Rattle.run_texts.specs.Sent.Sent.{a_text}
 use Rattle.run_texts.specs.SoFar.{LeadsTo}
 use Rattle.status_report.specs.Answering.{is_answer}
 use Rattle.board_rules.specs.Conduct.{Conducted}
-use Rattle.board_rules.specs.Openings.{Opening, before_first}
-use Rattle.board_rules.specs.Ports.{PortStep}
-use Rattle.board_rules.specs.Ports.PortStep.{answered}
-use Rattle.board_rules.specs.Steps.{known_of, Step, Journal, open_of, lines_of, before_of, left_of, given_of, closed_tells}
-use Rattle.board_rules.specs.Steps.Step.{at_port, began, cut, closing}
+use Rattle.board_journal.specs.Openings.{Opening, before_first}
+use Rattle.board_journal.specs.Ports.{PortStep}
+use Rattle.board_journal.specs.Ports.PortStep.{answered}
+use Rattle.board_journal.specs.Steps.{known_of, Step, Journal, open_of, lines_of, before_of, left_of, given_of, closed_tells}
+use Rattle.board_journal.specs.Steps.Step.{at_port, began, cut, closing}
 use Rattle.board_rules.specs.Turns.{is_limited, is_locked}
 use Rattle.board_rules.specs.Whole.{has_any_moved, comes_to_rest}
 use Rattle.board_rules.proofs.Alarms.{alarmed_is}

@@ -11,9 +11,9 @@ use Rattle.run_texts.specs.SoFar.{LeadsTo}
 use Rattle.run_texts.proofs.SoFar.{goes_on_from}
 use Rattle.step_line.specs.Logs.{NewestFirst}
 use Rattle.board_rules.specs.Conduct.{IsFinished}
-use Rattle.board_rules.specs.Openings.{Opening}
-use Rattle.board_rules.specs.Ports.{taken_in}
-use Rattle.board_rules.specs.Steps.{known_of, Journal, port_log, lines_of, open_of}
+use Rattle.board_journal.specs.Openings.{Opening}
+use Rattle.board_journal.specs.Ports.{taken_in}
+use Rattle.board_journal.specs.Steps.{known_of, Journal, port_log, lines_of, open_of}
 use Rattle.board_rules.proofs.Closing.{spent}
 use Rattle.board_rules.proofs.Lines.{bytes_are}
 use Rattle.board_epochs.specs.Epochs.{closed_log, log_behind, Closed, Epochs, AreClosed, AreEpochs, IsEpoch, next_opening, opening_behind, point_of, reset_of, ticks_made}

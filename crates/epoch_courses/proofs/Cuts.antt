@@ -9,11 +9,11 @@ use Rattle.step_line.specs.Logs.{NewestFirst}
 use Rattle.units.specs.declared.Steps3.{Steps3}
 use Rattle.board_rules.specs.Conduct.{Conducted}
 use Rattle.board_rules.specs.Cuts.{parts_of, asks_cancel, cancel_words_in}
-use Rattle.board_rules.specs.Openings.{Opening}
-use Rattle.board_rules.specs.Ports.{BoardLog, known_in}
-use Rattle.board_rules.specs.Ports.PortStep.{took_exec}
-use Rattle.board_rules.specs.Steps.{Journal, port_log, given_of}
-use Rattle.board_rules.specs.Steps.Step.{began, cut}
+use Rattle.board_journal.specs.Openings.{Opening}
+use Rattle.board_journal.specs.Ports.{BoardLog, known_in}
+use Rattle.board_journal.specs.Ports.PortStep.{took_exec}
+use Rattle.board_journal.specs.Steps.{Journal, port_log, given_of}
+use Rattle.board_journal.specs.Steps.Step.{began, cut}
 use Rattle.board_rules.proofs.Cancels.{few_cuts}
 use Rattle.board_epochs.specs.Epochs.{Closed, Epochs, AreClosed, AreEpochs, closed_log, log_on, log_behind, log_of, opening_behind, reset_of, ticks_made}
 use Rattle.board_epochs.specs.Epochs.Epochs.{goes, resets}

@@ -28,10 +28,10 @@ use Rattle.units.specs.declared.Steps3.{Steps3}
 use Rattle.board_rules.specs.Conduct.{Conducted, IsFinished}
 use Rattle.board_rules.specs.Cuts.{part_outcomes, part_actions, part_given, part_start, part_plan, part_of}
 use Rattle.board_rules.specs.Cuts.{parts_of as board_parts}
-use Rattle.board_rules.specs.Openings.{Opening}
+use Rattle.board_journal.specs.Openings.{Opening}
 use Rattle.board_rules.specs.Parts.{Part as CutPart, DropsLast, IsAlarmedPart}
-use Rattle.board_rules.specs.Steps.{known_of, Journal, given_of, left_of, has_limited}
-use Rattle.board_rules.specs.Steps.Step.{at_port, began, did, made_end, cut}
+use Rattle.board_journal.specs.Steps.{known_of, Journal, given_of, left_of, has_limited}
+use Rattle.board_journal.specs.Steps.Step.{at_port, began, did, made_end, cut}
 use Rattle.board_rules.proofs.Alarms.{calm_plan, free_halted}
 use Rattle.board_rules.proofs.Closing.{spent}
 use Rattle.board_rules.proofs.Halts.{halted_part}

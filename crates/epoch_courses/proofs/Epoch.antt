@@ -17,11 +17,11 @@ use Rattle.run_texts.specs.SoFar.{LeadsTo}
 use Rattle.units.specs.declared.Steps3.{Steps3}
 use Rattle.board_rules.specs.Conduct.{Conducted}
 use Rattle.board_rules.specs.Cuts.{part_outcomes}
-use Rattle.board_rules.specs.Openings.{Opening, before_first}
-use Rattle.board_rules.specs.Ports.{PortStep}
-use Rattle.board_rules.specs.Ports.PortStep.{loaded, found_halt}
-use Rattle.board_rules.specs.Steps.{Journal, open_of, lines_of, before_of, given_of, known_of}
-use Rattle.board_rules.specs.Steps.Step.{at_port, began, cut}
+use Rattle.board_journal.specs.Openings.{Opening, before_first}
+use Rattle.board_journal.specs.Ports.{PortStep}
+use Rattle.board_journal.specs.Ports.PortStep.{loaded, found_halt}
+use Rattle.board_journal.specs.Steps.{Journal, open_of, lines_of, before_of, given_of, known_of}
+use Rattle.board_journal.specs.Steps.Step.{at_port, began, cut}
 use Rattle.board_rules.specs.Turns.{is_limited, is_locked}
 use Rattle.board_rules.proofs.Alarms.{alarmed_is}
 use Rattle.board_rules.proofs.Causing.{becomes_now}

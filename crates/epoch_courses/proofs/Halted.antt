@@ -4,10 +4,10 @@ use Rattle.run_rules.specs.declared.State.{State}
 use Rattle.motion_ring.specs.Sides as ring
 use Rattle.motion_ring.specs.declared.lists.Sent.{Sent}
 use Rattle.step_line.specs.Logs.{NewestFirst}
-use Rattle.board_rules.specs.Ports.{PortStep, BoardLog, taken_in, known_in, sent_in, MayBeDone}
-use Rattle.board_rules.specs.Ports.PortStep.{found_mark, took_ovr, loaded, stored_stop, found_halt}
-use Rattle.board_rules.specs.Steps.{Journal, port_log, known_of}
-use Rattle.board_rules.specs.Steps.Step.{at_port, turned}
+use Rattle.board_journal.specs.Ports.{PortStep, BoardLog, taken_in, known_in, sent_in, MayBeDone}
+use Rattle.board_journal.specs.Ports.PortStep.{found_mark, took_ovr, loaded, stored_stop, found_halt}
+use Rattle.board_journal.specs.Steps.{Journal, port_log, known_of}
+use Rattle.board_journal.specs.Steps.Step.{at_port, turned}
 use Rattle.board_rules.proofs.Unstopped.{done_within}
 use Rattle.board_epochs.specs.Epochs.{Closed, AreClosed, IsResetting, closed_log, ticks_made, log_behind, opening_behind, last_line}
 use Rattle.board_epochs.specs.Work.{Work, Stage, Works, MayWorkAt, stage_of, stage_at, worked_in, by_mark, halted_in}

@@ -12,10 +12,10 @@ use Rattle.step_line.proofs.Finished.{together_both}
 use Rattle.run_rules.specs.Work.{Outcome}
 use Rattle.board_rules.specs.Conduct.{Conducted, MayHappen, ticks_given}
 use Rattle.board_rules.specs.Cuts.{has_cut, is_cancelling}
-use Rattle.board_rules.specs.Openings.{Opening}
-use Rattle.board_rules.specs.Ports.PortStep.{loaded, stored_stop, found_halt}
-use Rattle.board_rules.specs.Steps.{Journal, given_of, known_of, motion_of}
-use Rattle.board_rules.specs.Steps.Step.{at_port, began, did, made_end, paused, became, cut}
+use Rattle.board_journal.specs.Openings.{Opening}
+use Rattle.board_journal.specs.Ports.PortStep.{loaded, stored_stop, found_halt}
+use Rattle.board_journal.specs.Steps.{Journal, given_of, known_of, motion_of}
+use Rattle.board_journal.specs.Steps.Step.{at_port, began, did, made_end, paused, became, cut}
 use Rattle.board_rules.specs.Turns.{begins_in}
 use Rattle.board_rules.proofs.Locking.{begins_or_locked}
 use Rattle.epoch_courses.specs.Course.{is_made}

@@ -15,9 +15,9 @@ use Rattle.run_texts.specs.Sent.{Sent}
 use Rattle.run_texts.specs.Sent.Sent.{a_text, a_stop}
 use Rattle.run_texts.specs.SoFar.{LeadsTo}
 use Rattle.units.specs.declared.Steps3.{Steps3}
-use Rattle.board_rules.specs.Openings.{Opening}
-use Rattle.board_rules.specs.Ports.{taken_in}
-use Rattle.board_rules.specs.Steps.{known_of, Journal, port_log, lines_of, before_of, left_of, motion_of}
+use Rattle.board_journal.specs.Openings.{Opening}
+use Rattle.board_journal.specs.Ports.{taken_in}
+use Rattle.board_journal.specs.Steps.{known_of, Journal, port_log, lines_of, before_of, left_of, motion_of}
 use Rattle.board_rules.specs.Turns.{is_locked}
 use Rattle.board_rules.specs.Whole.{has_any_moved}
 use Rattle.board_rules.proofs.Alarms.{alarmed_is}

@@ -27,8 +27,8 @@ use Rattle.run_rules.specs.Work.{Task, Outcome, asking, telling}
 use Rattle.run_rules.specs.Work.Task.{tell}
 use Rattle.run_rules.proofs.Each.{holds_by_cause}
 use Rattle.board_rules.specs.Conduct.{MayBegin}
-use Rattle.board_rules.specs.Openings.{Opening}
-use Rattle.board_rules.specs.Steps.{Journal, open_of, without_asks}
+use Rattle.board_journal.specs.Openings.{Opening}
+use Rattle.board_journal.specs.Steps.{Journal, open_of, without_asks}
 use Rattle.board_rules.specs.Turns.{tells_next}
 use Rattle.board_rules.proofs.Beginning.{caused, of_begun}
 

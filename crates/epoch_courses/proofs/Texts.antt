@@ -8,9 +8,9 @@ use Rattle.run_texts.specs.Sent.Sent.{a_text, a_stop}
 use Rattle.status_report.specs.Answering.{lfs_in}
 use Rattle.status_report.proofs.Answered.{lfs_first, lfs_on}
 use Rattle.board_rules.specs.Conduct.{Conducted}
-use Rattle.board_rules.specs.Openings.{Opening}
-use Rattle.board_rules.specs.Ports.{taken_in}
-use Rattle.board_rules.specs.Steps.{Journal, port_log, taken_of, open_of, whole_of, lines_of}
+use Rattle.board_journal.specs.Openings.{Opening}
+use Rattle.board_journal.specs.Ports.{taken_in}
+use Rattle.board_journal.specs.Steps.{Journal, port_log, taken_of, open_of, whole_of, lines_of}
 use Rattle.board_rules.specs.Whole.{AreLines}
 use Rattle.board_rules.proofs.Lines.{bytes_are}
 use Rattle.board_epochs.specs.Epochs.{lines_dropped}

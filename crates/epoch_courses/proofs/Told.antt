@@ -15,11 +15,11 @@ use Rattle.status_report.specs.declared.Reply.{Reply}
 use Rattle.status_report.specs.declared.Reply.TheVariants as replies
 use Rattle.step_line.specs.Logs.{NewestFirst}
 use Rattle.board_rules.specs.Conduct.{Conducted, MayBegin, IsFinished}
-use Rattle.board_rules.specs.Openings.{Opening}
-use Rattle.board_rules.specs.Ports.{BoardLog, answered_in}
-use Rattle.board_rules.specs.Ports.PortStep.{answered, reported}
-use Rattle.board_rules.specs.Steps.{Journal, port_log, answered_of, open_of, left_of, closed_tells, given_of}
-use Rattle.board_rules.specs.Steps.Step.{at_port, began, cut, closing, turned}
+use Rattle.board_journal.specs.Openings.{Opening}
+use Rattle.board_journal.specs.Ports.{BoardLog, answered_in}
+use Rattle.board_journal.specs.Ports.PortStep.{answered, reported}
+use Rattle.board_journal.specs.Steps.{Journal, port_log, answered_of, open_of, left_of, closed_tells, given_of}
+use Rattle.board_journal.specs.Steps.Step.{at_port, began, cut, closing, turned}
 use Rattle.board_rules.proofs.Beginning.{caused, of_begun}
 use Rattle.board_rules.proofs.Keeping.{told_is}
 use Rattle.board_epochs.specs.Epochs.{Closed, Epochs, AreClosed, AreEpochs, closed_log, log_behind, opening_behind, reset_of, ticks_made, last_line}

@@ -12,10 +12,10 @@ use Rattle.status_report.specs.declared.Reply.{Reply}
 use Rattle.status_report.specs.declared.Reply.TheVariants as replies
 use Rattle.step_line.specs.Asking.{Asked}
 use Rattle.board_rules.specs.Conduct.{Conducted, MayBegin}
-use Rattle.board_rules.specs.Openings.{Opening}
-use Rattle.board_rules.specs.Ports.PortStep.{answered}
-use Rattle.board_rules.specs.Steps.{Step, Journal, open_of, left_of, left_by, without_asks, has_limited, closed_tells}
-use Rattle.board_rules.specs.Steps.Step.{at_port, began, did, became, cut, closing, turned}
+use Rattle.board_journal.specs.Openings.{Opening}
+use Rattle.board_journal.specs.Ports.PortStep.{answered}
+use Rattle.board_journal.specs.Steps.{Step, Journal, open_of, left_of, left_by, without_asks, has_limited, closed_tells}
+use Rattle.board_journal.specs.Steps.Step.{at_port, began, did, became, cut, closing, turned}
 use Rattle.board_rules.specs.Turns.{has_jogged}
 use Rattle.board_rules.proofs.Alarms.{opposite}
 use Rattle.board_rules.proofs.Beginning.{caused, of_begun}

@@ -9,11 +9,11 @@ use Rattle.run_texts.specs.Points.{Point, behind_broken}
 use Rattle.status_report.specs.Answering.{is_answer}
 use Rattle.step_line.specs.Logs.{NewestFirst}
 use Rattle.board_rules.specs.Conduct.{ticks_given, ticks_published}
-use Rattle.board_rules.specs.Openings.{Opening, before_first}
-use Rattle.board_rules.specs.Ports.{PortStep}
-use Rattle.board_rules.specs.Ports.PortStep.{answered}
-use Rattle.board_rules.specs.Steps.{Journal, given_of, known_of}
-use Rattle.board_rules.specs.Steps.Step.{at_port, began, cut}
+use Rattle.board_journal.specs.Openings.{Opening, before_first}
+use Rattle.board_journal.specs.Ports.{PortStep}
+use Rattle.board_journal.specs.Ports.PortStep.{answered}
+use Rattle.board_journal.specs.Steps.{Journal, given_of, known_of}
+use Rattle.board_journal.specs.Steps.Step.{at_port, began, cut}
 use Rattle.board_rules.specs.Turns.{is_locked}
 use Rattle.board_epochs.specs.Epochs.{Closed, Epochs, opening_behind, point_of, reset_of, ticks_made}
 use Rattle.board_epochs.specs.Epochs.Epochs.{goes, resets}

@@ -27,10 +27,10 @@ use Rattle.step_line.specs.declared.Piece.{Piece}
 use Rattle.step_line.specs.declared.Record.TheVariants as kinds
 use Rattle.units.specs.declared.Steps3.{Steps3}
 use Rattle.board_rules.specs.Cuts.{part_actions, part_given, part_start, part_plan, parts_of}
-use Rattle.board_rules.specs.Openings.{Opening}
+use Rattle.board_journal.specs.Openings.{Opening}
 use Rattle.board_rules.specs.Parts.{Part as CutPart, DropsLast, IsAlarmedPart}
-use Rattle.board_rules.specs.Steps.{Journal, left_of}
-use Rattle.board_rules.specs.Steps.Step.{began, cut}
+use Rattle.board_journal.specs.Steps.{Journal, left_of}
+use Rattle.board_journal.specs.Steps.Step.{began, cut}
 use Rattle.board_epochs.specs.Epochs.{Closed, Epochs, opening_behind, ticks_made}
 use Rattle.board_epochs.specs.Epochs.Epochs.{goes, resets}
 use Rattle.epoch_courses.specs.Course.{is_made, made_at_halt}

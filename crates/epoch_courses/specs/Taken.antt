@@ -4,8 +4,8 @@ use Rattle.run_texts.specs.Sent.{Sent}
 pub use Rattle.run_texts.specs.Sent.{texts_in}
 use Rattle.run_texts.specs.Sent.Sent.{a_stop}
 use Rattle.step_line.specs.Logs.{NewestFirst}
-use Rattle.board_rules.specs.Ports.{taken_in}
-use Rattle.board_rules.specs.Steps.{Journal, port_log, taken_of, open_of, whole_of}
+use Rattle.board_journal.specs.Ports.{taken_in}
+use Rattle.board_journal.specs.Steps.{Journal, port_log, taken_of, open_of, whole_of}
 use Rattle.board_epochs.specs.Work.{Work}
 use Rattle.board_epochs.specs.Epochs.{Closed, Epochs}
 use Rattle.board_epochs.specs.Epochs.Epochs.{goes, resets}

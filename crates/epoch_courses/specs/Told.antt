@@ -5,8 +5,8 @@ use Rattle.run_rules.specs.declared.State.{State}
 use Rattle.run_rules.specs.Work.{tells}
 use Rattle.status_report.specs.Answering.{is_bye}
 use Rattle.status_report.specs.declared.Reply.{Reply}
-use Rattle.board_rules.specs.Ports.{answered_in}
-use Rattle.board_rules.specs.Steps.{left_of, closed_tells}
+use Rattle.board_journal.specs.Ports.{answered_in}
+use Rattle.board_journal.specs.Steps.{left_of, closed_tells}
 use Rattle.board_epochs.specs.Epochs.{Epochs, opening_behind, log_of}
 use Rattle.board_epochs.specs.Epochs.Epochs.{goes, resets}
 

@@ -12,9 +12,9 @@ use Rattle.step_line.specs.Logs.{NewestFirst}
 use Rattle.board_rules.specs.Conduct.{Conducted}
 use Rattle.board_rules.specs.Cuts.{part_outcomes, part_of}
 use Rattle.board_rules.specs.Cuts.{parts_of as board_parts}
-use Rattle.board_rules.specs.Openings.{Opening}
-use Rattle.board_rules.specs.Steps.{Journal, given_of, known_of}
-use Rattle.board_rules.specs.Steps.Step.{began, cut}
+use Rattle.board_journal.specs.Openings.{Opening}
+use Rattle.board_journal.specs.Steps.{Journal, given_of, known_of}
+use Rattle.board_journal.specs.Steps.Step.{began, cut}
 use Rattle.board_rules.proofs.Parting.{done_before}
 use Rattle.board_epochs.specs.Epochs.{Closed, Epochs, AreClosed, AreEpochs, IsEpoch, opening_behind, ticks_made}
 use Rattle.board_epochs.specs.Epochs.Epochs.{goes, resets}

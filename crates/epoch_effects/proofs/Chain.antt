@@ -8,8 +8,8 @@ use Rattle.run_texts.specs.Courses.{Passed}
 use Rattle.run_texts.specs.Courses.Passed.{a_reset}
 use Rattle.step_line.specs.Logs.{NewestFirst}
 use Rattle.board_rules.specs.Conduct.{Conducted}
-use Rattle.board_rules.specs.Openings.{Opening}
-use Rattle.board_rules.specs.Steps.{Journal, port_log, has_limited, known_of}
+use Rattle.board_journal.specs.Openings.{Opening}
+use Rattle.board_journal.specs.Steps.{Journal, port_log, has_limited, known_of}
 use Rattle.board_rules.proofs.Cancels.{few_cuts}
 use Rattle.board_epochs.specs.Epochs.{Closed, Epochs, AreClosed, AreEpochs, IsEpoch, opening_behind, reset_of, ticks_made, closed_log, log_of}
 use Rattle.board_epochs.specs.Epochs.Epochs.{goes, resets}

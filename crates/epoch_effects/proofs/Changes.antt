@@ -9,11 +9,11 @@ use Rattle.planner_runs.specs.declared.Action.TheVariants.{Take, Override, Clear
 use Rattle.planner_runs.specs.Runs.{normal_overrides}
 use Rattle.step_line.specs.declared.Piece.{Piece}
 use Rattle.step_line.specs.declared.Piece.TheVariants as pieces
-use Rattle.board_rules.specs.Openings.{Opening}
-use Rattle.board_rules.specs.Ports.{PortStep, BoardLog}
-use Rattle.board_rules.specs.Ports.PortStep.{took_ovr}
-use Rattle.board_rules.specs.Steps.{Journal, port_log, plan_of, plan_after}
-use Rattle.board_rules.specs.Steps.Step.{at_port, did, evened, cut}
+use Rattle.board_journal.specs.Openings.{Opening}
+use Rattle.board_journal.specs.Ports.{PortStep, BoardLog}
+use Rattle.board_journal.specs.Ports.PortStep.{took_ovr}
+use Rattle.board_journal.specs.Steps.{Journal, port_log, plan_of, plan_after}
+use Rattle.board_journal.specs.Steps.Step.{at_port, did, evened, cut}
 use Rattle.board_rules.specs.Cuts.{part_actions, part_of, parts_of}
 use Rattle.board_rules.specs.Conduct.{Conducted, MayDo}
 use Rattle.board_rules.specs.Parts.{Part as CutPart}

@@ -18,11 +18,11 @@ use Rattle.units.specs.declared.Steps3.{Steps3}
 use Rattle.board_rules.specs.Conduct.{Conducted, ticks_given}
 use Rattle.board_rules.specs.Cuts.{part_outcomes, part_given, part_counts, part_of, counts_of, has_halted}
 use Rattle.board_rules.specs.Cuts.{parts_of as board_parts}
-use Rattle.board_rules.specs.Openings.{Opening}
+use Rattle.board_journal.specs.Openings.{Opening}
 use Rattle.board_rules.specs.Parts.{Part as CutPart, pieces_in}
 use Rattle.board_rules.specs.Parts.{counts_in as cut_counts}
-use Rattle.board_rules.specs.Steps.{Journal, given_of, known_of, outcomes_of}
-use Rattle.board_rules.specs.Steps.Step.{began, cut}
+use Rattle.board_journal.specs.Steps.{Journal, given_of, known_of, outcomes_of}
+use Rattle.board_journal.specs.Steps.Step.{began, cut}
 use Rattle.board_rules.proofs.Counting.{closed_sum, given_sum, counts_are}
 use Rattle.epoch_courses.specs.Course.{is_made, passed_by}
 use Rattle.epoch_courses.specs.Drives.{Driven, is_pending, driven_by_cut, driven_since, drives_in}

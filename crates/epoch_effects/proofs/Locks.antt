@@ -33,10 +33,10 @@ use Rattle.system_lines.specs.Commands.{kind_of, command_of, is_setting_line, is
 use Rattle.system_lines.specs.declared.Kind.{Kind as DollarKind}
 use Rattle.system_lines.specs.declared.Kind.TheVariants as kinds
 use Rattle.board_rules.specs.Conduct.{Conducted, IsLocked, IsReportAt, MayHappen, shown_as}
-use Rattle.board_rules.specs.Openings.{Opening}
-use Rattle.board_rules.specs.Ports.PortStep.{answered, reported}
-use Rattle.board_rules.specs.Steps.{Journal, lines_of, open_of, outcomes_of, answered_of, motion_of, has_limited, before_of}
-use Rattle.board_rules.specs.Steps.Step.{at_port, began, became, paused}
+use Rattle.board_journal.specs.Openings.{Opening}
+use Rattle.board_journal.specs.Ports.PortStep.{answered, reported}
+use Rattle.board_journal.specs.Steps.{Journal, lines_of, open_of, outcomes_of, answered_of, motion_of, has_limited, before_of}
+use Rattle.board_journal.specs.Steps.Step.{at_port, began, became, paused}
 use Rattle.board_rules.specs.Turns.{is_limited, is_locked}
 use Rattle.board_rules.proofs.Alarms.{limited_alarmed, opposite}
 use Rattle.board_rules.proofs.Calming.{standing}

@@ -20,8 +20,8 @@ use Rattle.status_report.specs.declared.Reply.{Reply}
 use Rattle.status_report.specs.declared.Reply.TheVariants as replies
 use Rattle.step_line.specs.Logs.{NewestFirst}
 use Rattle.board_rules.specs.Conduct.{IsFinished}
-use Rattle.board_rules.specs.Steps.{Journal, known_of, left_of, closed_tells}
-use Rattle.board_rules.specs.Steps.Step.{closing}
+use Rattle.board_journal.specs.Steps.{Journal, known_of, left_of, closed_tells}
+use Rattle.board_journal.specs.Steps.Step.{closing}
 use Rattle.board_rules.proofs.Plain.{answers_without}
 use Rattle.board_epochs.specs.Epochs.{Closed, Epochs, AreEpochs, opening_behind}
 use Rattle.board_epochs.specs.Epochs.Epochs.{goes, resets}

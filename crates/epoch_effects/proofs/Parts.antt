@@ -5,11 +5,11 @@ use Rattle.planner_runs.specs.Runs.{DisturbedOnlyBy, normal_overrides}
 use Rattle.step_line.specs.Asking.{Asked}
 use Rattle.board_rules.specs.Conduct.{Conducted}
 use Rattle.board_rules.specs.Cuts.{part_actions, part_of, parts_of}
-use Rattle.board_rules.specs.Openings.{Opening}
+use Rattle.board_journal.specs.Openings.{Opening}
 use Rattle.board_rules.specs.Parts.{Part as CutPart, IsSlowedOnlyBy, AreDisturbedOnlyBy}
-use Rattle.board_rules.specs.Ports.{has_slowed_in, has_changed_in}
-use Rattle.board_rules.specs.Steps.{Journal, port_log, has_limited, known_of}
-use Rattle.board_rules.specs.Steps.Step.{began, cut}
+use Rattle.board_journal.specs.Ports.{has_slowed_in, has_changed_in}
+use Rattle.board_journal.specs.Steps.{Journal, port_log, has_limited, known_of}
+use Rattle.board_journal.specs.Steps.Step.{began, cut}
 use Rattle.board_rules.proofs.Keeping.{disturbed_is}
 use Rattle.board_rules.proofs.Parting.{asked_is}
 use Rattle.board_rules.proofs.Slowing.{slowed_is}

@@ -8,9 +8,9 @@ use Rattle.run_rules.specs.Work.{Outcome, is_limit}
 use Rattle.run_texts.specs.Courses.{Passed, Reset, cuts_in, lines_in}
 use Rattle.run_texts.specs.Courses.Passed.{a_line, a_broken, a_cut, a_reset}
 use Rattle.board_rules.specs.Conduct.{Conducted}
-use Rattle.board_rules.specs.Openings.{Opening}
-use Rattle.board_rules.specs.Steps.{Journal, given_of, has_limited}
-use Rattle.board_rules.specs.Steps.Step.{began, cut}
+use Rattle.board_journal.specs.Openings.{Opening}
+use Rattle.board_journal.specs.Steps.{Journal, given_of, has_limited}
+use Rattle.board_journal.specs.Steps.Step.{began, cut}
 use Rattle.epoch_courses.specs.Course.{is_made, passed_by}
 use Rattle.epoch_effects.specs.Effects.{onto_epoch, epochs_in, is_alarmed}
 

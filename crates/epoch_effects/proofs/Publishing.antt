@@ -13,11 +13,11 @@ use Rattle.step_line.specs.declared.Piece.TheVariants as pieces
 use Rattle.board_rules.specs.Conduct.{Conducted, ticks_given}
 use Rattle.board_rules.specs.Cuts.{part_given, part_of, has_halted}
 use Rattle.board_rules.specs.Cuts.{parts_of as board_parts}
-use Rattle.board_rules.specs.Openings.{Opening}
+use Rattle.board_journal.specs.Openings.{Opening}
 use Rattle.board_rules.specs.Parts.{Part as CutPart}
 use Rattle.board_rules.specs.Parts.{pieces_in as cut_pieces}
-use Rattle.board_rules.specs.Steps.{Journal, given_of, planned_of, hand_of, known_of}
-use Rattle.board_rules.specs.Steps.Step.{began, cut}
+use Rattle.board_journal.specs.Steps.{Journal, given_of, planned_of, hand_of, known_of}
+use Rattle.board_journal.specs.Steps.Step.{began, cut}
 use Rattle.board_rules.proofs.Closing.{no_more_ticks, one_end}
 use Rattle.board_rules.proofs.Keeping.{hand_is}
 use Rattle.board_rules.proofs.Numbers.{pieces_are}

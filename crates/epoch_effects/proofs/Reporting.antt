@@ -14,9 +14,9 @@ use Rattle.step_line.specs.declared.Record.{Record}
 use Rattle.units.specs.declared.Steps3.{Steps3}
 use Rattle.board_rules.specs.Conduct.{Conducted, ticks_given}
 use Rattle.board_rules.specs.Cuts.{counts_of, has_halted}
-use Rattle.board_rules.specs.Openings.{Opening}
-use Rattle.board_rules.specs.Ports.{has_held_in, has_changed_in}
-use Rattle.board_rules.specs.Steps.{Journal, port_log, outcomes_of, answered_of, published_of, known_of, has_limited}
+use Rattle.board_journal.specs.Openings.{Opening}
+use Rattle.board_journal.specs.Ports.{has_held_in, has_changed_in}
+use Rattle.board_journal.specs.Steps.{Journal, port_log, outcomes_of, answered_of, published_of, known_of, has_limited}
 use Rattle.board_rules.specs.Turns.{is_limited}
 use Rattle.board_rules.specs.Whole.{course_of}
 use Rattle.board_rules.proofs.Alarms.{halted_alarmed}

@@ -4,7 +4,7 @@ use Rattle.run_texts.specs.Courses.{Reset}
 use Rattle.run_texts.specs.Fronts.{BeginsWith}
 use Rattle.run_texts.specs.Told.{told_at_reset}
 use Rattle.status_report.specs.declared.Reply.{Reply}
-use Rattle.board_rules.specs.Openings.{up_to_banner}
+use Rattle.board_journal.specs.Openings.{up_to_banner}
 use Rattle.board_epochs.specs.Greetings.{IsGreeted}
 use Rattle.epoch_effects.specs.Effects.{EpochEffects}
 

@@ -4,8 +4,8 @@ use Rattle.run_rules.specs.declared.State.{State}
 use Rattle.run_texts.specs.Courses.{Passed}
 use Rattle.step_line.specs.Logs.{NewestFirst}
 use Rattle.board_rules.specs.Cuts.{has_halted}
-use Rattle.board_rules.specs.Openings.{Opening}
-use Rattle.board_rules.specs.Steps.{Journal, port_log, published_of, known_of, answered_of}
+use Rattle.board_journal.specs.Openings.{Opening}
+use Rattle.board_journal.specs.Steps.{Journal, port_log, published_of, known_of, answered_of}
 use Rattle.board_rules.specs.Turns.{is_limited}
 use Rattle.board_epochs.specs.Epochs.{Closed, Epochs, opening_behind, ticks_made}
 use Rattle.board_epochs.specs.Epochs.Epochs.{goes, resets}

@@ -15,7 +15,7 @@ ghost use Rattle.status_report.specs.Answering.{answers_in};
 ghost use Rattle.status_report.specs.declared.Reply.{Reply as AnyReply};
 ghost use Rattle.step_line.specs.Logs.{NewestFirst};
 ghost use Rattle.board_rules.specs.Conduct.{IsFinished};
-ghost use Rattle.board_rules.specs.Steps.{Journal, known_of};
+ghost use Rattle.board_journal.specs.Steps.{Journal, known_of};
 ghost use Rattle.board_epochs.specs.Epochs.{Closed, Epochs, AreEpochs, log_of, opening_behind};
 ghost use Rattle.board_epochs.specs.Epochs.Epochs.{goes};
 ghost use Rattle.epoch_courses.specs.Course.{course_of, open_journal};

@@ -19,10 +19,10 @@ use Rattle.step_line.specs.Pieces.{ticks_of}
 use Rattle.step_line.specs.declared.Piece.{Piece}
 use Rattle.step_line.specs.declared.Piece.TheVariants as pieces
 use Rattle.board_rules.specs.Conduct.{Conducted, IsFinished}
-use Rattle.board_rules.specs.Openings.{Opening}
-use Rattle.board_rules.specs.Ports.{BoardLog, has_closed_in}
-use Rattle.board_rules.specs.Ports.PortStep.{found_closed}
-use Rattle.board_rules.specs.Steps.{Journal, port_log, has_closed, has_limited, known_of, planned_of, published_of, taken_of}
+use Rattle.board_journal.specs.Openings.{Opening}
+use Rattle.board_journal.specs.Ports.{BoardLog, has_closed_in}
+use Rattle.board_journal.specs.Ports.PortStep.{found_closed}
+use Rattle.board_journal.specs.Steps.{Journal, port_log, has_closed, has_limited, known_of, planned_of, published_of, taken_of}
 use Rattle.board_rules.proofs.Alarms.{alarmed_is, opposite}
 use Rattle.board_rules.proofs.Closing.{no_more_ticks, spent}
 use Rattle.board_rules.proofs.Keeping.{hand_is}

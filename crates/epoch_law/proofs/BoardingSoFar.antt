@@ -20,8 +20,8 @@ use Rattle.step_line.specs.Pieces.{ticks_of}
 use Rattle.step_line.specs.declared.Piece.{Piece}
 use Rattle.step_line.specs.declared.Piece.TheVariants as pieces
 use Rattle.step_line.specs.declared.Record.{Record}
-use Rattle.board_rules.specs.Ports.{known_in, sent_in, taken_in}
-use Rattle.board_rules.specs.Steps.{known_of, port_log, published_of, taken_of}
+use Rattle.board_journal.specs.Ports.{known_in, sent_in, taken_in}
+use Rattle.board_journal.specs.Steps.{known_of, port_log, published_of, taken_of}
 use Rattle.board_rules.proofs.Closing.{one_bye}
 use Rattle.board_rules.proofs.Lines.{number_is}
 use Rattle.board_epochs.specs.Epochs.{Epochs, AreEpochs, log_of, opening_behind, point_of}

@@ -12,8 +12,8 @@ use Rattle.stream_host.specs.Conduct.{Conducted}
 use Rattle.host_journal.specs.Raises.{raises_in}
 use Rattle.stream_host.proofs.Cutting.{epochs_are}
 use Rattle.host_journal.specs.Steps as hosts
-use Rattle.board_rules.specs.Ports as ports
-use Rattle.board_rules.specs.Takes.{takes_in}
+use Rattle.board_journal.specs.Ports as ports
+use Rattle.board_journal.specs.Takes.{takes_in}
 use Rattle.board_epochs.specs.Epochs.{Closed, Epochs, AreEpochs, log_of}
 use Rattle.epoch_effects.specs.Words.{words_taken}
 use Rattle.epoch_links.specs.Drops.{AreAnsweredOver, DropFew, closed_of, dropped_by}

@@ -18,10 +18,10 @@ use Rattle.run_texts.specs.Told.{told_in}
 use Rattle.status_report.specs.Answering.{answers_in}
 use Rattle.status_report.proofs.Answered.{answers_on}
 use Rattle.step_line.specs.Logs.{NewestFirst}
-use Rattle.board_rules.specs.Openings.{Opening}
-use Rattle.board_rules.specs.Ports.{taken_in}
-use Rattle.board_rules.specs.Steps.{Journal, port_log, answered_of, given_of, known_of, lines_of}
-use Rattle.board_rules.specs.Steps.Step.{began, cut}
+use Rattle.board_journal.specs.Openings.{Opening}
+use Rattle.board_journal.specs.Ports.{taken_in}
+use Rattle.board_journal.specs.Steps.{Journal, port_log, answered_of, given_of, known_of, lines_of}
+use Rattle.board_journal.specs.Steps.Step.{began, cut}
 use Rattle.board_rules.proofs.Opening.{greets_unanswered, opened}
 use Rattle.board_rules.proofs.Plain.{answers_without}
 use Rattle.board_epochs.specs.Epochs.{Closed, AreClosed, IsEpoch, opening_behind, point_of, reset_of, ticks_made}

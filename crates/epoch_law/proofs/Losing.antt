@@ -17,7 +17,7 @@ use Rattle.status_report.specs.declared.Reply.{Reply}
 use Rattle.status_report.specs.declared.Reply.TheVariants as replies
 use Rattle.step_line.specs.Logs.{NewestFirst}
 use Rattle.host_journal.specs.Links.{banners_in}
-use Rattle.board_rules.specs.Steps.{answered_of}
+use Rattle.board_journal.specs.Steps.{answered_of}
 use Rattle.board_epochs.specs.Epochs.{Closed, AreClosed, opening_behind, point_of, reset_of, ticks_made}
 use Rattle.epoch_courses.specs.Course.{closed_course, made_at_halt, passed_at_reset}
 use Rattle.epoch_courses.specs.Taken.{texts_in, bytes_with, closed_texts}

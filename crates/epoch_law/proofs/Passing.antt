@@ -8,7 +8,7 @@ use Rattle.pulse_engine.specs.Turns.{PulseFits}
 use Rattle.run_law.proofs.Begins.{ticks_length}
 use Rattle.run_rules.specs.declared.State.{State}
 use Rattle.step_line.specs.Asking.{ticks_among}
-use Rattle.board_rules.specs.Ports.{known_in, sent_in}
+use Rattle.board_journal.specs.Ports.{known_in, sent_in}
 use Rattle.board_epochs.specs.Epochs.{Epochs, AreEpochs, log_of}
 use Rattle.epoch_records.specs.Publishing.{AreSameHalts}
 use Rattle.epoch_runs.specs.Epochs.{halts_seen}

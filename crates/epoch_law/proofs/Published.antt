@@ -6,7 +6,7 @@ use Rattle.step_line.specs.declared.Mark.TheVariants as marks
 use Rattle.step_line.specs.declared.Piece.{Piece}
 use Rattle.step_line.specs.declared.Piece.TheVariants as pieces
 use Rattle.board_rules.specs.Conduct.{Conducted}
-use Rattle.board_rules.specs.Steps.{Journal, planned_of, published_of}
+use Rattle.board_journal.specs.Steps.{Journal, planned_of, published_of}
 use Rattle.board_rules.proofs.Ending.{planned_none}
 use Rattle.board_epochs.specs.Epochs.{Closed, AreClosed, opening_behind, last_line}
 use Rattle.board_epochs.proofs.Bounding.{none_ended}

@@ -2,7 +2,7 @@
 use Rattle.std.specs.Prelude.{map, reverse}
 use Rattle.serial_ring.specs.Logs.{marked_in, taken_at_banners}
 use Rattle.host_journal.specs.Steps as hosts
-use Rattle.board_rules.specs.Ports.{has_closed_in, link_steps, sent_in}
+use Rattle.board_journal.specs.Ports.{has_closed_in, link_steps, sent_in}
 use Rattle.board_epochs.specs.Epochs.{Epochs, log_of}
 use Rattle.epoch_courses.specs.Told.{answered_by}
 use Rattle.epoch_effects.specs.Words.{words_taken}

@@ -25,9 +25,9 @@ ghost use Rattle.stream_host.specs.Ran.{HostEnd, HasFinished, TellsConsole, end_
 ghost use Rattle.host_journal.specs.Raises.{raises_in};
 ghost use Rattle.host_journal.specs.Steps.{Journal as HostJournal, HostLog, is_attended, bytes_raised_in, scanned_of, raises_of};
 ghost use Rattle.board_rules.specs.Conduct.{IsFinished};
-ghost use Rattle.board_rules.specs.Ports.{BoardLog, known_in, sent_in};
-ghost use Rattle.board_rules.specs.Steps.{Journal};
-ghost use Rattle.board_rules.specs.Takes.{takes_in};
+ghost use Rattle.board_journal.specs.Ports.{BoardLog, known_in, sent_in};
+ghost use Rattle.board_journal.specs.Steps.{Journal};
+ghost use Rattle.board_journal.specs.Takes.{takes_in};
 ghost use Rattle.board_epochs.specs.Epochs.{Closed, Epochs, AreEpochs, log_of, opening_behind};
 ghost use Rattle.board_epochs.specs.Epochs.Epochs.{goes};
 ghost use Rattle.epoch_courses.specs.Told.{without_byes};

@@ -16,8 +16,8 @@ use Rattle.host_journal.specs.Steps.{HostLog, Journal, port_log, got_in, latest_
 use Rattle.host_journal.specs.Steps.PortStep.{got}
 use Rattle.host_journal.specs.Steps.Step.{at_port}
 use Rattle.stream_host.proofs.Cutting.{epochs_are}
-use Rattle.board_rules.specs.Ports.{BoardLog, answered_in, link_steps}
-use Rattle.board_rules.proofs.LinkSteps.{answered_back}
+use Rattle.board_journal.specs.Ports.{BoardLog, answered_in, link_steps}
+use Rattle.board_journal.proofs.LinkSteps.{answered_back}
 use Rattle.serial_ring.specs.Logs.{at_banners}
 use Rattle.epoch_links.proofs.Moments.{answers_given}
 

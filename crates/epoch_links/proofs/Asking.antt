@@ -2,10 +2,10 @@
 use Rattle.std.proofs.Common.{◌≡◌, ℕ, ◌+◌, ◌≤◌, ◌<◌, ◌&&◌, ◌||◌, not, Bool, true, false, cond, [], ◌∷◌, ◌++◌, length, arith}
 use Rattle.run_rules.specs.declared.State.{State}
 use Rattle.step_line.specs.Logs.{NewestFirst}
-use Rattle.board_rules.specs.Ports.{BoardLog, asks_reset, known_in}
-use Rattle.board_rules.specs.Ports.PortStep.{took_exec}
-use Rattle.board_rules.specs.Steps.{Journal, port_log}
-use Rattle.board_rules.specs.Steps.Step.{at_port}
+use Rattle.board_journal.specs.Ports.{BoardLog, asks_reset, known_in}
+use Rattle.board_journal.specs.Ports.PortStep.{took_exec}
+use Rattle.board_journal.specs.Steps.{Journal, port_log}
+use Rattle.board_journal.specs.Steps.Step.{at_port}
 use Rattle.board_epochs.specs.Epochs.{Closed, AreClosed, closed_log, log_behind, log_on}
 use Rattle.board_epochs.specs.Resets.{has_reset, drops_resets}
 use Rattle.epoch_links.specs.Taken.{resets_asked}

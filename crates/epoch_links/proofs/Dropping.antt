@@ -12,14 +12,14 @@ use Rattle.stream_host.specs.Epochs.{Epoch, AreEnds, IsOver, lines_in, replies_i
 use Rattle.host_journal.specs.Jobs.{sent_text}
 use Rattle.host_journal.specs.Links.{on_link}
 use Rattle.stream_host.proofs.Pieces.{lines_back}
-use Rattle.board_rules.specs.Ports.{BoardLog, taken_in, link_steps}
-use Rattle.board_rules.specs.Steps.{port_log, answered_of}
-use Rattle.board_rules.proofs.LinkSteps.{same_taken}
+use Rattle.board_journal.specs.Ports.{BoardLog, taken_in, link_steps}
+use Rattle.board_journal.specs.Steps.{port_log, answered_of}
+use Rattle.board_journal.proofs.LinkSteps.{same_taken}
 use Rattle.board_epochs.specs.Epochs.{Closed, AreClosed, closed_log, log_behind, opening_behind, last_line}
 use Rattle.board_epochs.specs.Work.{Work, Works, stage_of}
 use Rattle.board_epochs.proofs.Working.{all_of, never}
-use Rattle.board_rules.specs.Ports.PortStep.{answered, reported}
-use Rattle.board_rules.specs.Steps.Step.{at_port, turned}
+use Rattle.board_journal.specs.Ports.PortStep.{answered, reported}
+use Rattle.board_journal.specs.Steps.Step.{at_port, turned}
 use Rattle.epoch_links.specs.Drops.{dropped_by, DropFew}
 use Rattle.epoch_links.specs.Taken.{taken_closed, taken_before}
 use Rattle.epoch_links.proofs.Answers.{totals}

@@ -8,9 +8,9 @@ use Rattle.serial_ring.specs.declared.view.LinkStep.TheVariants.{Took, Marked, A
 use Rattle.serial_ring.specs.Logs.{marked_in, next_mark}
 use Rattle.serial_ring.specs.Marks.{Mark, last_of, start}
 use Rattle.step_line.specs.Logs.{NewestFirst}
-use Rattle.board_rules.specs.Ports.{taken_in, known_in, link_steps}
-use Rattle.board_rules.specs.Steps.{Journal, port_log}
-use Rattle.board_rules.proofs.LinkSteps.{same_taken}
+use Rattle.board_journal.specs.Ports.{taken_in, known_in, link_steps}
+use Rattle.board_journal.specs.Steps.{Journal, port_log}
+use Rattle.board_journal.proofs.LinkSteps.{same_taken}
 use Rattle.board_epochs.specs.Bounds.{loaded_mark}
 use Rattle.board_epochs.specs.Epochs.{Closed, Epochs, AreClosed, AreEpochs, closed_log, log_behind, log_of, opening_behind, last_line}
 use Rattle.board_epochs.specs.Epochs.Epochs.{goes, resets}

@@ -17,9 +17,9 @@ use Rattle.stream_host.proofs.Ending.{ends_by}
 use Rattle.stream_host.proofs.Epochs.{Stands, epoch_is, whole_by}
 use Rattle.stream_host.proofs.Keeping.{stored_is}
 use Rattle.stream_host.proofs.Waiting.{few_unanswered}
-use Rattle.board_rules.specs.Ports.{taken_in, link_steps}
-use Rattle.board_rules.specs.Steps.{Journal, answered_of}
-use Rattle.board_rules.proofs.LinkSteps.{same_taken}
+use Rattle.board_journal.specs.Ports.{taken_in, link_steps}
+use Rattle.board_journal.specs.Steps.{Journal, answered_of}
+use Rattle.board_journal.proofs.LinkSteps.{same_taken}
 use Rattle.board_epochs.specs.Epochs.{Closed, AreClosed, closed_log}
 use Rattle.epoch_links.specs.Drops.{DropFew}
 use Rattle.epoch_links.specs.Taken.{taken_closed}

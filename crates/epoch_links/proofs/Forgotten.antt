@@ -14,7 +14,7 @@ use Rattle.host_journal.specs.Steps.{Journal, forgotten_of}
 use Rattle.stream_host.proofs.Cutting.{epochs_are}
 use Rattle.stream_host.proofs.Epochs.{all_lines}
 use Rattle.stream_host.proofs.Pieces.{lines_back}
-use Rattle.board_rules.specs.Steps.{answered_of}
+use Rattle.board_journal.specs.Steps.{answered_of}
 use Rattle.board_epochs.specs.Epochs.{Closed, AreClosed}
 use Rattle.epoch_links.specs.Drops.{dropped_by, lines_among}
 use Rattle.epoch_links.specs.Taken.{taken_closed}

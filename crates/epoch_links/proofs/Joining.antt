@@ -9,7 +9,7 @@ use Rattle.stream_host.specs.Conduct.{Conducted as HostConducted}
 use Rattle.host_journal.specs.Steps.{Journal as HostJournal, stored_of, marks_of, is_shut, has_limit, due_of, cut_of, raw_of, resets_of}
 use Rattle.stream_host.proofs.Raised.{IsMarked, marks_are}
 use Rattle.stream_host.proofs.Raising.{none_due_shut}
-use Rattle.board_rules.specs.Ports.{has_closed_in}
+use Rattle.board_journal.specs.Ports.{has_closed_in}
 use Rattle.board_epochs.specs.Epochs.{Epochs, AreEpochs, log_of}
 use Rattle.epoch_links.specs.Pieces.{Pieces, joined, ends_behind, items_in, bytes_of, IsFrontOf, IsAllOf}
 use Rattle.epoch_links.specs.Taken.{taken_by}

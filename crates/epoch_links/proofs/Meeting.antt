@@ -12,9 +12,9 @@ use Rattle.stream_host.specs.Conduct.{Conducted as HostConducted}
 use Rattle.stream_host.specs.Epochs.{ended_of}
 use Rattle.host_journal.specs.Steps as hosts
 use Rattle.board_rules.specs.Conduct.{Conducted}
-use Rattle.board_rules.specs.Ports.{BoardLog, taken_in, known_in, link_steps}
-use Rattle.board_rules.specs.Openings.{Opening}
-use Rattle.board_rules.specs.Steps.{Journal, port_log, taken_of, answered_of}
+use Rattle.board_journal.specs.Ports.{BoardLog, taken_in, known_in, link_steps}
+use Rattle.board_journal.specs.Openings.{Opening}
+use Rattle.board_journal.specs.Steps.{Journal, port_log, taken_of, answered_of}
 use Rattle.board_rules.proofs.Greeting.{banners_in}
 use Rattle.board_epochs.specs.Epochs.{Closed, Epochs, AreClosed, AreEpochs, closed_log, log_behind, log_of, opening_behind, last_line}
 use Rattle.board_epochs.specs.Epochs.Epochs.{goes, resets}

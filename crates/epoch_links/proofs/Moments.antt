@@ -10,14 +10,14 @@ use Rattle.status_report.specs.declared.Reply.TheVariants as replies
 use Rattle.status_report.proofs.Answered.{answers_first, answers_on}
 use Rattle.step_line.specs.Logs.{NewestFirst}
 use Rattle.board_rules.specs.Conduct.{Conducted}
-use Rattle.board_rules.specs.Openings.{Opening}
-use Rattle.board_rules.specs.Ports.{BoardLog, answered_in, known_in, link_steps}
-use Rattle.board_rules.specs.Ports.PortStep.{took, found_mark, answered, reported}
-use Rattle.board_rules.specs.Steps.{Journal, port_log, answered_of}
-use Rattle.board_rules.specs.Steps.Step.{at_port, turned}
+use Rattle.board_journal.specs.Openings.{Opening}
+use Rattle.board_journal.specs.Ports.{BoardLog, answered_in, known_in, link_steps}
+use Rattle.board_journal.specs.Ports.PortStep.{took, found_mark, answered, reported}
+use Rattle.board_journal.specs.Steps.{Journal, port_log, answered_of}
+use Rattle.board_journal.specs.Steps.Step.{at_port, turned}
 use Rattle.board_rules.proofs.Answering.{answers_are}
 use Rattle.board_rules.proofs.Greeting.{banners_in, banners_on, banners_first, banners_are, since}
-use Rattle.board_rules.proofs.LinkSteps.{same_taken}
+use Rattle.board_journal.proofs.LinkSteps.{same_taken}
 use Rattle.board_epochs.specs.Epochs.{Closed, AreClosed, closed_log, log_behind, opening_behind, last_line}
 use Rattle.board_epochs.specs.Work.{Work, Works, stage_of}
 use Rattle.board_epochs.proofs.Greeted.{was_greeted}

@@ -5,9 +5,9 @@ use Rattle.serial_ring.specs.declared.view.LinkStep.{LinkStep}
 use Rattle.serial_ring.specs.declared.view.LinkStep.TheVariants.{Took, Marked, Answered}
 use Rattle.status_report.specs.declared.Reply.TheVariants as replies
 use Rattle.step_line.specs.Logs.{NewestFirst}
-use Rattle.board_rules.specs.Ports.{BoardLog, taken_in, known_in, link_steps}
-use Rattle.board_rules.specs.Ports.PortStep.{took, found_mark, answered, reported}
-use Rattle.board_rules.specs.Steps.{Journal, port_log, taken_of}
+use Rattle.board_journal.specs.Ports.{BoardLog, taken_in, known_in, link_steps}
+use Rattle.board_journal.specs.Ports.PortStep.{took, found_mark, answered, reported}
+use Rattle.board_journal.specs.Steps.{Journal, port_log, taken_of}
 use Rattle.board_epochs.specs.Epochs.{Closed, Epochs, closed_log, log_behind, log_of}
 use Rattle.board_epochs.specs.Epochs.Epochs.{goes, resets}
 use Rattle.board_epochs.proofs.Onto.{steps_on, taken_on}

@@ -10,8 +10,8 @@ use Rattle.serial_ring.specs.Rule.{AreTied}
 use Rattle.status_report.specs.declared.Reply.{Reply}
 use Rattle.host_journal.specs.Ports.{PortsAgree}
 use Rattle.host_journal.specs.Steps as hosts
-use Rattle.board_rules.specs.Ports as ports
-use Rattle.board_rules.proofs.LinkSteps.{taken_back, answered_back}
+use Rattle.board_journal.specs.Ports as ports
+use Rattle.board_journal.proofs.LinkSteps.{taken_back, answered_back}
 use Rattle.board_epochs.specs.Epochs.{Epochs, log_of}
 use Rattle.epoch_links.specs.Drops.{AreAnsweredOver}
 use Rattle.epoch_links.proofs.Answers.{same_got}

@@ -8,8 +8,8 @@ use Rattle.run_texts.specs.Fronts.{BeginsWith}
 use Rattle.status_report.specs.Answering.{answers_in}
 use Rattle.step_line.specs.Logs.{NewestFirst}
 use Rattle.host_journal.specs.Steps as hosts
-use Rattle.board_rules.specs.Ports.{answered_in}
-use Rattle.board_rules.specs.Steps.{answered_of}
+use Rattle.board_journal.specs.Ports.{answered_in}
+use Rattle.board_journal.specs.Steps.{answered_of}
 use Rattle.board_epochs.specs.Epochs.{Closed, Epochs, log_of}
 use Rattle.board_epochs.specs.Epochs.Epochs.{goes, resets}
 use Rattle.epoch_links.specs.Taken.{taken_closed}

@@ -7,7 +7,7 @@ use Rattle.serial_ring.specs.Logs.{marked_in, taken_at_banners}
 use Rattle.serial_ring.specs.Marks.{Mark, AreMarks, AreRising, last_of}
 use Rattle.host_journal.specs.Steps.{stored_at_banners}
 use Rattle.host_journal.specs.Steps as hosts
-use Rattle.board_rules.specs.Ports as ports
+use Rattle.board_journal.specs.Ports as ports
 use Rattle.board_epochs.specs.Epochs.{Epochs, log_of}
 use Rattle.epoch_links.specs.Pieces.{Pieces, joined, ends_behind}
 

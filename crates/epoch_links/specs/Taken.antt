@@ -1,9 +1,9 @@
 -- The bytes that a board took, epoch by epoch.
 use Rattle.std.specs.Prelude.{ℕ, ◌+◌, cond, List, [], ◌∷◌, ◌++◌}
 use Rattle.step_line.specs.Logs.{NewestFirst}
-use Rattle.board_rules.specs.Ports.{PortStep, BoardLog, taken_in, asks_reset}
-use Rattle.board_rules.specs.Ports.PortStep.{took_exec}
-use Rattle.board_rules.specs.Steps.{port_log, taken_of}
+use Rattle.board_journal.specs.Ports.{PortStep, BoardLog, taken_in, asks_reset}
+use Rattle.board_journal.specs.Ports.PortStep.{took_exec}
+use Rattle.board_journal.specs.Steps.{port_log, taken_of}
 use Rattle.board_epochs.specs.Epochs.{Closed, Epochs}
 use Rattle.board_epochs.specs.Epochs.Epochs.{goes, resets}
 use Rattle.epoch_links.specs.Pieces.{Pieces}

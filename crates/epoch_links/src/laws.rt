@@ -18,7 +18,7 @@ ghost use Rattle.step_line.specs.Logs.{NewestFirst};
 ghost use Rattle.stream_host.specs.Conduct.{Conducted as HostConducted};
 ghost use Rattle.host_journal.specs.Ports.{PortsAgree};
 ghost use Rattle.host_journal.specs.Steps.{Journal as HostJournal, forgotten_of, port_log, stored_of, stored_at_banners, marks_of, is_shut, has_limit, cut_of, raw_of, resets_of};
-ghost use Rattle.board_rules.specs.Ports.{taken_in, link_steps, has_closed_in};
+ghost use Rattle.board_journal.specs.Ports.{taken_in, link_steps, has_closed_in};
 ghost use Rattle.board_epochs.specs.Epochs.{Closed, Epochs, AreClosed, AreEpochs, closed_log, log_of};
 ghost use Rattle.epoch_links.specs.Links.{AreLinked, AreLinkedOver, AwaitsBanners, HasBanners, EndsEpochs, EndAtMarks, EndsHave, AreLastAtMost};
 ghost use Rattle.epoch_links.specs.Pieces.{Pieces, joined, ends_behind, texts_in, items_closed, items_in, IsFrontOf, IsAllOf};

@@ -8,10 +8,10 @@ use Rattle.status_report.specs.declared.Reply.TheVariants as replies
 use Rattle.step_line.specs.Logs.{NewestFirst}
 use Rattle.step_line.specs.declared.Piece.{Piece}
 use Rattle.board_rules.specs.Conduct.{Conducted, IsNextTask}
-use Rattle.board_rules.specs.Openings.{Opening}
-use Rattle.board_rules.specs.Ports.{BoardLog, MayAnswer, MayPublish, MayBeDone, LacksPieceRoom, HasTakenFew, HasFewReports, said, taken_in}
-use Rattle.board_rules.specs.Ports.PortStep.{published, no_piece_room, loaded}
-use Rattle.board_rules.specs.Steps.{Journal, port_log}
+use Rattle.board_journal.specs.Openings.{Opening}
+use Rattle.board_journal.specs.Ports.{BoardLog, MayAnswer, MayPublish, MayBeDone, LacksPieceRoom, HasTakenFew, HasFewReports, said, taken_in}
+use Rattle.board_journal.specs.Ports.PortStep.{published, no_piece_room, loaded}
+use Rattle.board_journal.specs.Steps.{Journal, port_log}
 use Rattle.board_rules.proofs.Unstopped.{journals_never_stop}
 use Rattle.board_epochs.specs.Epochs.{Closed, closed_log, opening_behind, ticks_made}
 use Rattle.board_epochs.proofs.Asking.{lines_there, publish_there}

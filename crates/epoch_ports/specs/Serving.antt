@@ -8,9 +8,9 @@ use Rattle.status_report.specs.declared.Reply.{Reply}
 use Rattle.step_line.specs.Logs.{NewestFirst}
 use Rattle.step_line.specs.declared.Piece.{Piece}
 use Rattle.board_rules.specs.Conduct.{Conducted, IsInHand, IsNextTask}
-use Rattle.board_rules.specs.Openings.{Opening}
-use Rattle.board_rules.specs.Ports.{BoardLog}
-use Rattle.board_rules.specs.Steps.{Journal}
+use Rattle.board_journal.specs.Openings.{Opening}
+use Rattle.board_journal.specs.Ports.{BoardLog}
+use Rattle.board_journal.specs.Steps.{Journal}
 use Rattle.board_epochs.specs.Epochs.{Closed, AreClosed, IsBounded, closed_log, log_on, opening_behind, ticks_made}
 
 -- What stays as it is while an epoch goes on: what the port does not change; how many blocks the plan holds at most; the state that the

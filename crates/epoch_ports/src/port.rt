@@ -2,10 +2,10 @@
 
 ghost use Rattle.std.specs.Prelude.{◌≡◌, ℕ, ◌+◌, ◌^◌, ◌∷◌, ◌≤◌, ◌<◌, length, true, OnOk, OnErr, IfErr};
 ghost use Rattle.board_rules.specs.Conduct.{Conducted};
-ghost use Rattle.board_rules.specs.Openings.{Opening};
-ghost use Rattle.board_rules.specs.Ports.{BoardLog, MayBeDone, HasFewReports, LacksPieceRoom, asks_report, said, taken_in};
-ghost use Rattle.board_rules.specs.Ports.PortStep.{took, found_empty, found_closed, found_free, no_reply_room, took_exec, took_ovr, published, no_piece_room, loaded};
-ghost use Rattle.board_rules.specs.Steps.{Journal, port_log};
+ghost use Rattle.board_journal.specs.Openings.{Opening};
+ghost use Rattle.board_journal.specs.Ports.{BoardLog, MayBeDone, HasFewReports, LacksPieceRoom, asks_report, said, taken_in};
+ghost use Rattle.board_journal.specs.Ports.PortStep.{took, found_empty, found_closed, found_free, no_reply_room, took_exec, took_ovr, published, no_piece_room, loaded};
+ghost use Rattle.board_journal.specs.Steps.{Journal, port_log};
 ghost use Rattle.epoch_ports.specs.Serving.{MayTellNow, MayPublishNow};
 
 use code_table::{Exec, Ovr};

@@ -4,7 +4,7 @@ ghost use Rattle.std.specs.Prelude.{◌≡◌, ℕ};
 ghost use Rattle.epoch_ports.specs.Serving.{Since, Serves};
 
 use crate::port::EpochPort;
-use board_rules::BoardPort;
+use board_journal::BoardPort;
 use code_table::{Exec, Ovr};
 use serial_ring::ByteIn;
 use status_report::Reply;

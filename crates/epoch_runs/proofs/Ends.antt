@@ -13,9 +13,9 @@ use Rattle.units.specs.declared.Steps3.{Steps3}
 use Rattle.board_rules.specs.Conduct.{Conducted, ticks_given}
 use Rattle.board_rules.specs.Cuts.{part_outcomes, part_given, part_of}
 use Rattle.board_rules.specs.Cuts.{parts_of as board_parts}
-use Rattle.board_rules.specs.Openings.{Opening}
+use Rattle.board_journal.specs.Openings.{Opening}
 use Rattle.board_rules.specs.Parts.{Part as CutPart, pieces_in}
-use Rattle.board_rules.specs.Steps.{Journal, published_of, hand_of}
+use Rattle.board_journal.specs.Steps.{Journal, published_of, hand_of}
 use Rattle.board_rules.proofs.Counting.{given_sum}
 use Rattle.board_rules.proofs.Keeping.{hand_is}
 use Rattle.board_rules.proofs.Numbers.{pieces_are}

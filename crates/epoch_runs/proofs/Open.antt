@@ -13,11 +13,11 @@ use Rattle.step_line.specs.declared.Mark.TheVariants as marks
 use Rattle.step_line.specs.declared.Piece.{Piece}
 use Rattle.step_line.specs.declared.Piece.TheVariants as pieces
 use Rattle.board_rules.specs.Conduct.{Conducted}
-use Rattle.board_rules.specs.Openings.{Opening}
-use Rattle.board_rules.specs.Ports.{BoardLog, known_in, sent_in}
-use Rattle.board_rules.specs.Ports.PortStep.{loaded, found_halt}
-use Rattle.board_rules.specs.Steps.{Journal, given_of, hand_of, known_of, planned_of, port_log, published_of}
-use Rattle.board_rules.specs.Steps.Step.{at_port, turned}
+use Rattle.board_journal.specs.Openings.{Opening}
+use Rattle.board_journal.specs.Ports.{BoardLog, known_in, sent_in}
+use Rattle.board_journal.specs.Ports.PortStep.{loaded, found_halt}
+use Rattle.board_journal.specs.Steps.{Journal, given_of, hand_of, known_of, planned_of, port_log, published_of}
+use Rattle.board_journal.specs.Steps.Step.{at_port, turned}
 use Rattle.board_rules.proofs.Closing.{one_end}
 use Rattle.board_rules.proofs.Ending.{NoEnds, planned_none}
 use Rattle.board_rules.proofs.Keeping.{hand_is}

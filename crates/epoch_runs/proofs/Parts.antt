@@ -26,10 +26,10 @@ use Rattle.units.specs.declared.Steps3.{Steps3}
 use Rattle.board_rules.specs.Conduct.{Conducted, ticks_given}
 use Rattle.board_rules.specs.Cuts.{part_outcomes, part_given, part_of}
 use Rattle.board_rules.specs.Cuts.{parts_of as board_parts}
-use Rattle.board_rules.specs.Openings.{Opening}
+use Rattle.board_journal.specs.Openings.{Opening}
 use Rattle.board_rules.specs.Parts.{pieces_in}
-use Rattle.board_rules.specs.Steps.{Journal, open_of, before_of, given_of}
-use Rattle.board_rules.specs.Steps.Step.{began, cut}
+use Rattle.board_journal.specs.Steps.{Journal, open_of, before_of, given_of}
+use Rattle.board_journal.specs.Steps.Step.{began, cut}
 use Rattle.board_rules.specs.Turns.{is_locked}
 use Rattle.board_rules.proofs.Causing.{becomes_now}
 use Rattle.board_rules.proofs.Counting.{given_sum}

@@ -24,10 +24,10 @@ use Rattle.planner_runs.specs.Runs.{all_asked}
 use Rattle.board_rules.specs.Conduct.{Conducted, IsFinished}
 use Rattle.board_rules.specs.Cuts.{part_outcomes, part_given}
 use Rattle.board_rules.specs.Cuts.{parts_of as board_parts}
-use Rattle.board_rules.specs.Openings.{Opening}
+use Rattle.board_journal.specs.Openings.{Opening}
 use Rattle.board_rules.specs.Parts.{Part as CutPart, IsAlarmedPart, pieces_in}
-use Rattle.board_rules.specs.Steps.{Journal, published_of, planned_of, hand_of, known_of}
-use Rattle.board_rules.specs.Steps.Step.{at_port, began, cut}
+use Rattle.board_journal.specs.Steps.{Journal, published_of, planned_of, hand_of, known_of}
+use Rattle.board_journal.specs.Steps.Step.{at_port, began, cut}
 use Rattle.board_rules.proofs.Closing.{spent}
 use Rattle.board_rules.proofs.Jogging.{cancel_is_jog}
 use Rattle.board_rules.proofs.Numbers.{pieces_are}

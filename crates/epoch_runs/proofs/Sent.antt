@@ -9,9 +9,9 @@ use Rattle.step_line.specs.declared.Mark.TheVariants as marks
 use Rattle.step_line.specs.declared.Piece.{Piece}
 use Rattle.step_line.specs.declared.Piece.TheVariants as pieces
 use Rattle.board_rules.specs.Conduct.{IsFinished}
-use Rattle.board_rules.specs.Ports.{BoardLog, known_in, sent_in}
-use Rattle.board_rules.specs.Openings.{Opening}
-use Rattle.board_rules.specs.Steps.{Journal, port_log, published_of, planned_of}
+use Rattle.board_journal.specs.Ports.{BoardLog, known_in, sent_in}
+use Rattle.board_journal.specs.Openings.{Opening}
+use Rattle.board_journal.specs.Steps.{Journal, port_log, published_of, planned_of}
 use Rattle.board_rules.proofs.Closing.{spent}
 use Rattle.board_rules.proofs.Keeping.{hand_is}
 use Rattle.board_rules.proofs.Unstopped.{journals_never_stop}

@@ -15,11 +15,11 @@ use Rattle.step_line.specs.Finishing.{ticks_together}
 use Rattle.board_rules.specs.Conduct.{Conducted}
 use Rattle.board_rules.specs.Cuts.{part_outcomes, counts_of}
 use Rattle.board_rules.specs.Cuts.{parts_of as board_parts}
-use Rattle.board_rules.specs.Openings.{Opening}
+use Rattle.board_journal.specs.Openings.{Opening}
 use Rattle.board_rules.specs.Parts.{pieces_in, lines_in, counts_in}
-use Rattle.board_rules.specs.Ports.PortStep.{answered}
-use Rattle.board_rules.specs.Steps.{Journal, has_limited, known_of, outcomes_of, motion_of, open_of}
-use Rattle.board_rules.specs.Steps.Step.{at_port, began}
+use Rattle.board_journal.specs.Ports.PortStep.{answered}
+use Rattle.board_journal.specs.Steps.{Journal, has_limited, known_of, outcomes_of, motion_of, open_of}
+use Rattle.board_journal.specs.Steps.Step.{at_port, began}
 use Rattle.board_rules.specs.Turns.{has_jogged, machine_in}
 use Rattle.board_rules.proofs.Alarms.{opposite, unhalted}
 use Rattle.board_rules.proofs.Beginning.{fate_now}

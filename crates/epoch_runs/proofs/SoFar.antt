@@ -16,9 +16,9 @@ use Rattle.step_line.specs.declared.Piece.TheVariants as pieces
 use Rattle.board_rules.specs.Conduct.{Conducted, ticks_given}
 use Rattle.board_rules.specs.Cuts.{part_outcomes, part_given, part_of}
 use Rattle.board_rules.specs.Cuts.{parts_of as board_parts}
-use Rattle.board_rules.specs.Openings.{Opening}
+use Rattle.board_journal.specs.Openings.{Opening}
 use Rattle.board_rules.specs.Parts.{Part as CutPart, pieces_in}
-use Rattle.board_rules.specs.Steps.{Journal, published_of, planned_of, given_of, hand_of, known_of}
+use Rattle.board_journal.specs.Steps.{Journal, published_of, planned_of, given_of, hand_of, known_of}
 use Rattle.board_rules.proofs.Closing.{one_end}
 use Rattle.board_rules.proofs.Counting.{given_sum}
 use Rattle.board_rules.proofs.Ending.{NoEnds, planned_none}

@@ -9,8 +9,8 @@ use Rattle.step_line.specs.Logs.{NewestFirst}
 use Rattle.step_line.specs.declared.Mark.TheVariants as marks
 use Rattle.step_line.specs.declared.Piece.{Piece}
 use Rattle.step_line.specs.declared.Piece.TheVariants as pieces
-use Rattle.board_rules.specs.Openings.{Opening}
-use Rattle.board_rules.specs.Steps.{Journal, published_of, planned_of}
+use Rattle.board_journal.specs.Openings.{Opening}
+use Rattle.board_journal.specs.Steps.{Journal, published_of, planned_of}
 use Rattle.board_epochs.specs.Epochs.{Closed, Epochs, closed_log, log_behind, opening_behind, last_line, ticks_made}
 use Rattle.board_epochs.specs.Epochs.Epochs.{goes, resets}
 use Rattle.board_epochs.specs.Work.{Work, Stage, stage_of, halted_in}

@@ -13,14 +13,14 @@ use Rattle.serial_ring.specs.declared.view.LinkStep.{LinkStep}
 use Rattle.serial_ring.specs.declared.view.LinkStep.TheVariants.{Took}
 use Rattle.serial_ring.specs.Marks.{MarkedPast}
 use Rattle.serial_ring.specs.Logs as link
-use Rattle.board_rules.proofs.LinkSteps.{same_taken, same_answered}
+use Rattle.board_journal.proofs.LinkSteps.{same_taken, same_answered}
 use Rattle.motion_ring.specs.declared.lists.Sent.{Sent}
 use Rattle.motion_ring.specs.Sides as ring
 use Rattle.motion_ring.specs.Sides.{ticks_published, unfinished_in, with_stop}
-use Rattle.board_rules.specs.Ports.{BoardLog, taken_in, link_steps, asks_report, reports_in, MayAnswer, IsMarkedPast, MayPublish, MayStop, MayAskHalt, HasTakenFew, HasFewReports, LacksReplyRoom, LacksPieceRoom, MayBeDone}
-use Rattle.board_rules.specs.Ports.PortStep.{took, found_empty, found_closed, found_free, no_reply_room, took_exec, no_piece_room, stored_stop}
+use Rattle.board_journal.specs.Ports.{BoardLog, taken_in, link_steps, asks_report, reports_in, MayAnswer, IsMarkedPast, MayPublish, MayStop, MayAskHalt, HasTakenFew, HasFewReports, LacksReplyRoom, LacksPieceRoom, MayBeDone}
+use Rattle.board_journal.specs.Ports.PortStep.{took, found_empty, found_closed, found_free, no_reply_room, took_exec, no_piece_room, stored_stop}
 use Rattle.link_ports.specs.Loads.{FoundNoByte}
-use Rattle.board_rules.specs.Takes.{takes_in}
+use Rattle.board_journal.specs.Takes.{takes_in}
 use Rattle.link_ports.specs.Boards.{BoardDid, LooksForBytes}
 
 module _ (steps steps' : List LinkStep) (over over' : Bool) (takes : List Take) (sent : Sent) (known : ℕ) (l : BoardLog) (d : BoardDid steps over takes sent known l) where

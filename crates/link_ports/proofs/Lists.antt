@@ -9,8 +9,8 @@ use Rattle.status_report.specs.declared.Reply.TheVariants as replies
 use Rattle.status_report.specs.declared.reports.Report.{Report}
 use Rattle.status_report.specs.Answering.{lfs_in}
 use Rattle.status_report.proofs.Answered.{lfs_first}
-use Rattle.board_rules.specs.Ports.{PortStep, said}
-use Rattle.board_rules.specs.Ports.PortStep.{answered, reported}
+use Rattle.board_journal.specs.Ports.{PortStep, said}
+use Rattle.board_journal.specs.Ports.PortStep.{answered, reported}
 use Rattle.serial_ring.specs.Lists as link
 use Rattle.host_journal.specs.Links as host
 

@@ -8,8 +8,8 @@ use Rattle.status_report.specs.Answering.{is_answer, is_banner}
 use Rattle.serial_ring.specs.declared.view.LinkStep.{LinkStep}
 use Rattle.serial_ring.specs.declared.view.LinkStep.TheVariants.{Answered}
 use Rattle.serial_ring.specs.Logs.{answers_since, lfs_since}
-use Rattle.board_rules.specs.Ports.{BoardLog, said, link_steps, answered_in}
-use Rattle.board_rules.specs.Ports.PortStep.{took}
+use Rattle.board_journal.specs.Ports.{BoardLog, said, link_steps, answered_in}
+use Rattle.board_journal.specs.Ports.PortStep.{took}
 use Rattle.link_ports.proofs.Lists.{by_said}
 
 pub by_option : {A R Q : Type 0} {P : A → Type 0} (o : Option A) → IfSome o P → IfNone o R → ((a : A) → P a → Q) → (R → Q) → Q

@@ -9,9 +9,9 @@ use Rattle.motion_ring.specs.declared.lists.Sent.{Sent}
 use Rattle.motion_ring.specs.declared.ends.SegOut.{SegOut}
 use Rattle.motion_ring.specs.Ends.{known_by, done_loads_of, heard_by, halt_loads_of, stop_of}
 use Rattle.link_ports.specs.Loads.{TookByte, FoundNoByte}
-use Rattle.board_rules.specs.Ports.{PortStep, BoardLog, taken_in, link_steps, has_closed_in, sent_in, known_in}
-use Rattle.board_rules.specs.Ports.PortStep.{took, found_empty, found_closed, found_free, answered, reported, no_reply_room, published, no_piece_room, loaded, found_no_halt, found_halt}
-use Rattle.board_rules.specs.Takes.{takes_in}
+use Rattle.board_journal.specs.Ports.{PortStep, BoardLog, taken_in, link_steps, has_closed_in, sent_in, known_in}
+use Rattle.board_journal.specs.Ports.PortStep.{took, found_empty, found_closed, found_free, answered, reported, no_reply_room, published, no_piece_room, loaded, found_no_halt, found_halt}
+use Rattle.board_journal.specs.Takes.{takes_in}
 
 -- what the end of the link took, loaded of marks and answered, the latest first, is what the log says, and so is what was taken
 -- of the flags, and what went to the pulse, pieces, stops and halts; where it was found closed, the link is known to be; and the

@@ -8,7 +8,7 @@ use Rattle.motion_ring.specs.Ends.{sent_by, known_by}
 use Rattle.motion_ring.specs.Sides.{published_in, ticks_published}
 use Rattle.host_journal.specs.Steps as host
 use Rattle.host_journal.specs.Ports.{IsOpen}
-use Rattle.board_rules.specs.Ports as board
+use Rattle.board_journal.specs.Ports as board
 use Rattle.link_ports.specs.declared.host.HostLink.{HostLink}
 use Rattle.link_ports.specs.declared.board.BoardLink.{BoardLink}
 use Rattle.link_ports.specs.Hosts.{HostDid, HostLooked}

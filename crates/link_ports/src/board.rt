@@ -1,6 +1,6 @@
 //! The port of a board.
 
-use board_rules::BoardPort;
+use board_journal::BoardPort;
 use code_table::{Exec, Ovr};
 use motion_ring::SegOut;
 use realtime_flags::Taker;

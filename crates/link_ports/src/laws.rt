@@ -5,7 +5,7 @@ ghost use Rattle.serial_ring.specs.Ends.{stored_by, closed_by, marks_by, got_by,
 ghost use Rattle.serial_ring.specs.Rule.{AreTied};
 ghost use Rattle.host_journal.specs.Ports.{PortsAgree};
 ghost use Rattle.host_journal.specs.Steps.{HostLog};
-ghost use Rattle.board_rules.specs.Ports.{BoardLog, link_steps, has_closed_in};
+ghost use Rattle.board_journal.specs.Ports.{BoardLog, link_steps, has_closed_in};
 ghost use Rattle.link_ports.specs.Standing.{HostLogs, BoardLogs};
 ghost use Rattle.link_ports.specs.declared.host.HostLink.{HostLink};
 ghost use Rattle.link_ports.specs.declared.board.BoardLink.{BoardLink};

@@ -8,7 +8,7 @@ ghost use Rattle.link_ports.specs.Standing.{IsOpenBehind, OwesAnswers, HasPublis
 
 use super::*;
 use bitflags::Flags;
-use board_rules::BoardPort;
+use board_journal::BoardPort;
 use code_table::Exec;
 use motion_ring::{SegIn, motion};
 use outside::OutOfMemory;

@@ -13,16 +13,16 @@ use Rattle.run_rules.specs.declared.State.{State}
 use Rattle.run_rules.specs.Work.{Task, tells}
 use Rattle.run_rules.specs.Work.Task.{tell}
 use Rattle.host_journal.specs.Links.{banners_in}
-use Rattle.board_rules.specs.Openings.{Opening}
-use Rattle.board_rules.specs.Ports.{BoardLog, asks_report, asks_reset, answered_in}
-use Rattle.board_rules.specs.Ports.PortStep.{took, answered, reported, took_exec}
-use Rattle.board_rules.specs.Steps.{Journal, port_log, answered_of, left_of, left_by, whole_of}
-use Rattle.board_rules.specs.Steps.Step.{at_port, began, did, made_end, evened, paused, cut, halted, closing, turned}
+use Rattle.board_journal.specs.Openings.{Opening}
+use Rattle.board_journal.specs.Ports.{BoardLog, asks_report, asks_reset, answered_in}
+use Rattle.board_journal.specs.Ports.PortStep.{took, answered, reported, took_exec}
+use Rattle.board_journal.specs.Steps.{Journal, port_log, answered_of, left_of, left_by, whole_of}
+use Rattle.board_journal.specs.Steps.Step.{at_port, began, did, made_end, evened, paused, cut, halted, closing, turned}
 use Rattle.board_rules.specs.Turns.{is_greeted, owes_report, requests_taken, changes_taken, by_turn}
 use Rattle.board_rules.specs.Conduct.{Conducted, IsNextTask, MayTell}
 use Rattle.board_rules.proofs.Dropping.{tells_kept}
 use Rattle.board_rules.proofs.Greeting.{banners_on, banners_first, banners_are}
-use Rattle.board_rules.proofs.LinkSteps.{answered_back}
+use Rattle.board_journal.proofs.LinkSteps.{answered_back}
 use Rattle.board_rules.proofs.Opening.{tells_telling, greets_unanswered}
 use Rattle.board_epochs.specs.Epochs.{Closed, Epochs, AreClosed, AreEpochs, closed_log, log_behind, log_of, log_on, opening_behind}
 use Rattle.board_epochs.specs.Epochs.Epochs.{goes, resets}

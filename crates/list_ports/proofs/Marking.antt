@@ -25,8 +25,8 @@ use Rattle.host_journal.specs.Steps.PortStep.{got}
 use Rattle.stream_host.proofs.Greeting.{answered_stored}
 use Rattle.stream_host.proofs.Links.{behind_taken}
 use Rattle.stream_host.proofs.Raised.{AreStored, banners_first}
-use Rattle.board_rules.specs.Ports as board
-use Rattle.board_rules.proofs.LinkSteps.{taken_back, answered_back, same_taken}
+use Rattle.board_journal.specs.Ports as board
+use Rattle.board_journal.proofs.LinkSteps.{taken_back, answered_back, same_taken}
 use Rattle.list_ports.specs.Joining.{BytesPass, RepliesPass, MarksPass}
 
 reverse_on : {X : Type 0} (x : X) (xs : List X) → reverse (x ∷ xs) ≡ reverse xs ++ x ∷ []

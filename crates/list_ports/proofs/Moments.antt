@@ -14,8 +14,8 @@ use Rattle.serial_ring.specs.Logs.{taken_at_banners}
 use Rattle.host_journal.specs.Links.{banners_in}
 use Rattle.host_journal.specs.Steps.{HostLog, stored_in, stored_at_banners, got_in}
 use Rattle.host_journal.specs.Steps.PortStep.{got}
-use Rattle.board_rules.specs.Ports as board
-use Rattle.board_rules.specs.Ports.PortStep.{answered, reported}
+use Rattle.board_journal.specs.Ports as board
+use Rattle.board_journal.specs.Ports.PortStep.{answered, reported}
 use Rattle.list_ports.specs.Joining.{IsInTime}
 
 -- ---- lists

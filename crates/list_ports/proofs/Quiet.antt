@@ -29,10 +29,10 @@ use Rattle.host_journal.specs.Steps.PortStep.{raised}
 use Rattle.stream_host.proofs.Epochs.{some_banner}
 use Rattle.stream_host.proofs.Greeting.{answered_stored}
 use Rattle.stream_host.proofs.Raised.{AreStored, banners_first, low_mark, last_greeted}
-use Rattle.board_rules.specs.Ports.{BoardLog, taken_in, answered_in, link_steps, asks_reset}
-use Rattle.board_rules.specs.Ports.PortStep.{took_exec}
-use Rattle.board_rules.specs.Takes.{takes_in}
-use Rattle.board_rules.proofs.LinkSteps.{taken_back, same_taken}
+use Rattle.board_journal.specs.Ports.{BoardLog, taken_in, answered_in, link_steps, asks_reset}
+use Rattle.board_journal.specs.Ports.PortStep.{took_exec}
+use Rattle.board_journal.specs.Takes.{takes_in}
+use Rattle.board_journal.proofs.LinkSteps.{taken_back, same_taken}
 use Rattle.list_ports.specs.Asked.{AwaitsNoReply, resets_taken, told_by}
 use Rattle.list_ports.specs.Joining.{RepliesPass, MarksPass}
 use Rattle.list_ports.proofs.Asks.{AllAnswered}

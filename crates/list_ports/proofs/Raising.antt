@@ -6,11 +6,11 @@ use Rattle.realtime_flags.specs.declared.words.Take.{Take}
 use Rattle.realtime_flags.specs.declared.words.Take.TheVariants as kinds
 use Rattle.realtime_flags.specs.Bits.{is_flag, is_up, report_flag, raises_of, takes_with}
 use Rattle.realtime_flags.proofs.Bits.{raise_balances, take_balances, down_among, at_least, raised_small}
-use Rattle.board_rules.specs.Ports.{asks_report, reports_in}
-use Rattle.board_rules.specs.Ports.{BoardLog}
-use Rattle.board_rules.specs.Ports.PortStep.{took_exec}
+use Rattle.board_journal.specs.Ports.{asks_report, reports_in}
+use Rattle.board_journal.specs.Ports.{BoardLog}
+use Rattle.board_journal.specs.Ports.PortStep.{took_exec}
 pub use Rattle.stream_host.proofs.Queries.{asks, only_query, few_queries}
-pub use Rattle.board_rules.proofs.Asking.{reports_are}
+pub use Rattle.board_journal.proofs.Asking.{reports_are}
 use Rattle.list_ports.specs.Joining.{FlagsPass}
 
 few_still : (a : Bool) (n : ℕ) → n ≤ 2 ^ 31 → (a ≡ true → n < 2 ^ 31) → cond a (n + 1) n ≤ 2 ^ 31

@@ -5,8 +5,8 @@ use Rattle.step_line.specs.declared.Piece.{Piece}
 use Rattle.step_line.specs.declared.Piece.TheVariants as pieces
 use Rattle.step_line.specs.declared.Mark.TheVariants.{Dwell}
 use Rattle.step_line.proofs.Finished.{together}
-use Rattle.board_rules.specs.Ports.{MayPublish, MayStop, MayBeDone, sent_in}
-use Rattle.board_rules.specs.Ports.PortStep.{published, stored_stop, found_halt}
+use Rattle.board_journal.specs.Ports.{MayPublish, MayStop, MayBeDone, sent_in}
+use Rattle.board_journal.specs.Ports.PortStep.{published, stored_stop, found_halt}
 use Rattle.list_ports.specs.Joining.{Listed, Joined}
 use Rattle.list_ports.specs.Standing.{HasPublished, AwaitsHalt}
 

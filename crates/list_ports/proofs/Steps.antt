@@ -6,9 +6,9 @@ use Rattle.std.specs.declared.option.Option.{Option}
 use Rattle.step_line.specs.declared.Piece.{Piece}
 use Rattle.step_line.specs.Ordering.{ComesNext}
 use Rattle.step_line.specs.Finishing.{tick_count, unfinished, most_unfinished}
-use Rattle.board_rules.specs.Ports.{taken_in, link_steps, has_closed_in, answered_in, known_in, sent_in, asks_report, said, IsMarkedPast, MayAnswer, MayPublish, MayStop, MayBeDone, HasFewReports, LacksPieceRoom}
-use Rattle.board_rules.specs.Ports.{BoardLog}
-use Rattle.board_rules.specs.Ports.PortStep.{took_exec, published, no_piece_room, loaded, stored_stop}
+use Rattle.board_journal.specs.Ports.{taken_in, link_steps, has_closed_in, answered_in, known_in, sent_in, asks_report, said, IsMarkedPast, MayAnswer, MayPublish, MayStop, MayBeDone, HasFewReports, LacksPieceRoom}
+use Rattle.board_journal.specs.Ports.{BoardLog}
+use Rattle.board_journal.specs.Ports.PortStep.{took_exec, published, no_piece_room, loaded, stored_stop}
 use Rattle.realtime_flags.specs.declared.words.Flag.{Flag}
 use Rattle.realtime_flags.specs.declared.words.Flag.TheVariants as flags
 use Rattle.realtime_flags.specs.Bits.{is_flag, is_up, report_flag, raises_of, IsNamed}
@@ -24,13 +24,13 @@ use Rattle.host_journal.specs.Links.{banners_in}
 use Rattle.host_journal.specs.Steps.{stored_in, stored_at_banners, got_in, latest_got, marks_in, marks_at_banners, is_shut_in}
 use Rattle.serial_ring.specs.Logs as link
 use Rattle.serial_ring.specs.Logs.{greeted_in, taken_at_banners, answers_since, lfs_since}
-use Rattle.board_rules.proofs.LinkSteps.{taken_back, same_taken}
+use Rattle.board_journal.proofs.LinkSteps.{taken_back, same_taken}
 use Rattle.host_journal.specs.Steps.{HostLog}
 use Rattle.host_journal.specs.Steps.PortStep.{stored, dropped, marked, raised, got}
 use Rattle.list_ports.specs.Asked.{AsksBetween, LooksFirst, AsksPass, report_is_up, raised_behind, words_behind, told_by, resets_taken, has_looked}
 use Rattle.list_ports.specs.Joining.{Listed, FlagsPass, MarksPass, RepliesPass, Joined, with_flag, one_if_some}
 use Rattle.host_journal.specs.Raises.{raised_to, raises_in}
-use Rattle.board_rules.specs.Takes.{takes_in}
+use Rattle.board_journal.specs.Takes.{takes_in}
 use Rattle.list_ports.proofs.Asks as reports
 use Rattle.list_ports.proofs.Links as links
 use Rattle.list_ports.proofs.Marking as marks

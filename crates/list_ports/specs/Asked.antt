@@ -11,9 +11,9 @@ use Rattle.host_journal.specs.Links.{banners_in}
 use Rattle.host_journal.specs.Steps.{stored_in, latest_got, marks_in, resets_in}
 use Rattle.host_journal.specs.Steps.{HostLog}
 use Rattle.host_journal.specs.Steps.PortStep.{raised}
-use Rattle.board_rules.specs.Ports.{asks_report, asks_reset, link_steps}
-use Rattle.board_rules.specs.Ports.{PortStep as BoardStep, BoardLog}
-use Rattle.board_rules.specs.Ports.PortStep.{took, answered, took_exec}
+use Rattle.board_journal.specs.Ports.{asks_report, asks_reset, link_steps}
+use Rattle.board_journal.specs.Ports.{PortStep as BoardStep, BoardLog}
+use Rattle.board_journal.specs.Ports.PortStep.{took, answered, took_exec}
 
 -- ---- moments
 

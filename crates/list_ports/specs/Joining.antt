@@ -10,7 +10,7 @@ use Rattle.realtime_flags.specs.declared.words.Raise.{Raise}
 use Rattle.realtime_flags.specs.declared.words.Take.{Take}
 use Rattle.realtime_flags.specs.Bits.{IsBalanced, raises_of, report_flag}
 use Rattle.host_journal.specs.Raises.{raises_in}
-use Rattle.board_rules.specs.Takes.{takes_in}
+use Rattle.board_journal.specs.Takes.{takes_in}
 use Rattle.step_line.specs.declared.Piece.{Piece}
 use Rattle.step_line.specs.Logs.{NewestFirst}
 use Rattle.step_line.specs.Ordering.{InTurn}
@@ -20,9 +20,9 @@ use Rattle.motion_ring.specs.declared.lists.Sent.{Sent}
 use Rattle.motion_ring.specs.Sides.{ticks_at, ticks_published, unfinished_in}
 use Rattle.motion_ring.specs.Sides.{published_in as pieces_sent}
 use Rattle.motion_ring.specs.Ticks.{slots}
-use Rattle.board_rules.specs.Ports.{taken_in, link_steps, has_closed_in, answered_in, sent_in, known_in}
+use Rattle.board_journal.specs.Ports.{taken_in, link_steps, has_closed_in, answered_in, sent_in, known_in}
 use Rattle.status_report.specs.Answering.{reply_room, lfs_in, answers_in}
-use Rattle.board_rules.specs.Ports.{BoardLog}
+use Rattle.board_journal.specs.Ports.{BoardLog}
 use Rattle.pulse_engine.specs.Logs.{PieceLog, pieces_of, got_since, counted, uncounted, saw_stop, halts_of}
 use Rattle.serial_ring.specs.declared.view.LinkStep.{LinkStep}
 use Rattle.serial_ring.specs.Marks.{Mark, AreMarks, AreRising, latest}

@@ -2,8 +2,8 @@
 use Rattle.std.specs.Prelude.{◌≡◌, ℕ, ◌≤◌, false, length}
 use Rattle.step_line.specs.Ordering.{has_ended}
 use Rattle.motion_ring.specs.Sides.{published_in, ticks_published}
-use Rattle.board_rules.specs.Ports.{MayAskHalt, sent_in}
-use Rattle.board_rules.specs.Ports.{BoardLog}
+use Rattle.board_journal.specs.Ports.{MayAskHalt, sent_in}
+use Rattle.board_journal.specs.Ports.{BoardLog}
 use Rattle.host_journal.specs.Steps.{HostLog}
 use Rattle.pulse_engine.specs.Logs.{PieceLog, IsCounted}
 use Rattle.list_ports.specs.Joining.{Listed, Joined}

@@ -3,7 +3,7 @@
 ghost use Rattle.std.specs.Prelude.{◌≡◌, [], ◌∷◌, ◌≤◌, length, IfSome, IfNone};
 ghost use Rattle.std.specs.List.{slice_get};
 ghost use Rattle.status_report.specs.Replies.{IsReply};
-ghost use Rattle.board_rules.specs.Ports.{BoardLog};
+ghost use Rattle.board_journal.specs.Ports.{BoardLog};
 ghost use Rattle.host_journal.specs.Ports.{AnswersLines, SeemsFull, TakesByte};
 ghost use Rattle.host_journal.specs.Steps.{HostLog};
 ghost use Rattle.host_journal.specs.Steps.PortStep.{stored, dropped, got, no_reply};

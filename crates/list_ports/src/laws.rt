@@ -2,7 +2,7 @@
 
 ghost use Rattle.host_journal.specs.Ports.{PortsAgree};
 ghost use Rattle.host_journal.specs.Steps.{HostLog};
-ghost use Rattle.board_rules.specs.Ports.{BoardLog, link_steps, has_closed_in};
+ghost use Rattle.board_journal.specs.Ports.{BoardLog, link_steps, has_closed_in};
 ghost use Rattle.pulse_engine.specs.Logs.{PieceLog};
 ghost use Rattle.list_ports.specs.Joining.{Listed, Joined};
 

@@ -5,7 +5,7 @@ ghost use Rattle.std.specs.List.{slice_get};
 ghost use Rattle.step_line.specs.declared.Piece.{Piece as AnyPiece};
 ghost use Rattle.step_line.specs.Logs.{NewestFirst};
 ghost use Rattle.step_line.specs.Ordering.{ComesNext};
-ghost use Rattle.board_rules.specs.Ports.{BoardLog};
+ghost use Rattle.board_journal.specs.Ports.{BoardLog};
 ghost use Rattle.host_journal.specs.Steps.{HostLog};
 ghost use Rattle.pulse_engine.specs.Logs.{PieceLog, IsCounted, SawStop, got_since};
 ghost use Rattle.pulse_engine.specs.Logs.PieceEvent.{asked, got, none, halted};

@@ -5,7 +5,7 @@ ghost use Rattle.list_ports.specs.Joining.{Joined};
 ghost use Rattle.list_ports.specs.Standing.{HasPublished, AwaitsHalt};
 
 use super::*;
-use board_rules::BoardPort;
+use board_journal::BoardPort;
 use pulse_engine::PulsePort;
 use std::alloc::Global;
 use std::process::Abort;

@@ -9,10 +9,10 @@ use Rattle.outside.specs.declared.On.TheVariants as on
 use Rattle.outside.specs.declared.Turn.{Turn}
 use Rattle.outside.specs.declared.Turn.TheVariants.{Did, Wait, Done}
 use Rattle.step_line.specs.Logs.{NewestFirst}
-use Rattle.board_rules.specs.Openings.{Opening}
-use Rattle.board_rules.specs.Ports.PortStep.{took, answered, reported, published, no_piece_room, stored_stop, found_no_halt, found_halt, found_mark}
-use Rattle.board_rules.specs.Steps.{Journal}
-use Rattle.board_rules.specs.Steps.Step.{at_port, began, turned}
+use Rattle.board_journal.specs.Openings.{Opening}
+use Rattle.board_journal.specs.Ports.PortStep.{took, answered, reported, published, no_piece_room, stored_stop, found_no_halt, found_halt, found_mark}
+use Rattle.board_journal.specs.Steps.{Journal}
+use Rattle.board_journal.specs.Steps.Step.{at_port, began, turned}
 use Rattle.board_rules.specs.Turns.{this_turn, passing, lacks_piece_room}
 use Rattle.board_rules.specs.Conduct.{Conducted, Needs}
 use Rattle.board_epochs.specs.Epochs.{Closed}

@@ -7,11 +7,11 @@ use Rattle.step_line.specs.Asking.Asked.{a_move}
 use Rattle.step_line.specs.Finishing.{most_unfinished}
 use Rattle.step_line.specs.declared.planned_move.PlannedMove.{PlannedMove}
 use Rattle.run_rules.specs.Work.Task.{ask}
-use Rattle.board_rules.specs.Openings.{Opening}
-use Rattle.board_rules.specs.Ports.{sent_in}
-use Rattle.board_rules.specs.Ports.PortStep.{no_piece_room}
-use Rattle.board_rules.specs.Steps.{Step, Journal, port_log, left_of, closed_tells, plan_of, motion_of}
-use Rattle.board_rules.specs.Steps.Step.{at_port}
+use Rattle.board_journal.specs.Openings.{Opening}
+use Rattle.board_journal.specs.Ports.{sent_in}
+use Rattle.board_journal.specs.Ports.PortStep.{no_piece_room}
+use Rattle.board_journal.specs.Steps.{Step, Journal, port_log, left_of, closed_tells, plan_of, motion_of}
+use Rattle.board_journal.specs.Steps.Step.{at_port}
 use Rattle.board_rules.specs.Turns.{this_turn, found_nothing, lacks_reply_room, awaits_motion, is_full}
 use Rattle.board_rules.specs.Conduct.{IsNextTask}
 

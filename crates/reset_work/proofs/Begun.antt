@@ -7,11 +7,11 @@ use Rattle.planner_runs.specs.Runs.{most_blocks}
 use Rattle.run_rules.specs.declared.State.{State}
 use Rattle.status_report.specs.declared.Reply.TheVariants.{Banner}
 use Rattle.board_rules.specs.Conduct.{Conducted}
-use Rattle.board_rules.specs.Openings.{first_opening}
-use Rattle.board_rules.specs.Ports.{reset_byte}
-use Rattle.board_rules.specs.Ports.PortStep.{answered, took_exec}
-use Rattle.board_rules.specs.Steps.{Journal}
-use Rattle.board_rules.specs.Steps.Step.{at_port, turned}
+use Rattle.board_journal.specs.Openings.{first_opening}
+use Rattle.board_journal.specs.Ports.{reset_byte}
+use Rattle.board_journal.specs.Ports.PortStep.{answered, took_exec}
+use Rattle.board_journal.specs.Steps.{Journal}
+use Rattle.board_journal.specs.Steps.Step.{at_port, turned}
 use Rattle.board_rules.proofs.Example.{ends, opens, untrue}
 use Rattle.board_epochs.specs.Epochs.{AreEpochs, log_of}
 use Rattle.board_epochs.specs.Epochs.Epochs.{goes}

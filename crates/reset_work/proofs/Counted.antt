@@ -2,8 +2,8 @@
 use Rattle.std.proofs.Common.{◌≡◌, ◌≤◌, ◌<◌, ◌+◌, ◌-◌, ◌^◌, ℕ, [], length, sym, subst, ◌∙◌, arith}
 use Rattle.run_rules.specs.declared.State.{State}
 use Rattle.step_line.specs.Logs.{NewestFirst}
-use Rattle.board_rules.specs.Ports.{MayBeDone, taken_in}
-use Rattle.board_rules.specs.Steps.{Journal, port_log, taken_of}
+use Rattle.board_journal.specs.Ports.{MayBeDone, taken_in}
+use Rattle.board_journal.specs.Steps.{Journal, port_log, taken_of}
 use Rattle.board_epochs.specs.Epochs.{Closed, AreEpochs, closed_log, last_line, log_behind, opening_behind, ticks_made}
 use Rattle.board_epochs.specs.Epochs.Epochs.{goes, resets}
 use Rattle.board_epochs.specs.Resets.{MayReset}

@@ -5,9 +5,9 @@ use Rattle.code_table.specs.declared.flags.Ovr.{Ovr}
 use Rattle.outside.specs.declared.Turn.TheVariants.{Did}
 use Rattle.run_rules.specs.declared.State.{State}
 use Rattle.step_line.specs.Logs.{NewestFirst}
-use Rattle.board_rules.specs.Ports.{PortStep, BoardLog, HasFewReports, asks_report, reports_in}
-use Rattle.board_rules.specs.Ports.PortStep.{took_exec, took_ovr}
-use Rattle.board_rules.specs.Steps.{Journal}
+use Rattle.board_journal.specs.Ports.{PortStep, BoardLog, HasFewReports, asks_report, reports_in}
+use Rattle.board_journal.specs.Ports.PortStep.{took_exec, took_ovr}
+use Rattle.board_journal.specs.Steps.{Journal}
 use Rattle.board_epochs.specs.Epochs.{Closed, closed_log, last_line, log_behind, log_of, opening_behind}
 use Rattle.board_epochs.specs.Epochs.Epochs.{resets}
 use Rattle.board_epochs.specs.Work.{Work, MayWorkAt, stage_at}

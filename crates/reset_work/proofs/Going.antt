@@ -7,9 +7,9 @@ use Rattle.outside.specs.declared.Turn.{Turn}
 use Rattle.outside.specs.declared.Turn.TheVariants.{Did, Wait}
 use Rattle.run_rules.specs.declared.State.{State}
 use Rattle.step_line.specs.Logs.{NewestFirst}
-use Rattle.board_rules.specs.Ports.{PortStep, BoardLog}
-use Rattle.board_rules.specs.Steps.{Step, Journal}
-use Rattle.board_rules.specs.Steps.Step.{at_port, turned}
+use Rattle.board_journal.specs.Ports.{PortStep, BoardLog}
+use Rattle.board_journal.specs.Steps.{Step, Journal}
+use Rattle.board_journal.specs.Steps.Step.{at_port, turned}
 use Rattle.board_rules.specs.Turns.{this_turn, moving}
 use Rattle.board_epochs.specs.Epochs.{Closed, AreEpochs, IsBounded, closed_log, last_line, log_behind, log_of, opening_behind}
 use Rattle.board_epochs.specs.Epochs.Epochs.{resets}

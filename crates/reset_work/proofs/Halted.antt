@@ -6,9 +6,9 @@ use Rattle.motion_ring.specs.Sides as ring
 use Rattle.motion_ring.specs.declared.lists.Sent.{Sent}
 use Rattle.step_line.specs.Finishing.{most_unfinished}
 use Rattle.step_line.specs.declared.Piece.{Piece}
-use Rattle.board_rules.specs.Ports.{BoardLog, MayBeDone, known_in, sent_in, taken_in}
-use Rattle.board_rules.specs.Ports.PortStep.{took, found_mark, took_exec, took_ovr, published, no_piece_room, loaded, stored_stop, found_no_halt, found_halt}
-use Rattle.board_rules.specs.Steps.Step.{at_port, turned}
+use Rattle.board_journal.specs.Ports.{BoardLog, MayBeDone, known_in, sent_in, taken_in}
+use Rattle.board_journal.specs.Ports.PortStep.{took, found_mark, took_exec, took_ovr, published, no_piece_room, loaded, stored_stop, found_no_halt, found_halt}
+use Rattle.board_journal.specs.Steps.Step.{at_port, turned}
 use Rattle.board_epochs.specs.Work.{Work, Stage, Works, MayWorkAt, stage_of, stage_at, by_mark, by_load, dropping, worked_in, halted_in}
 use Rattle.board_epochs.specs.Work.Stage.{drops_changes, awaits_mark, stops, awaits_halt, drops, publishes, awaits_done, over}
 use Rattle.board_epochs.proofs.Working.{Holds, all_of, holds, never}

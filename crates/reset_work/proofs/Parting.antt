@@ -5,8 +5,8 @@ use Rattle.serial_ring.specs.Logs.{greeted_in, next_mark}
 use Rattle.serial_ring.specs.Marks.{Mark as LinkMark, last_of, start}
 use Rattle.serial_ring.specs.declared.view.LinkStep.{LinkStep}
 use Rattle.step_line.specs.Logs.{NewestFirst}
-use Rattle.board_rules.specs.Ports.{BoardLog, MayBeDone, known_in, link_steps, taken_in}
-use Rattle.board_rules.specs.Steps.{Journal, port_log}
+use Rattle.board_journal.specs.Ports.{BoardLog, MayBeDone, known_in, link_steps, taken_in}
+use Rattle.board_journal.specs.Steps.{Journal, port_log}
 use Rattle.board_epochs.specs.Bounds.{loaded_mark}
 use Rattle.board_epochs.specs.Epochs.{Closed, AreEpochs, closed_log, last_line, log_behind, log_of, opening_behind, ticks_made}
 use Rattle.board_epochs.specs.Epochs.Epochs.{goes, resets}

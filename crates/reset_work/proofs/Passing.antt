@@ -11,10 +11,10 @@ use Rattle.status_report.proofs.Answered.{lfs_on}
 use Rattle.step_line.specs.declared.Mark.TheVariants as marks
 use Rattle.step_line.specs.declared.Piece.TheVariants as pieces
 use Rattle.step_line.specs.Logs.{NewestFirst}
-use Rattle.board_rules.specs.Ports.{BoardLog, HasTakenFew, MayBeDone, MayPublish, taken_in, sent_in}
-use Rattle.board_rules.specs.Ports.PortStep.{took, found_mark, took_ovr, published, loaded, stored_stop, found_halt}
-use Rattle.board_rules.specs.Steps.{Journal, port_log}
-use Rattle.board_rules.specs.Steps.Step.{at_port, turned}
+use Rattle.board_journal.specs.Ports.{BoardLog, HasTakenFew, MayBeDone, MayPublish, taken_in, sent_in}
+use Rattle.board_journal.specs.Ports.PortStep.{took, found_mark, took_ovr, published, loaded, stored_stop, found_halt}
+use Rattle.board_journal.specs.Steps.{Journal, port_log}
+use Rattle.board_journal.specs.Steps.Step.{at_port, turned}
 use Rattle.board_epochs.specs.Epochs.{Closed, closed_log, last_line, log_behind, log_of, opening_behind}
 use Rattle.board_epochs.specs.Epochs.Epochs.{resets}
 use Rattle.board_epochs.specs.Work.{Work, MayWorkAt, stage_at, stage_of, by_mark, by_load, dropping, worked_in, halted_in}

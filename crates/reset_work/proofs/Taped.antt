@@ -11,8 +11,8 @@ use Rattle.status_report.specs.declared.Reply.TheVariants as replies
 use Rattle.step_line.proofs.Finished.{together, fewer_later}
 use Rattle.step_line.specs.Finishing.{tick_count, ticks_together, unfinished}
 use Rattle.step_line.specs.declared.Piece.{Piece}
-use Rattle.board_rules.specs.Ports.{BoardLog, IsMarkedPast, MayBeDone, link_steps, sent_in, said}
-use Rattle.board_rules.specs.Ports.PortStep.{found_mark, published, loaded}
+use Rattle.board_journal.specs.Ports.{BoardLog, IsMarkedPast, MayBeDone, link_steps, sent_in, said}
+use Rattle.board_journal.specs.Ports.PortStep.{found_mark, published, loaded}
 use Rattle.reset_work.specs.Tapes.{IsTape}
 
 pub answers : (stored left ticks done : ℕ) (l : BoardLog) (r : Reply) → IsTape stored left ticks done l → IsTape stored left ticks done (said r ∷ l)

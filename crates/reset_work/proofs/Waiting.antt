@@ -6,10 +6,10 @@ use Rattle.outside.specs.declared.On.TheVariants as on
 use Rattle.outside.specs.declared.Turn.TheVariants.{Wait}
 use Rattle.run_rules.specs.declared.State.{State}
 use Rattle.step_line.specs.Logs.{NewestFirst}
-use Rattle.board_rules.specs.Ports.{BoardLog, MayBeDone, taken_in, sent_in}
-use Rattle.board_rules.specs.Ports.PortStep.{found_mark, found_no_halt, loaded}
-use Rattle.board_rules.specs.Steps.{Journal}
-use Rattle.board_rules.specs.Steps.Step.{at_port}
+use Rattle.board_journal.specs.Ports.{BoardLog, MayBeDone, taken_in, sent_in}
+use Rattle.board_journal.specs.Ports.PortStep.{found_mark, found_no_halt, loaded}
+use Rattle.board_journal.specs.Steps.{Journal}
+use Rattle.board_journal.specs.Steps.Step.{at_port}
 use Rattle.board_epochs.specs.Epochs.{Closed, closed_log, last_line, log_behind, log_of, opening_behind}
 use Rattle.board_epochs.specs.Epochs.Epochs.{resets}
 use Rattle.board_epochs.specs.Work.{Work, Stage as WorkStage, MayWorkAt, NeedsAt, Works, stage_at, stage_of, by_mark, by_load, worked_in, halted_in}

@@ -1,7 +1,7 @@
 -- What the fields of counts say of closed epochs.
 use Rattle.std.specs.Prelude.{◌≡◌, length}
 use Rattle.step_line.specs.Logs.{NewestFirst}
-use Rattle.board_rules.specs.Ports.{taken_in}
+use Rattle.board_journal.specs.Ports.{taken_in}
 use Rattle.board_epochs.specs.Bounds.{loaded_mark}
 use Rattle.board_epochs.specs.Epochs.{Closed, closed_log, ticks_made}
 use Rattle.reset_work.specs.declared.counts.Counts.{Counts}

@@ -5,8 +5,8 @@ use Rattle.serial_ring.specs.Logs.{marked_in}
 use Rattle.serial_ring.specs.Marks.{MarkedPast}
 use Rattle.run_rules.specs.declared.State.{State}
 use Rattle.step_line.specs.Logs.{NewestFirst}
-use Rattle.board_rules.specs.Ports.{BoardLog, taken_in, known_in, link_steps, sent_in}
-use Rattle.board_rules.specs.Steps.{Journal}
+use Rattle.board_journal.specs.Ports.{BoardLog, taken_in, known_in, link_steps, sent_in}
+use Rattle.board_journal.specs.Steps.{Journal}
 use Rattle.board_epochs.specs.Epochs.{Closed}
 use Rattle.board_epochs.specs.Work.{Work}
 use Rattle.reset_work.specs.declared.reset.ResetWork.{ResetWork}

@@ -8,9 +8,9 @@ use Rattle.outside.specs.declared.On.TheVariants as on
 use Rattle.run_rules.specs.declared.State.{State}
 use Rattle.status_report.specs.Answering.{lfs_in}
 use Rattle.step_line.specs.Logs.{NewestFirst}
-use Rattle.board_rules.specs.Ports.{BoardLog, taken_in, known_in}
-use Rattle.board_rules.specs.Steps.{Step, Journal, port_log}
-use Rattle.board_rules.specs.Steps.Step.{turned}
+use Rattle.board_journal.specs.Ports.{BoardLog, taken_in, known_in}
+use Rattle.board_journal.specs.Steps.{Step, Journal, port_log}
+use Rattle.board_journal.specs.Steps.Step.{turned}
 use Rattle.board_rules.specs.Turns.{this_turn, moving, ends_turn}
 use Rattle.board_epochs.specs.Bounds.{loaded_mark}
 use Rattle.board_epochs.specs.Epochs.{Closed, AreEpochs, closed_log, last_line, log_behind, log_of, opening_behind}

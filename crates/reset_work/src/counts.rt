@@ -3,8 +3,8 @@
 ghost use Rattle.std.specs.Prelude.{◌≡◌, ℕ, ◌+◌, ◌<◌, [], ◌∷◌, length};
 ghost use Rattle.run_rules.specs.declared.State.{State};
 ghost use Rattle.step_line.specs.Logs.{NewestFirst};
-ghost use Rattle.board_rules.specs.Ports.{MayBeDone};
-ghost use Rattle.board_rules.specs.Steps.{Journal, port_log, taken_of};
+ghost use Rattle.board_journal.specs.Ports.{MayBeDone};
+ghost use Rattle.board_journal.specs.Steps.{Journal, port_log, taken_of};
 ghost use Rattle.board_epochs.specs.Epochs.{Closed, AreEpochs, closed_log, last_line, log_behind, opening_behind, ticks_made};
 ghost use Rattle.board_epochs.specs.Epochs.Epochs.{goes, resets};
 ghost use Rattle.board_epochs.specs.Resets.{MayReset};

@@ -4,15 +4,15 @@ ghost use Rattle.std.specs.Prelude.{◌≡◌, ◌↔◌, ℕ, ◌+◌, ◌<◌,
 ghost use Rattle.run_rules.specs.declared.State.{State};
 ghost use Rattle.status_report.specs.Answering.{lfs_in};
 ghost use Rattle.step_line.specs.Logs.{NewestFirst};
-ghost use Rattle.board_rules.specs.Ports.{BoardLog, taken_in, known_in};
-ghost use Rattle.board_rules.specs.Steps.{Journal, port_log};
+ghost use Rattle.board_journal.specs.Ports.{BoardLog, taken_in, known_in};
+ghost use Rattle.board_journal.specs.Steps.{Journal, port_log};
 ghost use Rattle.board_rules.specs.Turns.{this_turn};
 ghost use Rattle.board_epochs.specs.Bounds.{loaded_mark};
 ghost use Rattle.board_epochs.specs.Epochs.{Closed, closed_log, log_behind};
 ghost use Rattle.board_epochs.specs.Work.{Work, IsWorked, worked_in, halted_in};
 ghost use Rattle.reset_work.specs.Working.{IsWorking, IsBetween, WorksOn, IsAnsweredByWork, number_of};
 
-use board_rules::BoardPort;
+use board_journal::BoardPort;
 use outside::{On, Turn};
 
 /// How far the work is.

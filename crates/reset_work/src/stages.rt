@@ -6,13 +6,13 @@ ghost use Rattle.outside.specs.declared.Turn.TheVariants.{Done};
 ghost use Rattle.run_rules.specs.declared.State.{State};
 ghost use Rattle.status_report.specs.Answering.{lfs_in};
 ghost use Rattle.step_line.specs.Logs.{NewestFirst};
-ghost use Rattle.board_rules.specs.Steps.{Journal};
+ghost use Rattle.board_journal.specs.Steps.{Journal};
 ghost use Rattle.board_epochs.specs.Epochs.{Closed};
 ghost use Rattle.board_epochs.specs.Work.{Work};
 ghost use Rattle.reset_work.specs.Working.{IsBetween, WorksOn, IsAnswered};
 
 use crate::reset::{ResetWork, Stage, Words};
-use board_rules::BoardPort;
+use board_journal::BoardPort;
 use outside::{On, Turn};
 use serial_ring::ByteIn;
 use step_line::{Mark, Piece};

@@ -5,7 +5,7 @@ ghost use Rattle.reset_work.specs.Tapes.{IsTape, IsWorkedOn};
 
 use crate::{Counts, ResetWork};
 use bitflags::Flags as _;
-use board_rules::BoardPort;
+use board_journal::BoardPort;
 use code_table::{Exec, Ovr};
 use outside::{On, Turn};
 use run_rules::State;

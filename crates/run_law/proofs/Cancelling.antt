@@ -12,8 +12,8 @@ use Rattle.realtime_flags.specs.Bits.{is_flag, is_up, raised_down, takes_with, I
 use Rattle.realtime_flags.specs.Bytes.{flag_of_row, flag_of_byte}
 use Rattle.host_journal.specs.Steps.{HostLog}
 use Rattle.host_journal.specs.Steps as hosts
-use Rattle.board_rules.specs.Ports.{BoardLog, has_held_in, has_cancelled_in, has_slowed_in}
-use Rattle.board_rules.specs.Ports.PortStep.{took_exec}
+use Rattle.board_journal.specs.Ports.{BoardLog, has_held_in, has_cancelled_in, has_slowed_in}
+use Rattle.board_journal.specs.Ports.PortStep.{took_exec}
 use Rattle.run_law.specs.Flags.{is_hold, is_cancel, is_slow}
 use Rattle.run_law.specs.Taking.{raises_in, takes_in}
 use Rattle.run_law.proofs.Taking.{IsByteOf, flag_was_raised, held_by_word, hold_bytes, hold_flag, hold_taken, taken_was_down}

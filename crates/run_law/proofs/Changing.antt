@@ -13,8 +13,8 @@ use Rattle.host_journal.specs.Jobs.{served_in}
 use Rattle.stream_host.specs.Ran.{AreRaised}
 use Rattle.host_journal.specs.Steps.{HostLog}
 use Rattle.host_journal.specs.Steps as hosts
-use Rattle.board_rules.specs.Ports.{BoardLog}
-use Rattle.board_rules.specs.Ports.PortStep.{took_exec, took_ovr}
+use Rattle.board_journal.specs.Ports.{BoardLog}
+use Rattle.board_journal.specs.Ports.PortStep.{took_exec, took_ovr}
 use Rattle.run_law.specs.Changes.{raises_change, is_change_at, IsAskedIn, IsAmong, IsChange, AreChanges, words_in}
 use Rattle.run_law.specs.Taking.{raises_in, takes_in}
 use Rattle.run_law.proofs.Flagging.{scanned_where_raised}

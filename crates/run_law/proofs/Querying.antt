@@ -11,8 +11,8 @@ use Rattle.host_journal.specs.Steps.{HostLog}
 use Rattle.host_journal.specs.Steps as hosts
 use Rattle.host_journal.specs.Steps.PortStep.{raised}
 use Rattle.stream_host.proofs.Queries.{few_queries}
-use Rattle.board_rules.specs.Ports.{BoardLog, reports_in}
-use Rattle.board_rules.proofs.Asking.{reports_are}
+use Rattle.board_journal.specs.Ports.{BoardLog, reports_in}
+use Rattle.board_journal.proofs.Asking.{reports_are}
 use Rattle.run_law.specs.Taking.{raises_in, takes_in}
 
 one_query : (n : ℕ) (bytes : List ℕ) (t : Bool) → n ≡ count_by is_query bytes → cond t (n + 1) n ≡ count_by is_query bytes + cond t 1 0

@@ -12,8 +12,8 @@ use Rattle.realtime_flags.specs.Bytes.{flag_of_row, flag_of_byte}
 use Rattle.host_journal.specs.Jobs.{is_reset}
 use Rattle.host_journal.specs.Steps.{HostLog}
 use Rattle.host_journal.specs.Steps as hosts
-use Rattle.board_rules.specs.Ports.{BoardLog, asks_reset, has_reset_in}
-use Rattle.board_rules.specs.Ports.PortStep.{took_exec}
+use Rattle.board_journal.specs.Ports.{BoardLog, asks_reset, has_reset_in}
+use Rattle.board_journal.specs.Ports.PortStep.{took_exec}
 use Rattle.run_law.specs.Flags.{is_hold, is_change, AreTaken, words_taken}
 use Rattle.run_law.specs.Taking.{raises_in, takes_in}
 use Rattle.run_law.proofs.Querying.{asked_few}

@@ -23,8 +23,8 @@ use Rattle.realtime_flags.proofs.Bits.{same_flag}
 use Rattle.host_journal.specs.Steps.{HostLog}
 use Rattle.host_journal.specs.Steps as hosts
 use Rattle.host_journal.specs.Steps.PortStep.{raised}
-use Rattle.board_rules.specs.Ports.{BoardLog, has_changes, has_held_in, has_changed_in}
-use Rattle.board_rules.specs.Ports.PortStep.{took_exec, took_ovr}
+use Rattle.board_journal.specs.Ports.{BoardLog, has_changes, has_held_in, has_changed_in}
+use Rattle.board_journal.specs.Ports.PortStep.{took_exec, took_ovr}
 use Rattle.run_law.specs.Flags.{is_hold, is_override, is_change}
 use Rattle.run_law.specs.Taking.{raised_to, raises_in, takes_in}
 

@@ -14,8 +14,8 @@ use Rattle.realtime_flags.specs.Bits.{is_flag}
 use Rattle.realtime_flags.specs.Bytes.{flag_of_byte}
 use Rattle.realtime_flags.specs.declared.words.Flag.{Flag}
 use Rattle.realtime_flags.specs.declared.words.Flag.TheVariants as flags
-use Rattle.board_rules.specs.Ports.{PortStep, BoardLog}
-use Rattle.board_rules.specs.Ports.PortStep.{took_ovr}
+use Rattle.board_journal.specs.Ports.{PortStep, BoardLog}
+use Rattle.board_journal.specs.Ports.PortStep.{took_ovr}
 
 -- a byte raises the flag at this place of the word of changes
 abbrev pub is_change_at : ℕ → Option Flag → Bool

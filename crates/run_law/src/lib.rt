@@ -6,7 +6,7 @@ ghost use Rattle.outside.specs.Causes.{SinkState};
 ghost use Rattle.step_record.specs.Taking.{Log, records};
 ghost use Rattle.step_record.specs.declared.forms.Form.{Form};
 ghost use Rattle.step_record.specs.Recording.{Recording, RecorderFits, Rests};
-ghost use Rattle.board_rules.specs.Ports.{BoardLog};
+ghost use Rattle.board_journal.specs.Ports.{BoardLog};
 ghost use Rattle.realtime_flags.specs.Bits.{IsBalanced};
 ghost use Rattle.host_journal.specs.Steps.{HostLog, bytes_raised_in};
 ghost use Rattle.run_law.specs.Changes.{AreAskedIn, words_in};

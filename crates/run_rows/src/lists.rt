@@ -5,7 +5,7 @@ ghost use Rattle.step_line.specs.Records.{IsRecord};
 ghost use Rattle.run_core.specs.Joining.{Joined};
 
 use bitflags::Flags;
-use board_rules::BoardPort;
+use board_journal::BoardPort;
 use pulse_engine::{PulsePort, TickOut};
 use realtime_flags::Raised;
 use run_core::{Lists, RECEIVE_ROOM, Records};

@@ -14,7 +14,7 @@ use Rattle.motion_ring.specs.Rule.{PiecesAreTied}
 use Rattle.motion_ring.specs.Sides.{published_in, some_stops, some_halts, unless_none, pieces_at}
 use Rattle.pulse_engine.specs.Logs.{PieceLog, RecordLog}
 use Rattle.motion_ports.specs.Ports.{HasGot, numbers_of}
-use Rattle.board_rules.specs.Ports.{sent_in}
+use Rattle.board_journal.specs.Ports.{sent_in}
 use Rattle.board_epochs.specs.Epochs.{Epochs, log_of}
 use Rattle.epoch_records.specs.Publishing.{but_none}
 use Rattle.epoch_runs.specs.Epochs.{halts_seen}

@@ -1,7 +1,7 @@
 use Rattle.std.proofs.Common.{◌∷◌, true, refl, ap}
 use Rattle.outside.specs.declared.Actor.{Actor}
 use Rattle.outside.specs.declared.Turn.TheVariants.{Did}
-use Rattle.board_rules.specs.Steps.Step.{turned}
+use Rattle.board_journal.specs.Steps.Step.{turned}
 use Rattle.actor_turns.specs.Pacing.{after_turn}
 use Rattle.paced_law.proofs.Causes.{did_not, five_stand}
 use Rattle.paced_law.proofs.lines_come_before_the_motion.Goals as goal

@@ -1,5 +1,5 @@
 use Rattle.std.proofs.Common.{refl}
-use Rattle.board_rules.specs.Steps.{motion_of}
+use Rattle.board_journal.specs.Steps.{motion_of}
 use Rattle.board_epochs.proofs.Opening.{blocks_behind, opens, opens_on, placed, locks}
 use Rattle.board_epochs.proofs.laws.epochs_open_where_they_stand.Goals as goal
 

@@ -1,7 +1,7 @@
 use Rattle.std.proofs.Common.{arith}
 use Rattle.planner_runs.specs.Runs.{fresh_plan}
 use Rattle.planner_runs.proofs.Runs.{few_blocks}
-use Rattle.board_rules.specs.Steps.{actions_of, plan_of, planned_of}
+use Rattle.board_journal.specs.Steps.{actions_of, plan_of, planned_of}
 use Rattle.board_rules.proofs.Keeping.{run_is, disturbed_is, overrides_are, held_by_word, cancelled_by_word, hand_is}
 use Rattle.board_rules.proofs.Motions.{slows_for}
 use Rattle.board_rules.proofs.Slowing.{slowed_is}

@@ -1,4 +1,4 @@
-use Rattle.board_rules.specs.Steps.{port_log}
+use Rattle.board_journal.specs.Steps.{port_log}
 use Rattle.board_rules.proofs.Limits.{may_publish_next}
 use Rattle.board_rules.proofs.Unstopped.{journals_never_stop, sent_alone, done_within}
 use Rattle.board_rules.proofs.laws.journals_tell_of_no_stop.Goals as goal

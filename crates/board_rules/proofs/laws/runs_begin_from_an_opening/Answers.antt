@@ -1,8 +1,8 @@
 use Rattle.std.proofs.Common.{true, refl, sym, ap, arith}
 use Rattle.run_rules.specs.Outcomes.{start}
 use Rattle.run_rules.proofs.Locking.{free_follows}
-use Rattle.board_rules.specs.Openings.{first_opening}
-use Rattle.board_rules.specs.Steps.{before_of, lines_of}
+use Rattle.board_journal.specs.Openings.{first_opening}
+use Rattle.board_journal.specs.Steps.{before_of, lines_of}
 use Rattle.board_rules.specs.Cuts.{passed_of}
 use Rattle.board_rules.proofs.Lines.{lines_follow}
 use Rattle.modal_state.specs.declared.Parser.{Parser}

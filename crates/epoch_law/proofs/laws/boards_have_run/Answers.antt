@@ -1,4 +1,4 @@
-use Rattle.board_rules.specs.Steps.{known_of}
+use Rattle.board_journal.specs.Steps.{known_of}
 use Rattle.epoch_courses.proofs.Banner.{finished_begins}
 use Rattle.epoch_law.proofs.Boarding.{board_ran}
 use Rattle.epoch_law.proofs.laws.boards_have_run.Goals as goal

@@ -1,6 +1,6 @@
 use Rattle.std.proofs.Common.{List, sym, subst}
 use Rattle.serial_ring.specs.declared.view.LinkStep.{LinkStep}
-use Rattle.board_rules.specs.Ports.{has_closed_in}
+use Rattle.board_journal.specs.Ports.{has_closed_in}
 use Rattle.host_journal.specs.Ports.{PortsAgree}
 use Rattle.link_ports.proofs.Agreeing.{ports_agree}
 use Rattle.link_ports.proofs.laws.ports_of_a_link_agree.Goals as goal

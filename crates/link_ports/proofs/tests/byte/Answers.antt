@@ -1,5 +1,5 @@
 use Rattle.std.proofs.Common.{◌∷◌, refl}
-use Rattle.board_rules.specs.Ports.PortStep.{took, found_empty, found_closed}
+use Rattle.board_journal.specs.Ports.PortStep.{took, found_empty, found_closed}
 use Rattle.link_ports.proofs.Standing.{by_byte, line_more, byte_more}
 use Rattle.link_ports.proofs.tests.byte.Goals as goal
 

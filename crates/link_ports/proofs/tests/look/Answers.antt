@@ -1,5 +1,5 @@
 use Rattle.std.proofs.Common.{◌∷◌, refl, arith}
-use Rattle.board_rules.specs.Ports.PortStep.{found_no_halt, found_halt}
+use Rattle.board_journal.specs.Ports.PortStep.{found_no_halt, found_halt}
 use Rattle.link_ports.proofs.Standing.{some_then, none_then}
 use Rattle.link_ports.proofs.tests.look.Goals as goal
 

@@ -3,8 +3,8 @@ use Rattle.std.proofs.lemmas.Result.{on_ok_weaker, on_err_weaker}
 use Rattle.step_line.specs.declared.Piece.TheVariants.{Mark}
 use Rattle.step_line.specs.declared.Mark.TheVariants.{Dwell}
 use Rattle.step_line.proofs.Finished.{together}
-use Rattle.board_rules.specs.Ports.{sent_in}
-use Rattle.board_rules.specs.Ports.PortStep.{published, no_piece_room}
+use Rattle.board_journal.specs.Ports.{sent_in}
+use Rattle.board_journal.specs.Ports.PortStep.{published, no_piece_room}
 use Rattle.link_ports.proofs.tests.publish.Goals as goal
 
 pub publish-requires : goal.publish-requires

@@ -2,8 +2,8 @@ use Rattle.std.proofs.Common.{◌+◌, ◌∷◌, inr, refl, arith}
 use Rattle.step_line.specs.declared.Piece.TheVariants.{Mark}
 use Rattle.step_line.specs.declared.Mark.TheVariants.{Dwell}
 use Rattle.step_line.proofs.Finished.{together}
-use Rattle.board_rules.specs.Ports.{sent_in}
-use Rattle.board_rules.specs.Ports.PortStep.{published, stored_stop}
+use Rattle.board_journal.specs.Ports.{sent_in}
+use Rattle.board_journal.specs.Ports.PortStep.{published, stored_stop}
 use Rattle.link_ports.proofs.tests.publish_and_stop.Goals as goal
 
 pub publish-requires : goal.publish-requires

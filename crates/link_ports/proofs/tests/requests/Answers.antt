@@ -1,5 +1,5 @@
 use Rattle.std.proofs.Common.{◌∷◌, refl}
-use Rattle.board_rules.specs.Ports.PortStep.{took_exec}
+use Rattle.board_journal.specs.Ports.PortStep.{took_exec}
 use Rattle.link_ports.proofs.tests.requests.Goals as goal
 
 pub returns : goal.returns

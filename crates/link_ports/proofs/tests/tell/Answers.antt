@@ -1,8 +1,8 @@
 use Rattle.std.proofs.Common.{◌+◌, ◌∷◌, refl, arith}
 use Rattle.std.proofs.lemmas.Result.{on_ok_weaker, on_err_weaker}
-use Rattle.board_rules.specs.Ports.{said}
-use Rattle.board_rules.specs.Ports.PortStep.{no_reply_room}
-use Rattle.board_rules.proofs.LinkSteps.{same_answered}
+use Rattle.board_journal.specs.Ports.{said}
+use Rattle.board_journal.specs.Ports.PortStep.{no_reply_room}
+use Rattle.board_journal.proofs.LinkSteps.{same_answered}
 use Rattle.link_ports.proofs.Standing.{other_more, reply_more}
 use Rattle.link_ports.proofs.tests.tell.Goals as goal
 

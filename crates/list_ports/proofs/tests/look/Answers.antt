@@ -1,5 +1,5 @@
 use Rattle.std.proofs.Common.{◌∷◌, arith}
-use Rattle.board_rules.specs.Ports.PortStep.{found_no_halt}
+use Rattle.board_journal.specs.Ports.PortStep.{found_no_halt}
 use Rattle.list_ports.proofs.Standing.{some_then, none_then, found_then}
 use Rattle.list_ports.proofs.tests.look.Goals as goal
 

@@ -1,5 +1,5 @@
 use Rattle.std.proofs.Common.{◌∷◌, arith}
-use Rattle.board_rules.specs.Ports.PortStep.{published}
+use Rattle.board_journal.specs.Ports.PortStep.{published}
 use Rattle.list_ports.proofs.Standing.{mark, may_publish, may_stop, stopped_then}
 use Rattle.list_ports.proofs.tests.publish_and_stop.Goals as goal
 

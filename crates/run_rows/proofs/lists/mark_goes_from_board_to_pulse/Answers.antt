@@ -3,8 +3,8 @@ use Rattle.step_line.specs.declared.Piece.{Piece}
 use Rattle.step_line.specs.declared.Piece.TheVariants as pieces
 use Rattle.step_line.specs.declared.Mark.TheVariants.{Dwell}
 use Rattle.step_line.specs.Pieces.{ticks_of}
-use Rattle.board_rules.specs.Ports.{MayPublish}
-use Rattle.board_rules.specs.Ports.PortStep.{published}
+use Rattle.board_journal.specs.Ports.{MayPublish}
+use Rattle.board_journal.specs.Ports.PortStep.{published}
 use Rattle.pulse_engine.specs.Logs.PieceEvent.{got}
 use Rattle.run_rows.proofs.lists.mark_goes_from_board_to_pulse.Goals as goal
 

@@ -3,7 +3,7 @@ use Rattle.realtime_flags.specs.Bits.{IsBalanced}
 use Rattle.realtime_flags.specs.Ends.{raises_by}
 use Rattle.stream_host.specs.Ran.{end_of}
 use Rattle.host_journal.specs.Steps.{port_log, is_attended}
-use Rattle.board_rules.specs.Takes.{takes_in}
+use Rattle.board_journal.specs.Takes.{takes_in}
 use Rattle.board_epochs.specs.Epochs.{log_of}
 use Rattle.run_law.specs.Devices.{sinks}
 use Rattle.motion_pulse.specs.Pulses.{seen_of}

@@ -1,7 +1,7 @@
 use Rattle.std.proofs.Common.{arith, rules, [], ◌∷◌, ap, sym, ◌∙◌}
 use Rattle.planner_runs.specs.declared.Action.TheVariants.{Add}
-use Rattle.board_rules.specs.Steps.{hand_of, given_of, motion_of, plan_of}
-use Rattle.board_rules.specs.Steps.Step.{did}
+use Rattle.board_journal.specs.Steps.{hand_of, given_of, motion_of, plan_of}
+use Rattle.board_journal.specs.Steps.Step.{did}
 use Rattle.board_turns.specs.declared.board.Board.{Board}
 use Rattle.board_turns.proofs.Steps.{in_range, same_overrides, is_next, added_move}
 use Rattle.board_turns.proofs.Adding.{adds_one, has_added, none_fits_full, none_fits_other, has_room_now}

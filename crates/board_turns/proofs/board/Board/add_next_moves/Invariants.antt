@@ -1,6 +1,6 @@
 use Rattle.std.proofs.Common.{◌≡◌, length}
-use Rattle.board_rules.specs.Openings.{Opening}
-use Rattle.board_rules.specs.Steps.{Journal}
+use Rattle.board_journal.specs.Openings.{Opening}
+use Rattle.board_journal.specs.Steps.{Journal}
 use Rattle.board_turns.specs.Boards.{Keeps}
 use Rattle.board_turns.proofs.Adding.{Adds}
 use Rattle.board_turns.proofs.board.Board.add_next_moves.Given as goal

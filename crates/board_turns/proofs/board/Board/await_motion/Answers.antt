@@ -1,9 +1,9 @@
 use Rattle.std.proofs.Common.{arith, rules, ◌∷◌, sym, refl, ◌∙◌}
 use Rattle.feed_hold.specs.declared.Motion.TheVariants as motions
 use Rattle.feed_hold.specs.Motions.Call.{on_drained}
-use Rattle.board_rules.specs.Ports.PortStep.{loaded}
-use Rattle.board_rules.specs.Steps.{hand_of, given_of, plan_of, motion_of}
-use Rattle.board_rules.specs.Steps.Step.{at_port, became}
+use Rattle.board_journal.specs.Ports.PortStep.{loaded}
+use Rattle.board_journal.specs.Steps.{hand_of, given_of, plan_of, motion_of}
+use Rattle.board_journal.specs.Steps.Step.{at_port, became}
 use Rattle.board_turns.proofs.Standing.{may_drain, hand_none, blocks_are, has_piece_by_hand, has_piece_by_blocks, over, over_passes, all_done, done_all, waits_for_motion}
 use Rattle.board_turns.proofs.board.Board.await_motion.Goals.{then-is_some-via-then-is_some, then-is_some-via-else-is_some+then-has_blocks}
 use Rattle.board_turns.proofs.board.Board.await_motion.Goals as goal

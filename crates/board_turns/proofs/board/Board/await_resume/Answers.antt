@@ -1,5 +1,5 @@
 use Rattle.std.proofs.Common.{arith, sym, ap, ◌∙◌, subst}
-use Rattle.board_rules.specs.Steps.{Journal, port_log}
+use Rattle.board_journal.specs.Steps.{Journal, port_log}
 use Rattle.board_turns.specs.declared.board.Board.{Board}
 use Rattle.board_turns.specs.Boards.{Keeps}
 use Rattle.board_turns.specs.Turning.{obeyed, flags_behind}

@@ -1,5 +1,5 @@
 use Rattle.std.proofs.Common.{arith, ◌∷◌, sym, ◌∙◌}
-use Rattle.board_rules.specs.Steps.Step.{closing}
+use Rattle.board_journal.specs.Steps.Step.{closing}
 use Rattle.board_turns.proofs.Steps.{closes}
 use Rattle.board_turns.proofs.Nexts.{none_waiting, may_close, closes_worked}
 use Rattle.board_turns.proofs.board.Board.close.Goals as goal

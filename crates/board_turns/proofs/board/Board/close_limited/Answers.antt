@@ -1,5 +1,5 @@
 use Rattle.std.proofs.Common.{◌∷◌, refl, sym, ◌∙◌}
-use Rattle.board_rules.specs.Steps.Step.{closing}
+use Rattle.board_journal.specs.Steps.Step.{closing}
 use Rattle.board_turns.proofs.Limiting.{may_close, closes_limited}
 use Rattle.board_turns.proofs.Resetting.{unreset_limited}
 use Rattle.board_turns.proofs.Steps.{closes}

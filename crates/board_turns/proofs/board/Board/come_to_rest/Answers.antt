@@ -1,5 +1,5 @@
 use Rattle.std.proofs.Common.{arith, sym, ◌∙◌}
-use Rattle.board_rules.specs.Steps.{hand_of, given_of, plan_of, motion_of}
+use Rattle.board_journal.specs.Steps.{hand_of, given_of, plan_of, motion_of}
 use Rattle.board_turns.proofs.Stopping.{was_holding, was_stopping, comes_held, comes_locked, comes_over, comes_cut, is_uncut}
 use Rattle.board_turns.proofs.board.Board.come_to_rest.Goals as goal
 

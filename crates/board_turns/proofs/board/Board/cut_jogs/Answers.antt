@@ -1,7 +1,7 @@
 use Rattle.std.proofs.Common.{◌-◌, [], ap, ◌∙◌, sym, arith, subst}
 use Rattle.flight.specs.Flights.{Flies}
 use Rattle.modal_state.specs.Modes.{rebased}
-use Rattle.board_rules.specs.Steps.{published_of, known_of, given_of, plan_of, motion_of}
+use Rattle.board_journal.specs.Steps.{published_of, known_of, given_of, plan_of, motion_of}
 use Rattle.board_turns.specs.declared.board.Board.{Board}
 use Rattle.board_machine.specs.Machines.{Runs}
 use Rattle.line_interpreter.specs.Interpreting.{Interpreting}

@@ -2,7 +2,7 @@ use Rattle.board_turns.proofs.Ends.{may_run}
 use Rattle.board_turns.proofs.Nexts.{finish_next, lets_lines}
 use Rattle.run_rules.specs.Work.Task.{ask, pause}
 use Rattle.step_line.specs.Asking.Asked.{a_move}
-use Rattle.board_rules.specs.Steps.{left_of}
+use Rattle.board_journal.specs.Steps.{left_of}
 use Rattle.board_rules.specs.Turns.{awaits_motion}
 use Rattle.board_rules.proofs.Facts.{none_awaited}
 use Rattle.std.proofs.Common.{arith, rules, ap, sym, subst}

@@ -1,4 +1,4 @@
-use Rattle.board_rules.specs.Steps.{hand_of, given_of, plan_of, motion_of}
+use Rattle.board_journal.specs.Steps.{hand_of, given_of, plan_of, motion_of}
 use Rattle.board_turns.proofs.Limiting.{halts_now}
 use Rattle.board_turns.proofs.board.Board.drop_plan.Goals as goal
 

@@ -1,7 +1,7 @@
 use Rattle.std.proofs.Common.{arith, rules, ◌≡◌, false, sym, ap, ◌∙◌}
 use Rattle.run_rules.specs.Work.Task.{finish, halt}
 use Rattle.board_turns.proofs.Stages.{limited_finish}
-use Rattle.board_rules.specs.Steps.{left_of}
+use Rattle.board_journal.specs.Steps.{left_of}
 use Rattle.board_rules.specs.Turns.{awaits_motion}
 use Rattle.board_rules.proofs.Facts.{none_awaited}
 use Rattle.board_turns.proofs.Ends.{may_run}

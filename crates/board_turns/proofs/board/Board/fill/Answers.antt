@@ -1,5 +1,5 @@
 use Rattle.std.proofs.Common.{sym, ◌∙◌}
-use Rattle.board_rules.specs.Steps.{hand_of, given_of, motion_of, plan_of}
+use Rattle.board_journal.specs.Steps.{hand_of, given_of, motion_of, plan_of}
 use Rattle.board_turns.specs.Turning.{starting}
 use Rattle.board_turns.proofs.Steps.{started}
 use Rattle.board_turns.proofs.Adding.{none_waits_now, may_start, filled_added, filled_started}

@@ -1,7 +1,7 @@
 use Rattle.std.proofs.Common.{arith, rules, ◌∷◌, subst, inl}
 use Rattle.step_line.specs.declared.Piece.TheVariants as pieces
-use Rattle.board_rules.specs.Steps.{hand_of, plan_of, motion_of, given_of}
-use Rattle.board_rules.specs.Steps.Step.{made_end}
+use Rattle.board_journal.specs.Steps.{hand_of, plan_of, motion_of, given_of}
+use Rattle.board_journal.specs.Steps.Step.{made_end}
 use Rattle.board_machine.specs.Machines.{Runs}
 use Rattle.board_turns.proofs.Steps.{ended}
 use Rattle.board_rules.proofs.Lasts.{closes_at_end}

@@ -1,5 +1,5 @@
 use Rattle.std.proofs.Common.{rules, [], inl, refl, sym, ap, ◌∙◌, arith}
-use Rattle.board_rules.specs.Steps.{left_of}
+use Rattle.board_journal.specs.Steps.{left_of}
 use Rattle.board_rules.proofs.Facts.{none_asked, uncounted}
 use Rattle.step_line.specs.Asking.Asked.{a_move}
 use Rattle.board_turns.specs.declared.board.Board.{Board}

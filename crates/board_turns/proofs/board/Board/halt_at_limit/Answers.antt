@@ -1,11 +1,11 @@
 use Rattle.std.proofs.Common.{arith, rules, ◌∷◌, ap, sym, ◌∙◌, refl, subst}
-use Rattle.board_rules.specs.Ports.PortStep.{loaded}
-use Rattle.board_rules.specs.Steps.Step.{at_port}
+use Rattle.board_journal.specs.Ports.PortStep.{loaded}
+use Rattle.board_journal.specs.Steps.Step.{at_port}
 use Rattle.board_turns.specs.declared.board.Board.{Board}
 use Rattle.board_turns.specs.declared.board.Flags.{Flags}
 use Rattle.board_turns.specs.Turning.{HasPiece, WorksOn}
 use Rattle.board_turns.proofs.Stages.{halting_left}
-use Rattle.board_rules.specs.Steps.{left_of}
+use Rattle.board_journal.specs.Steps.{left_of}
 use Rattle.board_rules.specs.Turns.{awaits_motion}
 use Rattle.board_rules.proofs.Facts.{none_awaited}
 use Rattle.board_turns.proofs.Ends.{may_run, works_passed}

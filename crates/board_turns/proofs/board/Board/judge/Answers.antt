@@ -4,8 +4,8 @@ use Rattle.line_interpreter.specs.Lefts.{IsTodo}
 use Rattle.line_interpreter.specs.declared.tasks.Todo.{Todo}
 use Rattle.line_interpreter.specs.declared.tasks.Todo.TheVariants as todo
 use Rattle.feed_hold.specs.Motions.Call.{on_limit, on_unlock}
-use Rattle.board_rules.specs.Steps.{hand_of, given_of, plan_of, motion_of}
-use Rattle.board_rules.specs.Steps.Step.{began, became}
+use Rattle.board_journal.specs.Steps.{hand_of, given_of, plan_of, motion_of}
+use Rattle.board_journal.specs.Steps.Step.{began, became}
 use Rattle.board_machine.specs.Machines.{limit_motion}
 use Rattle.board_turns.proofs.Begins.{begun, begun_limited, begun_unlocked, machine_judged, may_limit}
 use Rattle.board_turns.proofs.board.Board.judge.Goals as goal

@@ -6,7 +6,7 @@ use Rattle.run_rules.specs.Outcomes.{Before, jogged_behind}
 use Rattle.run_rules.specs.Finding.{Found}
 use Rattle.line_interpreter.specs.Since.{Since, before_line}
 use Rattle.line_interpreter.specs.Interpreting.{stands_before}
-use Rattle.board_rules.specs.Steps.{open_of, before_of, motion_of}
+use Rattle.board_journal.specs.Steps.{open_of, before_of, motion_of}
 use Rattle.board_rules.specs.Turns.{machine_in}
 use Rattle.board_rules.proofs.Limits.{lines_in_bytes}
 use Rattle.board_rules.proofs.Facts.{number_is}

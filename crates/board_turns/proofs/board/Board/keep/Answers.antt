@@ -1,8 +1,8 @@
 use Rattle.std.proofs.Common.{[], ◌∷◌, ◌+◌, ◌^◌, ◌≤◌, ◌<◌, length, length-append, ◌≡◌, ℕ, Bool, false, nat_eq, refl, arith, subst}
 use Rattle.std.proofs.lemmas.Bool.Decides.{nat_tests}
-use Rattle.board_rules.specs.Ports.PortStep.{took}
-use Rattle.board_rules.specs.Steps.{Journal, taken_of, open_of, whole_of}
-use Rattle.board_rules.specs.Steps.Step.{at_port}
+use Rattle.board_journal.specs.Ports.PortStep.{took}
+use Rattle.board_journal.specs.Steps.{Journal, taken_of, open_of, whole_of}
+use Rattle.board_journal.specs.Steps.Step.{at_port}
 use Rattle.board_lines.specs.Inputs.{Reads}
 use Rattle.board_turns.proofs.board.Board.keep.Goals as goal
 

@@ -1,5 +1,5 @@
 use Rattle.std.proofs.Common.{arith, sym, ◌∙◌}
-use Rattle.board_rules.specs.Steps.{hand_of, given_of, plan_of, motion_of}
+use Rattle.board_journal.specs.Steps.{hand_of, given_of, plan_of, motion_of}
 use Rattle.board_turns.proofs.Limiting.{locked_before, was_slowing, locks_now}
 use Rattle.board_turns.proofs.board.Board.lock.Goals as goal
 

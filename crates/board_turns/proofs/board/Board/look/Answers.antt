@@ -1,9 +1,9 @@
 use Rattle.std.proofs.Common.{arith, ◌∷◌, not, inr, sym, ap, ◌∙◌}
 use Rattle.feed_hold.specs.declared.Motion.TheVariants as motions
 use Rattle.feed_hold.specs.Motions.Call.{on_drained}
-use Rattle.board_rules.specs.Ports.PortStep.{loaded}
-use Rattle.board_rules.specs.Steps.{hand_of, given_of, plan_of, motion_of}
-use Rattle.board_rules.specs.Steps.Step.{at_port, became}
+use Rattle.board_journal.specs.Ports.PortStep.{loaded}
+use Rattle.board_journal.specs.Steps.{hand_of, given_of, plan_of, motion_of}
+use Rattle.board_journal.specs.Steps.Step.{at_port, became}
 use Rattle.board_rules.specs.Turns.{is_going}
 use Rattle.board_turns.proofs.Standing.{going_begins, hand_none, hand_some, blocks_are, over, looked_over, looked_only, blocks_undrained}
 use Rattle.board_turns.proofs.PortSteps.{looked}

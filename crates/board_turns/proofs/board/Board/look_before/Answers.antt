@@ -1,6 +1,6 @@
 use Rattle.std.proofs.Common.{◌∷◌, inl, inr, refl}
-use Rattle.board_rules.specs.Ports.PortStep.{loaded}
-use Rattle.board_rules.specs.Steps.Step.{at_port}
+use Rattle.board_journal.specs.Ports.PortStep.{loaded}
+use Rattle.board_journal.specs.Steps.Step.{at_port}
 use Rattle.board_turns.proofs.Known.{in_hand}
 use Rattle.board_turns.proofs.Flying.{room_learned}
 use Rattle.board_turns.proofs.Settling.{looked_learned}

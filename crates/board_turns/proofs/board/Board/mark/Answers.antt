@@ -3,9 +3,9 @@ use Rattle.run_rules.specs.Work.Task.{ask}
 use Rattle.step_line.specs.Asking.Asked.{a_mark}
 use Rattle.step_line.specs.declared.Piece.TheVariants as pieces
 use Rattle.planner_runs.specs.declared.Action.TheVariants.{Mark}
-use Rattle.board_rules.specs.Steps.{left_of, hand_of, plan_of, motion_of, given_of}
+use Rattle.board_journal.specs.Steps.{left_of, hand_of, plan_of, motion_of, given_of}
 use Rattle.board_rules.proofs.Facts.{none_asked}
-use Rattle.board_rules.specs.Steps.Step.{did}
+use Rattle.board_journal.specs.Steps.Step.{did}
 use Rattle.board_machine.specs.Machines.{Runs}
 use Rattle.board_rules.proofs.Marks.{mark_at_rest}
 use Rattle.board_turns.proofs.Standing.{hand_none, hand_some}

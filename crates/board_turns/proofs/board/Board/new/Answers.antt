@@ -1,6 +1,6 @@
 use Rattle.std.proofs.Common.{◌-◌, sym, ap, refl, arith}
 use Rattle.modal_state.specs.declared.Parser.{Parser}
-use Rattle.board_rules.specs.Openings.{IsPlanSize, first_opening}
+use Rattle.board_journal.specs.Openings.{IsPlanSize, first_opening}
 use Rattle.board_rules.specs.Conduct.{MayOpen}
 use Rattle.board_turns.proofs.Opening.{opens_epoch}
 use Rattle.board_turns.proofs.board.Board.new.Goals as goal

@@ -1,5 +1,5 @@
 use Rattle.std.proofs.Common.{arith, rules, refl, ap, subst, false}
-use Rattle.board_rules.specs.Steps.{Journal}
+use Rattle.board_journal.specs.Steps.{Journal}
 use Rattle.board_turns.specs.declared.board.Board.{Board}
 use Rattle.board_turns.specs.declared.board.Flags.TheVariants as words
 use Rattle.board_turns.specs.Boards.{TakesFlags, AwaitsWords, HasChanges}

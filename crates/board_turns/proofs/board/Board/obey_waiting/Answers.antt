@@ -1,4 +1,4 @@
-use Rattle.board_rules.specs.Steps.{hand_of, given_of, plan_of, motion_of}
+use Rattle.board_journal.specs.Steps.{hand_of, given_of, plan_of, motion_of}
 use Rattle.board_turns.proofs.Telling.{obeys_waiting}
 use Rattle.board_turns.proofs.board.Board.obey_waiting.Goals as goal
 

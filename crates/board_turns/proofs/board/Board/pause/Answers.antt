@@ -1,6 +1,6 @@
 use Rattle.std.proofs.Common.{arith, ◌∷◌, ap, ◌∙◌}
-use Rattle.board_rules.specs.Steps.{hand_of, given_of, plan_of, motion_of}
-use Rattle.board_rules.specs.Steps.Step.{paused}
+use Rattle.board_journal.specs.Steps.{hand_of, given_of, plan_of, motion_of}
+use Rattle.board_journal.specs.Steps.Step.{paused}
 use Rattle.board_turns.specs.declared.board.Board.{Board}
 use Rattle.board_turns.proofs.Steps.{held_for_pause}
 use Rattle.board_turns.proofs.Pausing.{paused_filled}

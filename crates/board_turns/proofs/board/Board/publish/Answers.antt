@@ -1,7 +1,7 @@
 use Rattle.std.proofs.Common.{arith, ◌∷◌, refl, ap, ◌∙◌, subst}
-use Rattle.board_rules.specs.Steps.{published_of, plan_of, motion_of, given_of}
-use Rattle.board_rules.specs.Ports.PortStep.{published, no_piece_room}
-use Rattle.board_rules.specs.Steps.Step.{at_port}
+use Rattle.board_journal.specs.Steps.{published_of, plan_of, motion_of, given_of}
+use Rattle.board_journal.specs.Ports.PortStep.{published, no_piece_room}
+use Rattle.board_journal.specs.Steps.Step.{at_port}
 use Rattle.board_machine.specs.Machines.{Runs}
 use Rattle.board_turns.specs.declared.board.Board.{Board}
 use Rattle.board_turns.proofs.Steps.{in_hand, some_in_hand, may_publish, may_publish_now}

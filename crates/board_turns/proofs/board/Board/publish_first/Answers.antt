@@ -1,6 +1,6 @@
 use Rattle.std.proofs.Common.{arith, ◌≡◌, false, [], refl, subst, ap, ◌∙◌}
 use Rattle.board_turns.specs.declared.board.Board.{Board}
-use Rattle.board_rules.specs.Steps.{Journal}
+use Rattle.board_journal.specs.Steps.{Journal}
 use Rattle.board_turns.specs.declared.board.Flags.{Flags}
 use Rattle.board_turns.specs.declared.board.Flags.TheVariants as words
 use Rattle.board_turns.specs.Boards.{Rounds, IsFree, TakesFlags}

@@ -1,8 +1,8 @@
 use Rattle.std.proofs.Common.{arith, rules, [], ◌∷◌, ◌++◌, ◌∙◌, sym, ap}
 use Rattle.planner_runs.specs.declared.Action.TheVariants.{Take}
 use Rattle.step_line.specs.declared.Piece.TheVariants as pieces
-use Rattle.board_rules.specs.Steps.{motion_of}
-use Rattle.board_rules.specs.Steps.Step.{did}
+use Rattle.board_journal.specs.Steps.{motion_of}
+use Rattle.board_journal.specs.Steps.Step.{did}
 use Rattle.board_machine.specs.Machines.{mode_in}
 use Rattle.board_turns.proofs.Steps.{few_ticks, none_by_test, took_next, one_in_hand, hand_of_one}
 use Rattle.board_rules.proofs.Tries.{tried, tried_behind}

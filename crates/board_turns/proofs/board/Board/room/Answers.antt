@@ -1,7 +1,7 @@
 use Rattle.std.proofs.Common.{◌∷◌}
-use Rattle.board_rules.specs.Ports.PortStep.{found_free}
-use Rattle.board_rules.specs.Steps.{port_log}
-use Rattle.board_rules.specs.Steps.Step.{at_port}
+use Rattle.board_journal.specs.Ports.PortStep.{found_free}
+use Rattle.board_journal.specs.Steps.{port_log}
+use Rattle.board_journal.specs.Steps.Step.{at_port}
 use Rattle.board_turns.proofs.Steps.{room_found}
 use Rattle.board_turns.proofs.Telling.{asked_room}
 use Rattle.board_turns.proofs.board.Board.room.Goals as goal

@@ -1,5 +1,5 @@
 use Rattle.std.proofs.Common.{arith, rules, sym, ◌∙◌, inr}
-use Rattle.board_rules.specs.Steps.{hand_of, plan_of, motion_of, given_of}
+use Rattle.board_journal.specs.Steps.{hand_of, plan_of, motion_of, given_of}
 use Rattle.board_turns.specs.Turning.{starting}
 use Rattle.board_turns.proofs.Steps.{started}
 use Rattle.board_turns.proofs.Ends.{works_passed}

@@ -1,6 +1,6 @@
 use Rattle.std.proofs.Common.{arith, ◌∷◌, sym, ◌∙◌, subst}
-use Rattle.board_rules.specs.Ports.PortStep.{loaded}
-use Rattle.board_rules.specs.Steps.Step.{at_port}
+use Rattle.board_journal.specs.Ports.PortStep.{loaded}
+use Rattle.board_journal.specs.Steps.Step.{at_port}
 use Rattle.board_turns.proofs.Settling.{slowed_now, slowed_is, found_stopped, looked_learned, came_of, port_came, settled_later, settled_none}
 use Rattle.board_turns.proofs.board.Board.settle.Goals as goal
 

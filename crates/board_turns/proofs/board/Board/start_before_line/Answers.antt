@@ -1,6 +1,6 @@
 use Rattle.std.proofs.Common.{refl, sym, ap, ◌∙◌}
 use Rattle.feed_hold.specs.Motions.Call.{on_start}
-use Rattle.board_rules.specs.Steps.{hand_of, given_of, plan_of, motion_of}
+use Rattle.board_journal.specs.Steps.{hand_of, given_of, plan_of, motion_of}
 use Rattle.board_rules.specs.Turns.{has_blocks}
 use Rattle.board_turns.proofs.Begins.{may_start, judges_started}
 use Rattle.board_turns.proofs.Steps.{started}

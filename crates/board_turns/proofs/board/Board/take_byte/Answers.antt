@@ -1,7 +1,7 @@
 use Rattle.std.proofs.Common.{rules, [], ◌∷◌, refl, ap, ◌∙◌, arith}
-use Rattle.board_rules.specs.Steps.{port_log}
-use Rattle.board_rules.specs.Steps.Step.{at_port}
-use Rattle.board_rules.specs.Ports.PortStep.{took, found_empty, found_closed}
+use Rattle.board_journal.specs.Steps.{port_log}
+use Rattle.board_journal.specs.Steps.Step.{at_port}
+use Rattle.board_journal.specs.Ports.PortStep.{took, found_empty, found_closed}
 use Rattle.board_rules.proofs.Greeted.{greeted_free}
 use Rattle.board_turns.specs.declared.board.Board.{Board}
 use Rattle.board_turns.proofs.PortSteps.{polled_empty, polled_closed}

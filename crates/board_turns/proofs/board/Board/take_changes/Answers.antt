@@ -1,6 +1,6 @@
 use Rattle.std.proofs.Common.{arith, rules, ◌≡◌, true, false, sym, subst}
-use Rattle.board_rules.specs.Ports.{has_changes}
-use Rattle.board_rules.specs.Steps.{Journal, port_log, hand_of, given_of, plan_of, motion_of}
+use Rattle.board_journal.specs.Ports.{has_changes}
+use Rattle.board_journal.specs.Steps.{Journal, port_log, hand_of, given_of, plan_of, motion_of}
 use Rattle.board_turns.specs.Boards.{Keeps}
 use Rattle.board_turns.proofs.Steps.{in_range}
 use Rattle.board_turns.proofs.Requests.{changes, takes_changes}

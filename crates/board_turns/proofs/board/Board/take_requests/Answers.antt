@@ -1,8 +1,8 @@
 use Rattle.std.proofs.Common.{◌≡◌, ◌==◌, ◌||◌, true, false, sym, ap, ◌∙◌, subst, arith, rules}
 use Rattle.std.proofs.lemmas.Bool.Decides.{nat_tests}
 use Rattle.code_table.specs.Flags.{exec_bits}
-use Rattle.board_rules.specs.Ports.{asks_report}
-use Rattle.board_rules.specs.Steps.{Journal, port_log}
+use Rattle.board_journal.specs.Ports.{asks_report}
+use Rattle.board_journal.specs.Steps.{Journal, port_log}
 use Rattle.board_rules.specs.Turns.{owes_report}
 use Rattle.board_rules.specs.Conduct.{MayTakeRequests}
 use Rattle.board_turns.specs.declared.board.Board.{Board}

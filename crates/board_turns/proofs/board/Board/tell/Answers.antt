@@ -1,10 +1,10 @@
 use Rattle.std.proofs.Common.{rules, [], ◌∷◌, inl, refl, sym, ap, ◌∙◌, arith}
 use Rattle.run_rules.specs.Work.Task.{tell}
-use Rattle.board_rules.specs.Steps.{port_log, left_of}
+use Rattle.board_journal.specs.Steps.{port_log, left_of}
 use Rattle.board_rules.specs.Turns.{this_turn}
 use Rattle.board_rules.proofs.Facts.{none_by_bye}
-use Rattle.board_rules.specs.Steps.Step.{at_port}
-use Rattle.board_rules.specs.Ports.PortStep.{answered, no_reply_room}
+use Rattle.board_journal.specs.Steps.Step.{at_port}
+use Rattle.board_journal.specs.Ports.PortStep.{answered, no_reply_room}
 use Rattle.board_turns.specs.declared.board.Board.{Board}
 use Rattle.board_turns.proofs.Steps.{is_next, may_answer, hand_empty, hand_left}
 use Rattle.board_rules.proofs.Tries.{publishes_one, worked_behind}

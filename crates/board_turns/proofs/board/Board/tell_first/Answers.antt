@@ -1,9 +1,9 @@
 use Rattle.std.proofs.Common.{rules, ◌≡◌, ◌∷◌, refl, sym, ap}
 use Rattle.run_rules.specs.Work.Task.{tell}
-use Rattle.board_rules.specs.Steps.{port_log}
+use Rattle.board_journal.specs.Steps.{port_log}
 use Rattle.board_rules.specs.Turns.{tells_next}
-use Rattle.board_rules.specs.Steps.Step.{at_port}
-use Rattle.board_rules.specs.Ports.PortStep.{answered, no_reply_room}
+use Rattle.board_journal.specs.Steps.Step.{at_port}
+use Rattle.board_journal.specs.Ports.PortStep.{answered, no_reply_room}
 use Rattle.board_turns.specs.Turning.MayHaveTold.{handed_back, was_told}
 use Rattle.board_turns.proofs.Steps.{is_next, may_answer, hand_empty}
 use Rattle.board_turns.proofs.PortSteps.{not_told}

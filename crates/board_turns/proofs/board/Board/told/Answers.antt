@@ -1,7 +1,7 @@
 use Rattle.std.proofs.Common.{◌∙◌, ◌||◌, ◌∷◌, cond, drop, refl, sym, ap, subst}
 use Rattle.status_report.specs.Answering.{is_answer, is_banner}
-use Rattle.board_rules.specs.Ports.PortStep.{answered}
-use Rattle.board_rules.specs.Steps.Step.{at_port}
+use Rattle.board_journal.specs.Ports.PortStep.{answered}
+use Rattle.board_journal.specs.Steps.Step.{at_port}
 use Rattle.board_turns.specs.declared.board.Board.{Board}
 use Rattle.board_turns.specs.Boards.{Keeps}
 use Rattle.board_turns.proofs.PortSteps.{told}

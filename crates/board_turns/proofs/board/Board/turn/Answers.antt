@@ -1,6 +1,6 @@
 use Rattle.std.proofs.Common.{arith, ◌∷◌, refl, sym, ap, subst}
 use Rattle.outside.specs.declared.Turn.{Turn}
-use Rattle.board_rules.specs.Steps.Step.{turned}
+use Rattle.board_journal.specs.Steps.Step.{turned}
 use Rattle.board_turns.specs.declared.board.Board.{Board}
 use Rattle.board_turns.specs.Boards.{EpochFits, GoingTurned}
 use Rattle.board_turns.specs.Turning.{words_awaited}

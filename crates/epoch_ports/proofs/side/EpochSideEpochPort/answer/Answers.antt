@@ -1,5 +1,5 @@
 use Rattle.std.proofs.lemmas.Result.{on_ok_weaker}
-use Rattle.board_rules.specs.Steps.{port_log}
+use Rattle.board_journal.specs.Steps.{port_log}
 use Rattle.epoch_ports.specs.Serving.{all_since}
 use Rattle.epoch_ports.proofs.Counting.{may_answer, told}
 use Rattle.epoch_ports.proofs.side.EpochSideEpochPort.answer.Goals as goal

@@ -1,6 +1,6 @@
 use Rattle.std.proofs.Common.{◌-◌, arith, subst}
-use Rattle.board_rules.specs.Ports.{MayBeDone}
-use Rattle.board_rules.specs.Steps.{port_log}
+use Rattle.board_journal.specs.Ports.{MayBeDone}
+use Rattle.board_journal.specs.Steps.{port_log}
 use Rattle.epoch_ports.specs.Serving.{all_since}
 use Rattle.epoch_ports.proofs.Counting.{done_here, found}
 use Rattle.epoch_ports.proofs.side.EpochSideEpochPort.done.Goals as goal

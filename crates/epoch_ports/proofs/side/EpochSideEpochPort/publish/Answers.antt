@@ -1,5 +1,5 @@
 use Rattle.std.proofs.lemmas.Result.{on_ok_weaker, on_err_weaker}
-use Rattle.board_rules.specs.Steps.{port_log}
+use Rattle.board_journal.specs.Steps.{port_log}
 use Rattle.epoch_ports.specs.Serving.{all_since}
 use Rattle.epoch_ports.proofs.Counting.{may_publish, published_here, room_here, handed_back}
 use Rattle.epoch_ports.proofs.side.EpochSideEpochPort.publish.Goals as goal

@@ -1,6 +1,6 @@
 use Rattle.std.proofs.Common.{◌∷◌, sym, subst, arith}
-use Rattle.board_rules.specs.Ports.{MayBeDone}
-use Rattle.board_rules.specs.Ports.PortStep.{loaded}
+use Rattle.board_journal.specs.Ports.{MayBeDone}
+use Rattle.board_journal.specs.Ports.PortStep.{loaded}
 use Rattle.reset_work.specs.declared.tests.Tape.{Tape}
 use Rattle.reset_work.specs.Tapes.{IsTape}
 use Rattle.reset_work.proofs.Taped.{later_done, may_be_done}

@@ -1,5 +1,5 @@
 use Rattle.std.proofs.Common.{◌∷◌, sym, subst, arith}
-use Rattle.board_rules.specs.Ports.PortStep.{found_mark}
+use Rattle.board_journal.specs.Ports.PortStep.{found_mark}
 use Rattle.reset_work.specs.declared.tests.Tape.{Tape}
 use Rattle.reset_work.specs.Tapes.{IsTape}
 use Rattle.reset_work.proofs.Taped.{marks}

@@ -5,8 +5,8 @@ use Rattle.std.proofs.lemmas.List.{length-reverse}
 use Rattle.status_report.specs.declared.Reply.{Reply}
 use Rattle.status_report.specs.declared.Reply.TheVariants as replies
 use Rattle.serial_ring.specs.Logs as link
-use Rattle.board_rules.specs.Ports.{BoardLog, taken_in, answered_in, link_steps}
-use Rattle.board_rules.specs.Ports.PortStep.{took, answered, reported}
+use Rattle.board_journal.specs.Ports.{BoardLog, taken_in, answered_in, link_steps}
+use Rattle.board_journal.specs.Ports.PortStep.{took, answered, reported}
 
 pub taken_back : (l : BoardLog) → taken_in l ≡ reverse (link.taken_in (link_steps l))
 taken_back [] = refl

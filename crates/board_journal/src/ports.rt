@@ -1,8 +1,8 @@
 //! The port of a board.
 
 ghost use Rattle.std.specs.Prelude.{◌≡◌, ℕ, ◌∷◌, ◌≤◌, true, OnOk, OnErr, IfErr, IfSome, IfNone};
-ghost use Rattle.board_rules.specs.Ports.{BoardLog, MayAnswer, MayPublish, MayStop, MayAskHalt, MayBeDone, said, IsMarkedPast, HasTakenFew, HasFewReports, LacksReplyRoom, LacksPieceRoom, asks_report};
-ghost use Rattle.board_rules.specs.Ports.PortStep.{took, found_empty, found_closed, found_free, found_mark, no_reply_room, took_exec, took_ovr, published, no_piece_room, loaded, stored_stop, found_no_halt, found_halt};
+ghost use Rattle.board_journal.specs.Ports.{BoardLog, MayAnswer, MayPublish, MayStop, MayAskHalt, MayBeDone, said, IsMarkedPast, HasTakenFew, HasFewReports, LacksReplyRoom, LacksPieceRoom, asks_report};
+ghost use Rattle.board_journal.specs.Ports.PortStep.{took, found_empty, found_closed, found_free, found_mark, no_reply_room, took_exec, took_ovr, published, no_piece_room, loaded, stored_stop, found_no_halt, found_halt};
 
 use code_table::{Exec, Ovr};
 use serial_ring::ByteIn;

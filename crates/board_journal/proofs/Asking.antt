@@ -7,9 +7,9 @@ use Rattle.code_table.specs.declared.flags.Exec.{Exec}
 use Rattle.realtime_flags.specs.declared.words.Take.TheVariants as kinds
 use Rattle.realtime_flags.specs.Bits.{report_flag, takes_with, stood_in}
 use Rattle.realtime_flags.proofs.Bits.{one_more}
-use Rattle.board_rules.specs.Ports.{BoardLog, asks_report, reports_in}
-use Rattle.board_rules.specs.Ports.PortStep.{took_exec}
-use Rattle.board_rules.specs.Takes.{takes_in}
+use Rattle.board_journal.specs.Ports.{BoardLog, asks_report, reports_in}
+use Rattle.board_journal.specs.Ports.PortStep.{took_exec}
+use Rattle.board_journal.specs.Takes.{takes_in}
 
 asked_bit : (n : ℕ) → nat_eq (bit_and n 1) 1 ≡ true → nat_eq (bit_at n 0) 1 ≡ true
 asked_bit n e =

@@ -2,8 +2,8 @@
 use Rattle.std.specs.Prelude.{List, [], ◌∷◌}
 use Rattle.realtime_flags.specs.declared.words.Take.{Take}
 use Rattle.realtime_flags.specs.declared.words.Take.TheVariants as takes
-use Rattle.board_rules.specs.Ports.{PortStep, BoardLog}
-use Rattle.board_rules.specs.Ports.PortStep.{took_exec, took_ovr}
+use Rattle.board_journal.specs.Ports.{PortStep, BoardLog}
+use Rattle.board_journal.specs.Ports.PortStep.{took_exec, took_ovr}
 
 -- the words that a board took, the latest first
 abbrev pub takes_at : PortStep → List Take → List Take

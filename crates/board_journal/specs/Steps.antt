@@ -19,9 +19,9 @@ use Rattle.step_line.specs.declared.Mark.TheVariants as marks
 use Rattle.step_line.specs.declared.Piece.{Piece}
 use Rattle.step_line.specs.declared.Piece.TheVariants as pieces
 use Rattle.step_line.specs.Logs.{NewestFirst}
-use Rattle.board_rules.specs.Openings.{Opening, before_first}
-use Rattle.board_rules.specs.Ports.{PortStep, BoardLog, taken_in, has_closed_in, answered_in, published_in, known_in}
-use Rattle.board_rules.specs.Ports.PortStep.{took, answered, published}
+use Rattle.board_journal.specs.Openings.{Opening, before_first}
+use Rattle.board_journal.specs.Ports.{PortStep, BoardLog, taken_in, has_closed_in, answered_in, published_in, known_in}
+use Rattle.board_journal.specs.Ports.PortStep.{took, answered, published}
 
 -- what a board does, at its port and by itself
 pub data Step : Type 0 where

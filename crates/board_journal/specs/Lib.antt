@@ -1,0 +1,4 @@
+pub mod Ports
+pub mod Openings
+pub mod Steps
+pub mod Takes
