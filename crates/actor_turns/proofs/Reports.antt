@@ -3,8 +3,8 @@ use Rattle.std.proofs.Common.{◌≡◌, ℕ, ◌-◌, false, sym, ◌∙◌}
 use Rattle.run_rules.specs.Lines.{lines_of}
 use Rattle.host_journal.specs.Steps.{got_of, scanned_of}
 use Rattle.controller.proofs.Kept.{kept_by}
-use Rattle.list_ports.specs.PerLine.{ReportsPerLine}
-use Rattle.list_ports.proofs.Counting.{reports_per_line}
+use Rattle.line_reports.specs.PerLine.{ReportsPerLine}
+use Rattle.line_reports.proofs.Counting.{reports_per_line}
 use Rattle.actor_turns.specs.Worlds.{Seen, History, Holds}
 
 pub world_reports : {N : ℕ} (w : Seen N) (hist : History) → Holds w hist → w.host.attended ≡ false → ReportsPerLine (lines_of (scanned_of hist.host)) (got_of hist.host)

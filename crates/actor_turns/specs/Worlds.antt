@@ -39,7 +39,7 @@ pub use Rattle.epoch_law.specs.Devices.{Devices, devices, sinks, RunsSoFar, HasR
 use Rattle.list_ports.specs.Passing.{HandsOn, record_room}
 use Rattle.realtime_flags.specs.Bits.{IsBalanced}
 use Rattle.list_ports.specs.Joining.{Listed, Joined}
-use Rattle.list_ports.specs.PerLine.{ReportsPerLine}
+use Rattle.line_reports.specs.PerLine.{ReportsPerLine}
 use Rattle.run_rules.specs.Lines.{lines_of}
 use Rattle.run_rules.specs.Told.{replies_text}
 use Rattle.std.specs.Io.KnownBytes.{Consumes}

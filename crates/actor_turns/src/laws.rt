@@ -3,7 +3,7 @@
 ghost use Rattle.std.specs.Prelude.{◌≡◌, ℕ, ◌-◌, false};
 ghost use Rattle.run_rules.specs.Lines.{lines_of};
 ghost use Rattle.host_journal.specs.Steps.{scanned_of, got_of};
-ghost use Rattle.list_ports.specs.PerLine.{ReportsPerLine};
+ghost use Rattle.line_reports.specs.PerLine.{ReportsPerLine};
 ghost use Rattle.step_record.specs.declared.forms.Form.{Form};
 ghost use Rattle.actor_turns.specs.Worlds.{Devices, History, Seen, Holds, Stands, AreDone, end_after, RunsSoFar, HasRun, HasRunAlone, HasRunCounted, CountsReports, pins_in};
 

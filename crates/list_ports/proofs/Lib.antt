@@ -7,8 +7,4 @@ pub mod Raising
 pub mod Steps
 pub mod Asks
 pub mod Quiet
-pub mod HostAsks
-pub mod BoardAsks
-pub mod Counting
-pub mod PerLineExample
 pub mod Standing

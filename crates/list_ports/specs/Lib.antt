@@ -1,6 +1,5 @@
 pub mod Passing
 pub mod Asked
-pub mod PerLine
 pub mod Joining
 pub mod Finding
 pub mod Standing

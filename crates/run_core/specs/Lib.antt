@@ -1,6 +1,6 @@
 pub use Rattle.list_ports.specs.Passing
 pub use Rattle.list_ports.specs.Asked
-pub use Rattle.list_ports.specs.PerLine
+pub use Rattle.line_reports.specs.PerLine
 pub use Rattle.list_ports.specs.Joining
 pub use Rattle.list_ports.specs.Finding
 pub use Rattle.actor_turns.specs.Worlds

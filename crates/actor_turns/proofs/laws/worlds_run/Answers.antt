@@ -8,7 +8,7 @@ use Rattle.step_line.specs.Asking.{ticks_among}
 use Rattle.pulse_engine.specs.Logs.{halts_of, records_put}
 use Rattle.motion_pulse.specs.Pulses.{seen_of}
 use Rattle.epoch_law.specs.Journals.{host_did, board_did, pulse_did}
-use Rattle.list_ports.specs.PerLine.{ReportsPerLine}
+use Rattle.line_reports.specs.PerLine.{ReportsPerLine}
 use Rattle.actor_turns.specs.Worlds.{sinks, RunsSoFar, HasRunCounted, end_after, pins_in}
 use Rattle.actor_turns.proofs.Counted.{counted_by_heads, one_unhalted}
 use Rattle.actor_turns.proofs.Reports.{world_reports}

@@ -24,7 +24,7 @@ use Rattle.stream_host.proofs.Links.{lfs_linked}
 use Rattle.stream_host.proofs.Raised.{IsMarked, banners_first, banners_low, free_by, marks_are, one_due, waiting_is}
 use Rattle.stream_host.proofs.Cutting.{all_now}
 use Rattle.stream_host.proofs.Epochs.{IsSteady, IsPending, Stands, begins_at, both_true, some_banner, none_banner, marks_between, earlier_in, answers_split, begins_none, epoch_is}
-use Rattle.list_ports.specs.PerLine.{resets_with, lines_with, resets_behind, lines_behind, queries_at, queries_in}
+use Rattle.line_reports.specs.PerLine.{resets_with, lines_with, resets_behind, lines_behind, queries_at, queries_in}
 use Rattle.list_ports.specs.Asked.{AsksBetween, epoch_behind, is_at, raised_behind, AwaitsNoReply}
 
 -- ---- a `?` is raised while all that was sent has its reply

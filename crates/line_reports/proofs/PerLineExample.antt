@@ -5,7 +5,7 @@ use Rattle.gcode_words.specs.Comments.{cut_within}
 use Rattle.status_report.specs.declared.Reply.{Reply}
 use Rattle.status_report.specs.declared.Reply.TheVariants as replies
 use Rattle.status_report.specs.declared.reports.Report.{Report}
-use Rattle.list_ports.specs.PerLine.{ReportsPerLine}
+use Rattle.line_reports.specs.PerLine.{ReportsPerLine}
 
 -- `??`, `G`, and `(?)`
 abbrev twice : List ℕ

@@ -32,7 +32,7 @@ use Rattle.board_epochs.proofs.Greeted.{was_greeted}
 use Rattle.board_epochs.proofs.Onto.{answered_on}
 use Rattle.board_epochs.proofs.Working.{never}
 use Rattle.list_ports.specs.Asked.{LooksFirst, MayFollow, has_looked, is_at, resets_taken, told_by, words_behind}
-use Rattle.list_ports.specs.PerLine.{reports_at}
+use Rattle.line_reports.specs.PerLine.{reports_at}
 use Rattle.list_ports.proofs.Marking.{same_banners}
 
 -- ---- a line is answered only once the word of requests was taken behind it

@@ -7,10 +7,10 @@ use Rattle.stream_host.specs.Conduct.{Conducted}
 use Rattle.board_epochs.specs.Epochs.{Epochs, AreEpochs, log_of}
 use Rattle.pulse_engine.specs.Logs.{PieceLog}
 use Rattle.list_ports.specs.Joining.{Listed, Joined}
-use Rattle.list_ports.specs.PerLine.{ReportsPerLine, reports_at}
+use Rattle.line_reports.specs.PerLine.{ReportsPerLine, reports_at}
 use Rattle.list_ports.proofs.Marking.{answered_is, latest_back}
-use Rattle.list_ports.proofs.BoardAsks.{boards_keep, front_fewer}
-use Rattle.list_ports.proofs.HostAsks.{asks_between, raised_in_lines}
+use Rattle.line_reports.proofs.BoardAsks.{boards_keep, front_fewer}
+use Rattle.line_reports.proofs.HostAsks.{asks_between, raised_in_lines}
 
 pub reports_per_line : (room : ℕ) (lists : Listed) (host : Journal) (blocks : ℕ) (first : State) (board : Epochs) (pulse : PieceLog) → Joined lists (port_log host) (log_of board) pulse → Conducted room host → is_attended host ≡ false → AreEpochs blocks first board
     → ReportsPerLine (lines_of (scanned_of host)) (got_of host)

@@ -1,0 +1,4 @@
+pub mod HostAsks
+pub mod BoardAsks
+pub mod Counting
+pub mod PerLineExample
