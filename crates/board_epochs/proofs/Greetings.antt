@@ -1,5 +1,5 @@
 -- What is answered in an epoch begins with what greets there; so all that is answered begins with the banner.
-use Rattle.std.proofs.Common.{◌≡◌, ◌⊎◌, inl, inr, ℕ, Bool, true, false, List, [], ◌∷◌, ◌++◌, refl, sym, ap, ◌∙◌, append_assoc}
+use Rattle.std.proofs.Common.{◌≡◌, inl, inr, ℕ, Bool, true, false, List, [], ◌∷◌, ◌++◌, refl, sym, ap, ◌∙◌, append_assoc}
 use Rattle.run_rules.specs.declared.State.{State}
 use Rattle.run_rules.specs.Work.{tells}
 use Rattle.run_texts.specs.Fronts.{BeginsWith}

@@ -1,5 +1,5 @@
 -- What is left of a line's work behind a step, and how much comes of it before the next poll.
-use Rattle.std.proofs.Common.{◌≡◌, ℕ, ◌+◌, ◌≤◌, Bool, List, [], ◌∷◌, ◌++◌, ◌-◌, ◌&&◌, ◌||◌, cond, drop, true, false, not, refl, sym, ap, ◌∙◌, subst, arith}
+use Rattle.std.proofs.Common.{◌≡◌, ℕ, ◌+◌, ◌≤◌, Bool, List, [], ◌∷◌, ◌-◌, ◌&&◌, cond, drop, true, false, not, refl, sym, ap, ◌∙◌, subst, arith}
 use Rattle.run_rules.specs.Work.{Task, pauses}
 use Rattle.run_rules.specs.Work.Task.{ask, tell, pause, normal, finish, halt}
 use Rattle.status_report.specs.Answering.{is_bye}

@@ -1,5 +1,5 @@
 -- What holds of each line that is begun holds of all: each is answered once, or raises an alarm, and tells no Banner and no Bye.
-use Rattle.std.proofs.Common.{◌≡◌, ◌⊎◌, inl, ℕ, ◌+◌, List, [], ◌∷◌, ◌++◌, length, length-append, true, cond, refl, ap, ◌∙◌, arith}
+use Rattle.std.proofs.Common.{◌≡◌, inl, ℕ, ◌+◌, List, [], ◌∷◌, ◌++◌, length, length-append, true, cond, refl, ap, arith}
 use Rattle.std.specs.List.{AllByRecursion, count_by, flat_map}
 use Rattle.std.proofs.lemmas.List.Sums.{sum_by-append, sum_by-cons}
 use Rattle.status_report.specs.declared.Message.TheVariants.{Unlocked}
