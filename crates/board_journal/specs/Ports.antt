@@ -152,6 +152,19 @@ has_cancelled_in (e ∷ l) = cancels_at e (has_cancelled_in l)
 abbrev pub has_slowed_in : BoardLog → Bool
 has_slowed_in l = has_held_in l || has_cancelled_in l
 
+-- a word of requests asks for a hold or for a cancel: each cancels jogs
+abbrev pub asks_cancel : Exec → Bool
+asks_cancel word = asks word hold_byte || asks word cancel_byte
+
+abbrev pub cancel_words_at : PortStep → ℕ → ℕ
+cancel_words_at (took_exec word) n = cond (asks_cancel word) (n + 1) n
+cancel_words_at e n = n
+
+-- how many such words were taken
+abbrev pub cancel_words_in : BoardLog → ℕ
+cancel_words_in [] = 0
+cancel_words_in (e ∷ l) = cancel_words_at e (cancel_words_in l)
+
 -- a word of requests asks for a reset
 abbrev pub asks_reset : Exec → Bool
 asks_reset word = asks word reset_byte

@@ -14,11 +14,11 @@ use Rattle.step_line.specs.declared.Mark.TheVariants as marks
 use Rattle.step_line.specs.declared.Piece.{Piece}
 use Rattle.step_line.specs.declared.Piece.TheVariants as pieces
 use Rattle.step_line.specs.Finishing.{ticks_together}
-use Rattle.board_journal.specs.Ports.{asks_reset}
+use Rattle.board_journal.specs.Ports.{asks_reset, asks_cancel, cancel_words_in}
 use Rattle.board_journal.specs.Ports.PortStep.{took_exec, published}
 use Rattle.board_journal.specs.Steps.{Journal, port_log, given_of, published_of, known_of, motion_of}
 use Rattle.board_journal.specs.Steps.Step.{at_port, paused, became, cut}
-use Rattle.board_rules.specs.Cuts.{parts_of, has_cut, is_cancelling, begins_cancel, cancels_of, pending, asks_cancel, cancel_words_in}
+use Rattle.board_rules.specs.Cuts.{parts_of, has_cut, is_cancelling, begins_cancel, cancels_of, pending}
 use Rattle.board_rules.specs.Turns.{this_turn, unobeyed_by, unobeyed_of, loads}
 use Rattle.board_rules.specs.Conduct.{Conducted, MayHappen, IsStopped, ticks_published, MayOpen}
 use Rattle.board_rules.specs.Whole.{IsKnown}

@@ -1,8 +1,6 @@
 -- The parts of a journal: what was done since the last cut, and the parts that cuts have ended.
-use Rattle.std.specs.Prelude.{ℕ, ◌+◌, Bool, true, false, ◌&&◌, ◌||◌, not, cond, List, [], ◌∷◌, ◌++◌}
+use Rattle.std.specs.Prelude.{ℕ, ◌+◌, Bool, true, false, ◌&&◌, not, cond, List, [], ◌∷◌, ◌++◌}
 use Rattle.std.specs.List.{list_any}
-use Rattle.feed_hold.specs.Motions.{asks as asks_in_word, hold_byte, cancel_byte}
-use Rattle.code_table.specs.declared.flags.Exec.{Exec}
 use Rattle.feed_hold.specs.declared.Motion.{Motion}
 use Rattle.feed_hold.specs.declared.Motion.TheVariants.{Cancelling}
 use Rattle.flight.specs.Places.{end_from}
@@ -17,8 +15,6 @@ use Rattle.step_line.specs.Finishing.{ticks_together}
 use Rattle.step_line.specs.Logs.{NewestFirst}
 use Rattle.step_line.specs.declared.Piece.{Piece}
 use Rattle.board_journal.specs.Openings.{Opening}
-use Rattle.board_journal.specs.Ports.{PortStep, BoardLog}
-use Rattle.board_journal.specs.Ports.PortStep.{took_exec}
 use Rattle.board_journal.specs.Steps.{Step, Journal, outcomes_of, actions_of, planned_of, plan_from, plan_of, given_of, left_of, motion_of}
 use Rattle.board_journal.specs.Steps.Step.{began, paused, became, cut, halted}
 use Rattle.board_rules.specs.Parts.{Part, counts_in}
@@ -124,16 +120,3 @@ cancels_of first (_ ∷ h) = cancels_of first h
 -- how many of them have their cut to come: the last one, or none
 abbrev pub pending : (cancelled has_cut : Bool) → ℕ
 pending cancelled has_cut = cond (cancelled && not has_cut) 1 0
-
--- a word of requests asks for a hold or for a cancel: each cancels jogs
-abbrev pub asks_cancel : Exec → Bool
-asks_cancel word = asks_in_word word hold_byte || asks_in_word word cancel_byte
-
-abbrev pub cancel_words_at : PortStep → ℕ → ℕ
-cancel_words_at (took_exec word) n = cond (asks_cancel word) (n + 1) n
-cancel_words_at e n = n
-
--- how many such words were taken
-abbrev pub cancel_words_in : BoardLog → ℕ
-cancel_words_in [] = 0
-cancel_words_in (e ∷ l) = cancel_words_at e (cancel_words_in l)

@@ -57,9 +57,8 @@ ghost use Rattle.board_rules.specs.Cuts.{
   is_cancelling,
   cancels_of,
   pending,
-  cancel_words_in,
 };
-ghost use Rattle.board_journal.specs.Ports.{MayAnswer, MayPublish, MayBeDone, asks_reset, sent_in, unstopped, has_held_in, has_slowed_in, has_changed_in, reports_in};
+ghost use Rattle.board_journal.specs.Ports.{MayAnswer, MayPublish, MayBeDone, asks_reset, sent_in, unstopped, has_held_in, has_slowed_in, has_changed_in, cancel_words_in, reports_in};
 ghost use Rattle.board_rules.specs.Whole.{course_of};
 ghost use Rattle.run_rules.specs.Reports.{Reported};
 ghost use Rattle.board_journal.specs.Ports.PortStep.{answered, took_exec, took_ovr, reported, published, no_piece_room};

@@ -8,9 +8,9 @@ use Rattle.run_texts.specs.Courses.Passed.{a_line, a_broken, a_cut, a_reset}
 use Rattle.step_line.specs.Logs.{NewestFirst}
 use Rattle.units.specs.declared.Steps3.{Steps3}
 use Rattle.board_rules.specs.Conduct.{Conducted}
-use Rattle.board_rules.specs.Cuts.{parts_of, asks_cancel, cancel_words_in}
+use Rattle.board_rules.specs.Cuts.{parts_of}
 use Rattle.board_journal.specs.Openings.{Opening}
-use Rattle.board_journal.specs.Ports.{BoardLog, known_in}
+use Rattle.board_journal.specs.Ports.{BoardLog, known_in, asks_cancel, cancel_words_in}
 use Rattle.board_journal.specs.Ports.PortStep.{took_exec}
 use Rattle.board_journal.specs.Steps.{Journal, port_log, given_of}
 use Rattle.board_journal.specs.Steps.Step.{began, cut}

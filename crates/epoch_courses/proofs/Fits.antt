@@ -10,7 +10,7 @@ use Rattle.run_texts.specs.SoFar.{AreMadeSoFar, FitsSoFar}
 use Rattle.step_line.specs.Logs.{NewestFirst}
 use Rattle.step_line.specs.declared.Record.{Record}
 use Rattle.board_rules.specs.Conduct.{IsFinished}
-use Rattle.board_rules.specs.Cuts.{cancel_words_in}
+use Rattle.board_journal.specs.Ports.{cancel_words_in}
 use Rattle.board_journal.specs.Steps.{Journal, known_of}
 use Rattle.board_epochs.specs.Epochs.{Closed, Epochs, AreEpochs, closed_log, log_behind, log_of, opening_behind, point_of}
 use Rattle.board_epochs.specs.Epochs.Epochs.{goes, resets}

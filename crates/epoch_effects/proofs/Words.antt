@@ -4,8 +4,7 @@ use Rattle.std.proofs.lemmas.List.{map-append}
 use Rattle.std.specs.List.{AllByRecursion, sum}
 use Rattle.code_table.specs.declared.flags.Ovr.{Ovr}
 use Rattle.feed_hold.specs.Motions.{asks, hold_byte, cancel_byte}
-use Rattle.board_rules.specs.Cuts.{asks_cancel, cancel_words_in}
-use Rattle.board_journal.specs.Ports.{BoardLog, asks_report, has_changes, has_held_in, has_cancelled_in, has_slowed_in, has_changed_in, reports_in}
+use Rattle.board_journal.specs.Ports.{BoardLog, asks_cancel, cancel_words_in, asks_report, has_changes, has_held_in, has_cancelled_in, has_slowed_in, has_changed_in, reports_in}
 use Rattle.board_journal.specs.Ports.PortStep.{took_exec, took_ovr}
 use Rattle.board_journal.specs.Steps.{Journal, port_log}
 use Rattle.board_rules.proofs.Counting.{sum_on}

@@ -14,9 +14,8 @@ use Rattle.realtime_flags.proofs.Bits.{same_flag}
 use Rattle.host_journal.specs.Steps.{HostLog}
 use Rattle.host_journal.specs.Steps as hosts
 use Rattle.host_journal.specs.Steps.PortStep.{raised}
-use Rattle.board_journal.specs.Ports.{BoardLog}
+use Rattle.board_journal.specs.Ports.{BoardLog, cancel_words_in}
 use Rattle.board_journal.specs.Ports.PortStep.{took_exec}
-use Rattle.board_rules.specs.Cuts.{cancel_words_in}
 use Rattle.run_law.specs.Flags.{is_hold, is_cancel, is_slow}
 use Rattle.run_law.specs.Taking.{raised_to, raises_in, takes_in}
 use Rattle.run_law.proofs.Taking.{IsByteOf, hold_bytes, hold_flag, asks_hold_bit}

@@ -5,8 +5,7 @@ use Rattle.std.specs.declared.option.Option.{Option}
 use Rattle.code_table.specs.Flags.{Flag, flag_of}
 use Rattle.code_table.specs.Flags.Flag.{in_ovr}
 use Rattle.code_table.specs.declared.flags.Ovr.{Ovr}
-use Rattle.board_rules.specs.Cuts.{cancel_words_in}
-use Rattle.board_journal.specs.Ports.{BoardLog, has_held_in, has_slowed_in, has_changed_in, has_reset_in, reports_in}
+use Rattle.board_journal.specs.Ports.{BoardLog, cancel_words_in, has_held_in, has_slowed_in, has_changed_in, has_reset_in, reports_in}
 use Rattle.feed_hold.specs.Motions.{hold_byte, cancel_byte}
 use Rattle.run_rules.specs.Reports.{is_query}
 use Rattle.host_journal.specs.Jobs.{is_reset}
