@@ -2,4 +2,3 @@ pub mod Loads
 pub mod Hosts
 pub mod Boards
 pub mod Standing
-pub mod HostSides

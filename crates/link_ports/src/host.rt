@@ -3,10 +3,10 @@
 ghost use Rattle.std.specs.Prelude.{◌≡◌};
 ghost use Rattle.realtime_flags.specs.Bytes.{raised_by};
 
+use host_journal::HostPort;
 use realtime_flags::{Raised, Raiser};
 use serial_ring::{HostEnd, Stored};
 use status_report::Reply;
-use stream_host::HostPort;
 
 /// The host's ends of a link and of the flags.
 #[derive(Drop)]

@@ -2,8 +2,6 @@
 //!
 //! Each port stands for the lists of its ends: what was stored, raised and got, or taken, answered and
 //! published. So the actors run over them as they run over plain lists, by the same contracts.
-//!
-//! The thread of the host has a host and its port (`HostSide`), and runs it until it is done (`run_host`).
 #![tactic(auto)]
 
 mod board;
@@ -11,9 +9,7 @@ mod host;
 mod laws;
 #[cfg(test)]
 mod tests;
-mod thread;
 
 pub use board::BoardLink;
 pub use host::HostLink;
 pub use laws::ports_of_a_link_agree;
-pub use thread::{HostSide, run_host};

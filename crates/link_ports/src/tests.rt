@@ -10,6 +10,7 @@ use super::*;
 use bitflags::Flags;
 use board_journal::BoardPort;
 use code_table::Exec;
+use host_journal::HostPort;
 use motion_ring::{SegIn, motion};
 use outside::OutOfMemory;
 use realtime_flags::flag_table;
@@ -20,7 +21,6 @@ use std::process::Abort;
 use std::sync::Wait;
 use std::thread::{self, join};
 use step_line::{Mark, Piece};
-use stream_host::HostPort;
 
 /// Both ports over fresh tables, and the pulse's end of the ring.
 fn fresh_ports(alloc: Global) -> Result<(HostLink<128>, BoardLink<128>, SegIn), OutOfMemory>

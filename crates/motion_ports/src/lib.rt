@@ -2,16 +2,12 @@
 //!
 //! The pulse gets its pieces from an end of a ring of pieces, and puts its records into a ring of 1,024, from
 //! whose other end the recorder takes them. Each port stands for the lists of its end.
-//!
-//! Each of the two has a thread (`PulseSide`, `RecorderSide`), and runs there beside the other until it is done (`run_motion`).
 #![tactic(auto)]
 
 mod pieces;
 mod records;
 #[cfg(test)]
 mod tests;
-mod threads;
 
 pub use pieces::PiecePort;
 pub use records::{RecordOut, RecordPort, Recordable, join_records, record_ring};
-pub use threads::{PulseSide, RecorderSide, run_motion};

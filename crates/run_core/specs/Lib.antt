@@ -5,7 +5,7 @@ pub use Rattle.list_ports.specs.Joining
 pub use Rattle.list_ports.specs.Finding
 pub use Rattle.actor_turns.specs.Worlds
 pub use Rattle.actor_turns.specs.Lockstep
-pub use Rattle.link_ports.specs.HostSides
-pub use Rattle.motion_ports.specs.MotionSides
+pub use Rattle.thread_rig.specs.HostSides
+pub use Rattle.thread_rig.specs.MotionSides
 pub use Rattle.thread_rig.specs.BoardSides
 pub use Rattle.thread_rig.specs.Rigs

@@ -1,2 +1,4 @@
+pub mod HostSides
 pub mod BoardSides
+pub mod MotionSides
 pub mod Rigs

@@ -16,8 +16,8 @@ use Rattle.run_law.specs.declared.RunEnd.{RunEnd}
 use Rattle.run_law.specs.Runs.{run_end}
 use Rattle.thread_rig.specs.declared.rig.Rig.{Rig}
 use Rattle.run_law.specs.Devices.{Devices}
-use Rattle.link_ports.specs.HostSides.{HostIsNew, HostRanAt}
-use Rattle.motion_ports.specs.MotionSides.{PulseIsNew, PulseRanAt, RecorderIsNew, RecorderRanAt}
+use Rattle.thread_rig.specs.HostSides.{HostIsNew, HostRanAt}
+use Rattle.thread_rig.specs.MotionSides.{PulseIsNew, PulseRanAt, RecorderIsNew, RecorderRanAt}
 use Rattle.thread_rig.specs.BoardSides.{BoardIsNew, BoardRanAt}
 
 -- the ends of a rig are those of one link, of one table of flags, of one ring of pieces and of one of records

@@ -7,7 +7,9 @@
 
 mod apart;
 mod board;
+mod host;
 mod laws;
+mod motion;
 mod rig;
 mod runs;
 

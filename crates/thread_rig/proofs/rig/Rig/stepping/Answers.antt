@@ -3,12 +3,12 @@ use Rattle.rtrb.specs.Ring.{IsPair}
 use Rattle.serial_ring.specs.Ends.{link_of_host, link_of_board}
 use Rattle.realtime_flags.specs.Ends.{raised_in, taken_in}
 use Rattle.motion_ring.specs.Ends.{ring_of_out, ring_of_in}
-use Rattle.link_ports.specs.declared.thread.HostSide.{HostSide}
+use Rattle.thread_rig.specs.declared.host.HostSide.{HostSide}
 use Rattle.thread_rig.specs.declared.board.BoardSide.{BoardSide}
-use Rattle.motion_ports.specs.declared.threads.PulseSide.{PulseSide}
-use Rattle.motion_ports.specs.declared.threads.RecorderSide.{RecorderSide}
-use Rattle.link_ports.specs.HostSides.{HostIsNew}
-use Rattle.motion_ports.specs.MotionSides.{PulseIsNew, RecorderIsNew}
+use Rattle.thread_rig.specs.declared.motion.PulseSide.{PulseSide}
+use Rattle.thread_rig.specs.declared.motion.RecorderSide.{RecorderSide}
+use Rattle.thread_rig.specs.HostSides.{HostIsNew}
+use Rattle.thread_rig.specs.MotionSides.{PulseIsNew, RecorderIsNew}
 use Rattle.step_record.specs.Recording.{Recording, RecorderFits}
 use Rattle.motion_ports.proofs.Fresh.{nothing_got}
 use Rattle.motion_pulse.specs.Pulses.{stepping_of}

@@ -4,7 +4,7 @@ use Rattle.realtime_flags.specs.Ends.{raised_in}
 use Rattle.host_journal.specs.Steps.{beginning}
 use Rattle.stream_host.proofs.Running.{tells_nothing, new_shows_nothing, between_nothing, logs_nothing, stays_attended}
 use Rattle.link_ports.specs.Standing.{HostLogs, HostSees}
-use Rattle.link_ports.proofs.thread.run_host.Goals as goal
+use Rattle.thread_rig.proofs.host.run_host.Goals as goal
 
 pub loop-init : goal.loop-init
 loop-init g c =

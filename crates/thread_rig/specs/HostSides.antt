@@ -7,7 +7,7 @@ use Rattle.host_journal.specs.Steps.{Journal as HostJournal, port_log as host_lo
 use Rattle.stream_host.specs.Hosts.{HostFits, HostRests, TellsJob, TellsText}
 use Rattle.stream_host.specs.Hosts.{IsBetween as IsBetweenOfHost}
 use Rattle.link_ports.specs.Standing.{HostLogs, HostSees}
-use Rattle.link_ports.specs.declared.thread.HostSide.{HostSide}
+use Rattle.thread_rig.specs.declared.host.HostSide.{HostSide}
 
 -- no turn was made
 pub record HostIsNew {room : ℕ} (side : HostSide room) : Type 0 where

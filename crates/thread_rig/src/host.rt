@@ -1,8 +1,8 @@
 //! What the thread of the host has, and what it does: its host takes turns, each once the gate is passed, until it answers Done.
 
-ghost use Rattle.link_ports.specs.HostSides.{HostIsNew, HostRanAt};
+ghost use Rattle.thread_rig.specs.HostSides.{HostIsNew, HostRanAt};
 
-use crate::HostLink;
+use link_ports::HostLink;
 use outside::{Actor, Gate, Sink, Source};
 use shared_rings::is_last;
 use std::sync::Wait;
@@ -10,13 +10,13 @@ use stream_host::Host;
 
 /// The host, and its ends of the link and of the flags.
 #[derive(Drop)]
-pub struct HostSide<const RX: usize> {
-    pub host: Host,
-    pub link: HostLink<RX>,
+pub(crate) struct HostSide<const RX: usize> {
+    pub(crate) host: Host,
+    pub(crate) link: HostLink<RX>,
 }
 
 /// Runs a host until it is done.
-pub fn run_host<R: Wait, J: Source, C: Sink, G: Gate, const RX: usize>(
+pub(crate) fn run_host<R: Wait, J: Source, C: Sink, G: Gate, const RX: usize>(
     rt: &R,
     side: &mut HostSide<RX>,
     job: &mut J,

@@ -1,5 +1,5 @@
 use Rattle.std.proofs.Common.{[], refl, sym, ◌∙◌}
-use Rattle.motion_ports.proofs.threads.run_recorder.Goals as goal
+use Rattle.thread_rig.proofs.motion.run_recorder.Goals as goal
 
 pub loop-init : goal.loop-init
 loop-init g c = record { log = []; records = (((refl, refl, refl, refl), refl), c.requires.taken, tt); fits = c.requires.fits (g.S.Sink.state c.args.steps.now) }

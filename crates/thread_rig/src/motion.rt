@@ -1,9 +1,9 @@
 //! What the threads of the pulse and of the recorder have, and what they do: each actor takes turns, each once the gate is
 //! passed, until it answers Done.
 
-ghost use Rattle.motion_ports.specs.MotionSides.{PulseIsNew, PulseRanAt, RecorderIsNew, RecorderRanAt};
+ghost use Rattle.thread_rig.specs.MotionSides.{PulseIsNew, PulseRanAt, RecorderIsNew, RecorderRanAt};
 
-use crate::{PiecePort, RecordOut, RecordPort};
+use motion_ports::{PiecePort, RecordOut, RecordPort};
 use motion_pulse::MotionPulse;
 use outside::{Actor, Gate, Sink};
 use shared_rings::is_last;
@@ -13,17 +13,17 @@ use step_record::Recorder;
 
 /// The pulse, and its ends of the ring of pieces and of the ring of records.
 #[derive(Drop)]
-pub struct PulseSide {
-    pub pulse: MotionPulse,
-    pub pieces: PiecePort,
-    pub records: RecordOut,
+pub(crate) struct PulseSide {
+    pub(crate) pulse: MotionPulse,
+    pub(crate) pieces: PiecePort,
+    pub(crate) records: RecordOut,
 }
 
 /// The recorder, and its end of the ring of records.
 #[derive(Drop)]
-pub struct RecorderSide {
-    pub recorder: Recorder,
-    pub records: RecordPort,
+pub(crate) struct RecorderSide {
+    pub(crate) recorder: Recorder,
+    pub(crate) records: RecordPort,
 }
 
 /// Runs a pulse until it is done.
@@ -63,7 +63,7 @@ fn run_recorder<R: Wait, S: Sink, G: Gate>(rt: &R, side: &mut RecorderSide, step
 }
 
 /// Runs a pulse and a recorder beside each other, each until it is done.
-pub fn run_motion<R: Threads + Wait + Sync, S: Sink + Send, G: Gate + Sync>(
+pub(crate) fn run_motion<R: Threads + Wait + Sync, S: Sink + Send, G: Gate + Sync>(
     rt: &R,
     pulse: &mut PulseSide,
     recorder: &mut RecorderSide,

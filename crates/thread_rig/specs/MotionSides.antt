@@ -8,8 +8,8 @@ use Rattle.motion_pulse.specs.Pulses.{MotionFits, seen_of, stepping_of}
 use Rattle.step_record.specs.Taking.{Log}
 use Rattle.step_record.specs.Recording.{RecorderFits, Rests}
 use Rattle.motion_ports.specs.Ports.{HasGot, HasPut, HasTaken}
-use Rattle.motion_ports.specs.declared.threads.PulseSide.{PulseSide}
-use Rattle.motion_ports.specs.declared.threads.RecorderSide.{RecorderSide}
+use Rattle.thread_rig.specs.declared.motion.PulseSide.{PulseSide}
+use Rattle.thread_rig.specs.declared.motion.RecorderSide.{RecorderSide}
 
 -- no turn was made
 pub record PulseIsNew (side : PulseSide) : Type 0 where

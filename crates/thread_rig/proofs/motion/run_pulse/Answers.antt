@@ -1,6 +1,6 @@
 use Rattle.std.proofs.Common.{[], refl, ◌∙◌}
 use Rattle.motion_ring.specs.Ends.{ring_of_in}
-use Rattle.motion_ports.proofs.threads.run_pulse.Goals as goal
+use Rattle.thread_rig.proofs.motion.run_pulse.Goals as goal
 
 pub loop-init : goal.loop-init
 loop-init g c = record { got = []; put = []; pieces = c.requires.got; records = (((refl, refl, refl, refl), refl), c.requires.put, tt); fits = c.requires.fits; stepping = refl }
