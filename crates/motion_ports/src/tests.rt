@@ -48,6 +48,16 @@ fn room_for_1024_records(rt: HostRuntime) {
     assert_eq!(rt; fill(&rt, &mut records), 1024);
 }
 
+/// An end that has found the ring empty, or full, looks again: it takes what was put since, and puts where one was taken.
+#[test]
+fn each_end_looks_again(rt: HostRuntime) {
+    let (mut records, mut taken) = record_ring(rt.alloc()).expect(&rt, "memory");
+    assert_eq!(rt; taken.take(), None);
+    assert_eq!(rt; fill(&rt, &mut records), 1024);
+    assert_eq!(rt; taken.take(), Some(Record::End));
+    assert_eq!(rt; fill(&rt, &mut records), 1);
+}
+
 /// Puts a million events.
 fn put_all<R: Wait>(rt: &R, mut records: RecordOut) -> RecordOut {
     let mut put = 0_u32;
