@@ -3,14 +3,15 @@ use Rattle.std.proofs.Common.{◌≡◌, ℕ, zero, suc, ◌+◌, ◌≤◌, ◌
 use Rattle.std.proofs.lemmas.List.Sums.{sum_by-append}
 use Rattle.status_report.specs.declared.Reply.{Reply}
 use Rattle.status_report.specs.declared.Reply.TheVariants.{Banner}
-use Rattle.status_report.specs.Answering.{lfs_in, is_answer, is_banner}
+use Rattle.status_report.specs.Answering.{lfs_in, is_answer, is_banner, banners_in}
+use Rattle.status_report.proofs.Banners.{banners_first}
 use Rattle.serial_ring.specs.Marks.{Mark, IsMark, Follows, start, latest, last_of}
 use Rattle.serial_ring.specs.Lists.{has_banner}
-use Rattle.host_journal.specs.Links.{banners_in, behind_mark, AreGreetings}
+use Rattle.host_journal.specs.Links.{behind_mark, AreGreetings}
 use Rattle.host_journal.specs.Ports.{AnswersLines}
 use Rattle.host_journal.specs.Steps.{HostLog, latest_got, marks_in, marks_at_banners, stored_in}
 use Rattle.host_journal.specs.Steps.PortStep.{stored, marked, got}
-use Rattle.stream_host.proofs.Raised.{banners_first, rising_is}
+use Rattle.stream_host.proofs.Raised.{rising_is}
 use Rattle.stream_host.proofs.Epochs.{some_banner, none_banner}
 use Rattle.actor_rows.specs.Boards.{HasTold}
 

@@ -1,10 +1,10 @@
 -- What a board that is a plain list has told.
 use Rattle.std.specs.Prelude.{◌≡◌, ℕ, ◌+◌, ◌≤◌, ◌<◌, List, [], length}
 use Rattle.status_report.specs.declared.Reply.{Reply}
-use Rattle.status_report.specs.Answering.{lfs_in}
+use Rattle.status_report.specs.Answering.{lfs_in, banners_in}
 use Rattle.serial_ring.specs.Marks.{Mark, last_of}
 use Rattle.serial_ring.specs.Lists.{answers_behind_mark}
-use Rattle.host_journal.specs.Links.{banners_in, behind_mark, AreGreetings}
+use Rattle.host_journal.specs.Links.{behind_mark, AreGreetings}
 use Rattle.host_journal.specs.Steps.{HostLog, latest_got, marks_in, marks_at_banners, stored_in}
 
 -- So many lines that were stored behind the mark of the last banner have no answer, so many replies were told, so many marks are

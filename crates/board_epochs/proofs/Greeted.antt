@@ -3,16 +3,16 @@ use Rattle.std.proofs.Common.{◌≡◌, ℕ, Bool, true, false, cond, List, [],
 use Rattle.serial_ring.specs.Logs.{marked_in, greeted_in, has_greeted, next_mark}
 use Rattle.serial_ring.specs.Marks.{Mark as LinkMark, last_of, start}
 use Rattle.serial_ring.specs.declared.view.LinkStep.{LinkStep}
-use Rattle.status_report.specs.Answering.{is_banner}
+use Rattle.status_report.specs.Answering.{is_banner, banners_in}
 use Rattle.status_report.specs.declared.Reply.{Reply}
 use Rattle.status_report.specs.declared.Reply.TheVariants as replies
+use Rattle.status_report.proofs.Banners.{banners_first, banners_on}
 use Rattle.board_rules.specs.Conduct.{Conducted}
 use Rattle.board_journal.specs.Openings.{Opening}
 use Rattle.board_journal.specs.Ports.{link_steps}
 use Rattle.board_journal.specs.Ports.PortStep.{took, found_mark, answered, reported}
 use Rattle.board_journal.specs.Steps.{Journal, port_log, answered_of}
 use Rattle.board_journal.specs.Steps.Step.{at_port}
-use Rattle.board_rules.proofs.Greeting.{banners_in, banners_on, banners_first}
 use Rattle.board_rules.proofs.Greeted.{banner_told, fewer}
 use Rattle.board_epochs.specs.Resets.{MayReset}
 

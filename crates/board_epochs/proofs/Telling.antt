@@ -8,17 +8,18 @@ use Rattle.serial_ring.specs.Logs.{has_greeted, next_mark, answers_since, lfs_si
 use Rattle.serial_ring.specs.Marks.{Mark as LinkMark, last_of, start}
 use Rattle.serial_ring.specs.declared.view.LinkStep.{LinkStep}
 use Rattle.serial_ring.specs.declared.view.LinkStep.TheVariants.{Took, Marked as LoadedMark, Answered}
-use Rattle.status_report.specs.Answering.{lfs_in, is_answer, is_banner}
+use Rattle.status_report.specs.Answering.{lfs_in, is_answer, is_banner, banners_in}
 use Rattle.status_report.specs.Replies.{IsReply}
 use Rattle.status_report.specs.declared.Reply.{Reply}
 use Rattle.status_report.specs.declared.Reply.TheVariants as replies
 use Rattle.status_report.specs.declared.reports.Report.{Report}
+use Rattle.status_report.proofs.Banners.{banners_first}
 use Rattle.step_line.specs.Logs.{NewestFirst}
 use Rattle.board_rules.specs.Conduct.{Conducted, IsNextTask}
 use Rattle.board_journal.specs.Openings.{Opening}
 use Rattle.board_journal.specs.Ports.{BoardLog, known_in, link_steps, MayAnswer}
 use Rattle.board_journal.specs.Steps.{Journal, port_log, answered_of, left_of}
-use Rattle.board_rules.proofs.Greeting.{banners_in, banners_first, banners_are, since, may_answer}
+use Rattle.board_rules.proofs.Greeting.{banners_are, since, may_answer}
 use Rattle.board_rules.proofs.Limits.{lines_in_bytes, answered_by_lines}
 use Rattle.board_journal.proofs.LinkSteps.{same_answered, same_taken}
 use Rattle.board_epochs.specs.Bounds.{loaded_mark, AreMarked}

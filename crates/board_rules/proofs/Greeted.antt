@@ -6,10 +6,11 @@ use Rattle.run_rules.specs.Told.{replies_after}
 use Rattle.run_rules.specs.Work.{Task, Outcome, tells, telling}
 use Rattle.run_rules.specs.Work.Task.{ask, tell, pause, normal, finish, halt}
 use Rattle.serial_ring.specs.Logs.{has_greeted}
-use Rattle.status_report.specs.Answering.{is_banner, without_reports}
+use Rattle.status_report.specs.Answering.{is_banner, banners_in, without_reports}
 use Rattle.status_report.specs.declared.Reply.{Reply}
 use Rattle.status_report.specs.declared.Reply.TheVariants as replies
 use Rattle.status_report.specs.declared.reports.Report.{Report}
+use Rattle.status_report.proofs.Banners.{banners_first, banners_on}
 use Rattle.step_line.specs.Asking.Asked.{a_move, a_mark, a_rest}
 use Rattle.step_line.specs.declared.Piece.{Piece}
 use Rattle.board_rules.specs.Conduct.{Conducted, MayDo}
@@ -19,7 +20,7 @@ use Rattle.board_journal.specs.Ports.PortStep.{answered, reported, took_exec}
 use Rattle.board_journal.specs.Steps.{Journal, port_log, taken_of, answered_of, outcomes_of, left_of, closed_tells, without_asks}
 use Rattle.board_journal.specs.Steps.Step.{at_port, began, did, made_end, evened, paused, cut, halted, closing}
 use Rattle.board_rules.specs.Turns.{is_greeted, owes_report, tells_next}
-use Rattle.board_rules.proofs.Greeting.{banners_in, banners_on, banners_first, banners_are, since}
+use Rattle.board_rules.proofs.Greeting.{banners_are, since}
 use Rattle.board_rules.proofs.Keeping.{told_is}
 use Rattle.board_rules.proofs.Plain.{plain_push}
 use Rattle.board_rules.proofs.Truths.{either_right, neither_right, opposite}

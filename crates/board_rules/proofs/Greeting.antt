@@ -1,13 +1,13 @@
 -- A journal is greeted by one Banner before any byte is taken, so all answers and all line feeds come behind it.
-use Rattle.std.proofs.Common.{◌≡◌, ℕ, ◌+◌, Bool, true, false, cond, List, [], ◌∷◌, ◌++◌, drop, refl, sym, ap, ◌∙◌, arith}
-use Rattle.std.specs.List.{count_by, flat_map}
-use Rattle.std.proofs.lemmas.List.Sums.{sum_by-append, sum_by-cons}
-use Rattle.status_report.specs.Answering.{lfs_in, is_answer, is_banner, answers_in, without_reports}
+use Rattle.std.proofs.Common.{◌≡◌, ℕ, ◌+◌, Bool, true, false, cond, List, [], ◌∷◌, drop, refl, sym, ap, ◌∙◌, arith}
+use Rattle.std.specs.List.{flat_map}
+use Rattle.status_report.specs.Answering.{lfs_in, is_banner, banners_in, answers_in, without_reports}
 use Rattle.status_report.specs.Replies.{IsReply}
 use Rattle.status_report.specs.declared.Reply.{Reply}
 use Rattle.status_report.specs.declared.Reply.TheVariants as replies
 use Rattle.status_report.specs.declared.reports.Report.{Report}
 use Rattle.status_report.proofs.Answered.{lfs_first, lfs_on, answers_first, answers_on}
+use Rattle.status_report.proofs.Banners.{banners_first, banners_on, banners_without, no_answer}
 use Rattle.serial_ring.specs.Logs.{has_greeted, answers_since, lfs_since}
 use Rattle.run_rules.specs.Told.{replies_after}
 use Rattle.run_rules.specs.Work.{Task, Outcome, tells}
@@ -24,25 +24,6 @@ use Rattle.board_rules.proofs.Keeping.{told_is}
 use Rattle.board_rules.proofs.Limits.{few_answered}
 use Rattle.board_rules.proofs.Lined.{all_answer, all_greet_none}
 use Rattle.board_journal.proofs.LinkSteps.{same_answered}
-
-abbrev pub banners_in : List Reply → ℕ
-banners_in rs = count_by is_banner rs
-
-pub banners_on : (rs ss : List Reply) → banners_in (rs ++ ss) ≡ banners_in rs + banners_in ss
-banners_on rs ss = sum_by-append (λ r. cond (is_banner r) 1 0) rs ss
-
-pub banners_first : (r : Reply) (rs : List Reply) → banners_in (r ∷ rs) ≡ cond (is_banner r) 1 0 + banners_in rs
-banners_first r rs = sum_by-cons (λ s. cond (is_banner s) 1 0) r rs
-
--- a report is no Banner
-banners_without : (rs : List Reply) → banners_in (without_reports rs) ≡ banners_in rs
-banners_without [] = refl
-banners_without (replies.Report r ∷ rs) = let m = banners_without rs in let a = banners_first (replies.Report r) rs in omega arith
-banners_without (r ∷ rs) = let m = banners_without rs in let a = banners_first r rs in let b = banners_first r (without_reports rs) in omega arith
-
-banner_is_none : (r : Reply) → is_banner r ≡ true → is_answer r ≡ false
-banner_is_none replies.Banner e = refl
-banner_is_none r e = absurd cc
 
 -- one Banner was answered, or is left to tell
 pub banners_are : (first : Opening) (h : Journal) → Conducted first h → banners_in (answered_of h) + banners_in (tells (left_of first h)) ≡ 1
@@ -84,7 +65,7 @@ told_since first r h c may s = by_banner (is_banner r) refl
         let none = ap lfs_in unread in
         let lines = answers_are first h c in
         let a = answers_on (answered_of h) (r ∷ []) in let b = answers_first r [] in
-        let d = ap (λ (t : Bool). cond {A = ℕ} t 1 0) (banner_is_none r is) in
+        let d = ap (λ (t : Bool). cond {A = ℕ} t 1 0) (no_answer r is) in
         ((λ e. absurd (omega (arith, m, n, t, e))), rw is (omega (arith, none, lines, a, b, d)), rw is (sym none))
     by_banner false is =
         let m = banners_on (answered_of h) (r ∷ []) in

@@ -1,5 +1,5 @@
 -- How many lines a course leaves without an answer, and how many Banners it tells.
-use Rattle.std.proofs.Common.{◌≡◌, ℕ, suc, ◌+◌, ◌≤◌, Bool, true, false, cond, List, [], ◌∷◌, ◌++◌, length, map, take, drop, length-append, length-take-le, refl, sym, ap, ◌∙◌, arith}
+use Rattle.std.proofs.Common.{◌≡◌, ℕ, suc, ◌+◌, ◌≤◌, Bool, true, false, List, [], ◌∷◌, ◌++◌, length, map, take, drop, length-append, length-take-le, refl, sym, ap, ◌∙◌, arith}
 use Rattle.std.proofs.lemmas.List.{length-map, take-append-drop}
 use Rattle.run_rules.specs.declared.State.{State}
 use Rattle.run_rules.specs.Lines.{whole_lines}
@@ -11,12 +11,11 @@ use Rattle.run_texts.specs.Sent.{Sent, waiting_in, behind_reset}
 use Rattle.run_texts.specs.Sent.Sent.{a_text, a_stop}
 use Rattle.run_texts.specs.SoFar.{LeadsTo}
 use Rattle.run_texts.specs.Told.{told_in, told_at_reset}
-use Rattle.run_texts.proofs.Quiet.{Quiet, opens, line_quiet}
-use Rattle.status_report.specs.Answering.{answers_in, is_banner}
-use Rattle.status_report.specs.declared.Reply.{Reply}
-use Rattle.status_report.specs.declared.Reply.TheVariants as replies
+use Rattle.run_texts.proofs.Banners.{quiet_none}
+use Rattle.run_texts.proofs.Quiet.{line_quiet}
+use Rattle.status_report.specs.Answering.{answers_in, banners_in}
+use Rattle.status_report.proofs.Banners.{banners_on}
 use Rattle.step_line.specs.Logs.{NewestFirst}
-use Rattle.host_journal.specs.Links.{banners_in}
 use Rattle.board_journal.specs.Steps.{answered_of}
 use Rattle.board_epochs.specs.Epochs.{Closed, AreClosed, opening_behind, point_of, reset_of, ticks_made}
 use Rattle.epoch_courses.specs.Course.{closed_course, made_at_halt, passed_at_reset}
@@ -26,7 +25,6 @@ use Rattle.epoch_courses.proofs.Halted.{known_made}
 use Rattle.epoch_links.specs.Drops.{dropped_by, lines_among}
 use Rattle.epoch_law.specs.Ran.{lost_in}
 use Rattle.epoch_law.proofs.Dropping.{NoResets, answered_there}
-use Rattle.run_texts.proofs.Banners.{banners_first, banners_on}
 
 -- ---- by the numbers of lines
 
@@ -170,14 +168,6 @@ resets_passed (a_line o ∷ ps) = resets_passed ps
 resets_passed (a_broken o ∷ ps) = resets_passed ps
 resets_passed (a_cut k at ∷ ps) = resets_passed ps
 resets_passed (a_reset r ∷ ps) = resets_passed ps + 1
-
-not_banner : (r : Reply) → opens r ≡ false → ◌≡◌ {A = ℕ} (cond (is_banner r) 1 0) 0
-not_banner replies.Banner e = absurd cc
-not_banner _ e = refl
-
-quiet_none : (rs : List Reply) → Quiet rs → banners_in rs ≡ 0
-quiet_none [] quiet = refl
-quiet_none (r ∷ rs) quiet = omega (arith, banners_first r rs, not_banner r quiet.0, quiet_none rs quiet.1)
 
 reset_banner : (r : Reset) (alarm locked : Bool) → r.alarm ≡ alarm → r.locked ≡ locked → banners_in (told_at_reset r) ≡ 1
 reset_banner r true true a l = rw (a, l) refl

@@ -5,14 +5,13 @@ use Rattle.std.proofs.lemmas.List.{length-append, length-map, length-reverse}
 use Rattle.std.proofs.lemmas.List.Sums.{sum_by-cons, sum_by-append}
 use Rattle.outside.specs.Causes.{SourceState, SinkState}
 use Rattle.run_rules.specs.Lines.{lines_of}
-use Rattle.status_report.specs.Answering.{is_banner, without_reports}
+use Rattle.status_report.specs.Answering.{banners_in, without_reports}
 use Rattle.status_report.specs.declared.Reply.{Reply}
 use Rattle.status_report.specs.declared.Reply.TheVariants.{Banner, Bye}
+use Rattle.status_report.proofs.Banners.{banners_first, banners_on, banners_without}
 use Rattle.host_journal.specs.Jobs.{is_reset, served, marks_at, marks_behind, sent_text, resets_scanned}
-use Rattle.host_journal.specs.Links.{banners_in}
 use Rattle.stream_host.specs.Ran.{HostEnd, HostRan, is_sent_out}
 use Rattle.epoch_law.specs.Ran.{HostDid}
-use Rattle.run_texts.proofs.Banners.{reports_no_banners, banners_first}
 use Rattle.epoch_links.proofs.Forgetting.{length-ended}
 
 -- ---- the marks are as many as the resets
@@ -41,10 +40,10 @@ marks_count bytes (line ∷ lines) =
 -- where a course was told behind the banner, and Bye behind it, a Banner of each of its resets was got, and the first
 pub banners_got : (rs told : List Reply) → without_reports rs ≡ Banner ∷ (told ++ Bye ∷ []) → banners_in rs ≡ banners_in told + 1
 banners_got rs told is =
-    let plain = reports_no_banners rs in
+    let plain = banners_without rs in
     let all = ap banners_in is in
     let first : banners_in (Banner ∷ (told ++ Bye ∷ [])) ≡ 1 + banners_in (told ++ Bye ∷ []) = banners_first Banner (told ++ Bye ∷ []) in
-    let both : banners_in (told ++ Bye ∷ []) ≡ banners_in told + 0 = sum_by-append (λ (r : Reply). cond (is_banner r) 1 0) told (Bye ∷ []) in
+    let both : banners_in (told ++ Bye ∷ []) ≡ banners_in told + 0 = banners_on told (Bye ∷ []) in
     omega (arith, plain, all, first, both)
 
 -- so each reset has one, behind the first

@@ -13,7 +13,7 @@ use Rattle.motion_ring.specs.Sides.{published_in, ticks_published}
 use Rattle.motion_ring.specs.declared.lists.Sent.{Sent}
 use Rattle.pulse_engine.specs.Logs.{PieceLog, pieces_of, counted, uncounted, halts_of}
 use Rattle.step_line.specs.declared.Piece.{Piece}
-use Rattle.host_journal.specs.Links.{banners_in}
+use Rattle.status_report.specs.Answering.{banners_in}
 use Rattle.run_law.specs.Changes.{AreAskedIn}
 use Rattle.run_law.specs.Flags.{AreTaken}
 use Rattle.epoch_effects.specs.Words.{WordsTaken}

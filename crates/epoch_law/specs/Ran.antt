@@ -17,14 +17,13 @@ use Rattle.run_texts.specs.Sent.{sent_of}
 use Rattle.run_texts.specs.SoFar.{LeadsTo}
 use Rattle.run_texts.specs.Told.{IsTold, told_in}
 use Rattle.serial_ring.specs.Marks.{Mark}
-use Rattle.status_report.specs.Answering.{without_reports}
+use Rattle.status_report.specs.Answering.{without_reports, banners_in}
 use Rattle.status_report.specs.declared.Reply.{Reply}
 use Rattle.status_report.specs.declared.Reply.TheVariants.{Banner, Bye}
 use Rattle.step_line.specs.Logs.{NewestFirst}
 use Rattle.step_line.specs.declared.Piece.{Piece}
 use Rattle.step_line.specs.declared.Piece.TheVariants as pieces_as
 use Rattle.step_line.specs.declared.Record.{Record}
-use Rattle.host_journal.specs.Links.{banners_in}
 use Rattle.stream_host.specs.Ran.{HostEnd, HostRan, is_sent_out}
 use Rattle.step_line.specs.Pieces.{ticks_of}
 use Rattle.epoch_courses.specs.Drives.{Driven, AreDriven}

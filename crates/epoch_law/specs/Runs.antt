@@ -19,8 +19,8 @@ use Rattle.run_texts.specs.Fronts.{BeginsWith}
 use Rattle.run_texts.specs.Parts.{parts_of}
 use Rattle.run_texts.specs.Points.{Point, opening}
 use Rattle.run_texts.specs.Sent.{Sent, sent_of}
-use Rattle.run_texts.specs.Told.{told_in, banners_in, has_alarm}
-use Rattle.status_report.specs.Answering.{answers_in, without_reports}
+use Rattle.run_texts.specs.Told.{told_in, has_alarm}
+use Rattle.status_report.specs.Answering.{answers_in, without_reports, banners_in}
 use Rattle.status_report.specs.declared.Reply.{Reply}
 use Rattle.status_report.specs.declared.Reply.TheVariants.{Banner, Bye}
 use Rattle.step_line.specs.Ending.{IsEnded}

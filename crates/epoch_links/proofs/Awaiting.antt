@@ -2,15 +2,15 @@
 use Rattle.std.proofs.Common.{◌≡◌, ◌⊎◌, inl, inr, ℕ, ◌+◌, ◌≤◌, ◌&&◌, Bool, true, false, cond, List, [], ◌∷◌, ◌++◌, length, length-append, append-nil, refl, sym, ap, ◌∙◌, arith}
 use Rattle.serial_ring.specs.Lists.{has_banner}
 use Rattle.serial_ring.specs.Marks.{latest}
-use Rattle.status_report.specs.Answering.{is_banner}
+use Rattle.status_report.specs.Answering.{is_banner, banners_in}
 use Rattle.status_report.specs.declared.Reply.{Reply}
-use Rattle.host_journal.specs.Links.{banners_in}
+use Rattle.status_report.proofs.Banners.{banners_first}
 use Rattle.host_journal.specs.Steps.{HostLog, Journal, port_log, stored_in, stored_at_banners, latest_got, stored_of, marks_of, banners_of, to_store, is_shut, has_limit, cut_of, raw_of}
 use Rattle.host_journal.specs.Steps.PortStep.{marked, got}
 use Rattle.host_journal.specs.Steps.Step.{at_port}
 use Rattle.stream_host.specs.Conduct.{Conducted}
 use Rattle.stream_host.proofs.Epochs.{IsSteady, Stands, epoch_is, begins_at, none_banner, pending_busy}
-use Rattle.stream_host.proofs.Raised.{banners_first, rising_is, calm_shut}
+use Rattle.stream_host.proofs.Raised.{rising_is, calm_shut}
 use Rattle.stream_host.proofs.Raising.{none_due_shut}
 use Rattle.epoch_links.specs.Links.{AwaitsBanners, HasBanners}
 use Rattle.run_texts.specs.Sent.{sent_of}

@@ -4,7 +4,7 @@ use Rattle.std.specs.List.{AllByRecursion}
 use Rattle.std.proofs.lemmas.List.{reverse-append, reverse-reverse}
 use Rattle.run_rules.specs.declared.State.{State}
 use Rattle.serial_ring.specs.Logs as link
-use Rattle.status_report.specs.Answering.{answers_in}
+use Rattle.status_report.specs.Answering.{answers_in, banners_in}
 use Rattle.status_report.specs.declared.Reply.{Reply}
 use Rattle.status_report.proofs.Answered.{answers_on}
 use Rattle.step_line.specs.Logs.{NewestFirst}
@@ -15,7 +15,6 @@ use Rattle.board_rules.specs.Conduct.{Conducted}
 use Rattle.board_journal.specs.Ports.{BoardLog, taken_in, known_in, link_steps}
 use Rattle.board_journal.specs.Openings.{Opening}
 use Rattle.board_journal.specs.Steps.{Journal, port_log, taken_of, answered_of}
-use Rattle.board_rules.proofs.Greeting.{banners_in}
 use Rattle.board_epochs.specs.Epochs.{Closed, Epochs, AreClosed, AreEpochs, closed_log, log_behind, log_of, opening_behind, last_line}
 use Rattle.board_epochs.specs.Epochs.Epochs.{goes, resets}
 use Rattle.board_epochs.proofs.Onto.{steps_on, taken_on}

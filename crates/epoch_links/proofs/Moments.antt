@@ -5,9 +5,10 @@ use Rattle.run_rules.specs.declared.State.{State}
 use Rattle.serial_ring.specs.declared.view.LinkStep.{LinkStep}
 use Rattle.serial_ring.specs.declared.view.LinkStep.TheVariants.{Took, Marked, Answered}
 use Rattle.serial_ring.specs.Logs as link
-use Rattle.status_report.specs.Answering.{is_banner, answers_in, lfs_in}
+use Rattle.status_report.specs.Answering.{is_banner, banners_in, answers_in, lfs_in}
 use Rattle.status_report.specs.declared.Reply.TheVariants as replies
 use Rattle.status_report.proofs.Answered.{answers_first, answers_on}
+use Rattle.status_report.proofs.Banners.{banners_first, banners_on}
 use Rattle.step_line.specs.Logs.{NewestFirst}
 use Rattle.board_rules.specs.Conduct.{Conducted}
 use Rattle.board_journal.specs.Openings.{Opening}
@@ -16,7 +17,7 @@ use Rattle.board_journal.specs.Ports.PortStep.{took, found_mark, answered, repor
 use Rattle.board_journal.specs.Steps.{Journal, port_log, answered_of}
 use Rattle.board_journal.specs.Steps.Step.{at_port, turned}
 use Rattle.board_rules.proofs.Answering.{answers_are}
-use Rattle.board_rules.proofs.Greeting.{banners_in, banners_on, banners_first, banners_are, since}
+use Rattle.board_rules.proofs.Greeting.{banners_are, since}
 use Rattle.board_journal.proofs.LinkSteps.{same_taken}
 use Rattle.board_epochs.specs.Epochs.{Closed, AreClosed, closed_log, log_behind, opening_behind, last_line}
 use Rattle.board_epochs.specs.Work.{Work, Works, stage_of}

@@ -1,13 +1,13 @@
 -- What a host owes its port, and what the port promises.
 use Rattle.std.specs.Prelude.{◌≡◌, ℕ, ◌+◌, ◌^◌, ◌≤◌, ◌<◌, Bool, true, false, cond, nat_eq, List, [], ◌∷◌, ◌++◌, length, reverse}
 use Rattle.code_table.specs.Tables.{query}
-use Rattle.status_report.specs.Answering.{lfs_in}
+use Rattle.status_report.specs.Answering.{lfs_in, banners_in}
 use Rattle.status_report.specs.declared.Reply.{Reply}
 use Rattle.serial_ring.specs.declared.view.LinkStep.{LinkStep}
 use Rattle.serial_ring.specs.Logs.{AnswersWell, taken_in, marked_in, answered_in, greeted_in, taken_at_banners}
 use Rattle.serial_ring.specs.Marks.{Mark, AreMarks}
 use Rattle.serial_ring.specs.Lists.{AreAtMost, answers_behind_mark}
-use Rattle.host_journal.specs.Links.{behind_lf, behind_mark, banners_in, AreGreetings}
+use Rattle.host_journal.specs.Links.{behind_lf, behind_mark, AreGreetings}
 use Rattle.host_journal.specs.Steps.{HostLog, stored_in, stored_at_banners, latest_got, marks_in, marks_at_banners, is_shut_in}
 use Rattle.host_journal.specs.Steps.PortStep.{raised}
 

@@ -14,9 +14,8 @@ use Rattle.host_journal.specs.declared.asking.Asking.{Asking}
 use Rattle.host_journal.specs.declared.asking.Asking.TheVariants.{Nothing, Awaits, HasOne, AsksAgain}
 use Rattle.host_journal.specs.declared.Stop.TheVariants.{End, LongLine, TooLarge, Alarm}
 use Rattle.code_table.specs.Tables.{query}
-use Rattle.status_report.specs.Answering.{answers_in, is_banner, is_bye, is_report}
+use Rattle.status_report.specs.Answering.{answers_in, is_banner, banners_in, is_bye, is_report}
 use Rattle.host_journal.specs.Jobs.{resume, is_reset, lacks_banner, is_long, sent_text, served}
-use Rattle.host_journal.specs.Links.{banners_in}
 use Rattle.host_journal.specs.Holding.{held_after, pauses, resumed_after}
 
 -- what a host does at its port

@@ -4,15 +4,15 @@ use Rattle.std.proofs.Common.{◌≡◌, ℕ, ◌+◌, ◌≤◌, ◌<◌, ◌�
 use Rattle.outside.specs.declared.Turn.{Turn}
 use Rattle.outside.specs.declared.Turn.TheVariants.{Did, Wait, Done}
 use Rattle.status_report.specs.declared.Reply.{Reply}
-use Rattle.status_report.specs.Answering.{is_answer, answers_in, is_report, is_banner}
+use Rattle.status_report.specs.Answering.{is_answer, answers_in, is_report, is_banner, banners_in}
 use Rattle.status_report.proofs.Answered.{answers_first}
+use Rattle.status_report.proofs.Banners.{banners_first, banners_on}
 use Rattle.planner_runs.specs.declared.Action.{Action}
 use Rattle.planner_runs.specs.declared.Action.TheVariants.{Add, Mark, Rest}
 use Rattle.step_line.specs.Logs.{NewestFirst}
 use Rattle.run_rules.specs.declared.State.{State}
 use Rattle.run_rules.specs.Work.{Task, tells}
 use Rattle.run_rules.specs.Work.Task.{tell}
-use Rattle.host_journal.specs.Links.{banners_in}
 use Rattle.board_journal.specs.Openings.{Opening}
 use Rattle.board_journal.specs.Ports.{BoardLog, asks_report, asks_reset, answered_in}
 use Rattle.board_journal.specs.Ports.PortStep.{took, answered, reported, took_exec}
@@ -21,7 +21,7 @@ use Rattle.board_journal.specs.Steps.Step.{at_port, began, did, made_end, evened
 use Rattle.board_rules.specs.Turns.{is_greeted, owes_report, requests_taken, changes_taken, by_turn}
 use Rattle.board_rules.specs.Conduct.{Conducted, IsNextTask, MayTell}
 use Rattle.board_rules.proofs.Dropping.{tells_kept}
-use Rattle.board_rules.proofs.Greeting.{banners_on, banners_first, banners_are}
+use Rattle.board_rules.proofs.Greeting.{banners_are}
 use Rattle.board_journal.proofs.LinkSteps.{answered_back}
 use Rattle.board_rules.proofs.Opening.{tells_telling, greets_unanswered}
 use Rattle.board_epochs.specs.Epochs.{Closed, Epochs, AreClosed, AreEpochs, closed_log, log_behind, log_of, log_on, opening_behind}

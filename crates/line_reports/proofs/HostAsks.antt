@@ -7,6 +7,7 @@ use Rattle.code_table.specs.Tables.{query}
 use Rattle.status_report.specs.declared.Reply.{Reply}
 use Rattle.status_report.specs.Answering.{lfs_in, is_answer, answers_in, is_banner}
 use Rattle.status_report.proofs.Answered.{lfs_on, answers_on, answers_first}
+use Rattle.status_report.proofs.Banners.{banners_first}
 use Rattle.serial_ring.specs.Lists.{has_banner, answers_behind_mark}
 use Rattle.serial_ring.specs.Marks.{latest}
 use Rattle.run_rules.specs.Lines.{lines_of}
@@ -21,7 +22,7 @@ use Rattle.stream_host.specs.Conduct.{Conducted, MayMark, MayRaise, MayScanNext,
 use Rattle.stream_host.proofs.Raising.{served_nil, served_on, none_at_lf, one_more}
 use Rattle.stream_host.proofs.Keeping.{IsCut, cut_is}
 use Rattle.stream_host.proofs.Links.{lfs_linked}
-use Rattle.stream_host.proofs.Raised.{IsMarked, banners_first, banners_low, free_by, marks_are, one_due, waiting_is}
+use Rattle.stream_host.proofs.Raised.{IsMarked, banners_low, free_by, marks_are, one_due, waiting_is}
 use Rattle.stream_host.proofs.Cutting.{all_now}
 use Rattle.stream_host.proofs.Epochs.{IsSteady, IsPending, Stands, begins_at, both_true, some_banner, none_banner, marks_between, earlier_in, answers_split, begins_none, epoch_is}
 use Rattle.line_reports.specs.PerLine.{resets_with, lines_with, resets_behind, lines_behind, queries_at, queries_in}

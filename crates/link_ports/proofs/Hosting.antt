@@ -6,17 +6,17 @@ use Rattle.status_report.specs.declared.Reply.{Reply}
 use Rattle.realtime_flags.specs.declared.words.Flag.{Flag}
 use Rattle.realtime_flags.specs.declared.words.Raise.{Raise}
 use Rattle.realtime_flags.specs.Bytes.{flag_of_byte}
-use Rattle.status_report.specs.Answering.{lfs_in, is_banner}
+use Rattle.status_report.specs.Answering.{lfs_in, is_banner, banners_in}
+use Rattle.status_report.proofs.Banners.{banners_first}
 use Rattle.serial_ring.specs.Marks.{Mark, Follows, last_of}
 use Rattle.serial_ring.specs.Lists.{answers_behind_mark, with_greeting, AnswersStored}
 use Rattle.serial_ring.specs.Lists as link
 use Rattle.host_journal.specs.Links as host
-use Rattle.host_journal.specs.Links.{banners_in, AreGreetings}
+use Rattle.host_journal.specs.Links.{AreGreetings}
 use Rattle.host_journal.specs.Ports.{TakesByte, AreGreeted, SeemsFull, AnswersLines}
 use Rattle.host_journal.specs.Raises.{raised_to, raises_in}
 use Rattle.host_journal.specs.Steps.{HostLog, stored_in, latest_got, marks_in, marks_at_banners}
 use Rattle.host_journal.specs.Steps.PortStep.{stored, dropped, marked, raised, got}
-use Rattle.stream_host.proofs.Raised.{banners_first}
 use Rattle.link_ports.specs.Hosts.{HostDid, LooksForRoom}
 use Rattle.link_ports.proofs.Lists.{reverse_on, fewer_behind, since_drops, same_lines_behind}
 

@@ -3,17 +3,16 @@ use Rattle.std.proofs.Common.{◌≡◌, ℕ, ◌+◌, ◌^◌, ◌≤◌, ◌<�
 use Rattle.code_table.specs.Tables.{query}
 use Rattle.code_table.specs.declared.flags.Exec.{Exec}
 use Rattle.status_report.specs.declared.Reply.{Reply}
-use Rattle.status_report.specs.Answering.{is_answer, is_banner}
+use Rattle.status_report.specs.Answering.{is_answer, is_banner, banners_in}
+use Rattle.status_report.proofs.Banners.{banners_first, no_answer}
 use Rattle.serial_ring.specs.Lists.{has_banner, answers_behind_mark}
 use Rattle.realtime_flags.specs.declared.words.Flag.{Flag}
 use Rattle.realtime_flags.specs.declared.words.Flag.TheVariants as flags
 use Rattle.realtime_flags.specs.Bits.{is_flag, is_up, report_flag}
 use Rattle.realtime_flags.specs.Bytes.{flag_of_byte}
 use Rattle.realtime_flags.proofs.Bits.{raised_up, same_flag}
-use Rattle.host_journal.specs.Links.{banners_in}
-use Rattle.stream_host.proofs.Epochs.{no_answer, some_banner, none_banner}
+use Rattle.stream_host.proofs.Epochs.{some_banner, none_banner}
 use Rattle.stream_host.proofs.Queries.{asks, only_query}
-use Rattle.stream_host.proofs.Raised.{banners_first}
 use Rattle.list_ports.specs.Asked.{AsksPass, epoch_behind, is_at, report_is_up}
 
 -- ---- moments

@@ -9,7 +9,8 @@ use Rattle.std.proofs.lemmas.Grind.{reverse_onto}
 use Rattle.shared_rings.proofs.Placed.{by_bool}
 use Rattle.status_report.specs.declared.Reply.{Reply}
 use Rattle.status_report.specs.declared.Reply.TheVariants as replies
-use Rattle.status_report.specs.Answering.{lfs_in, is_answer, answers_in, is_banner}
+use Rattle.status_report.specs.Answering.{lfs_in, is_answer, answers_in, is_banner, banners_in}
+use Rattle.status_report.proofs.Banners.{banners_first, banners_on, no_answer}
 use Rattle.serial_ring.specs.declared.view.LinkStep.{LinkStep}
 use Rattle.serial_ring.specs.declared.view.LinkStep.TheVariants.{Took, Marked, Answered}
 use Rattle.serial_ring.specs.Marks.{Mark, last_of}
@@ -18,13 +19,13 @@ use Rattle.serial_ring.specs.Logs as link
 use Rattle.serial_ring.specs.Logs.{AnswersWell, MayAnswer, greeted_in, next_mark, answers_since, lfs_since}
 use Rattle.serial_ring.proofs.Marking.{more_marks, past_below}
 use Rattle.serial_ring.proofs.Logs.{counts, greeted_on, well_on, taken_on, answers_stored}
-use Rattle.host_journal.specs.Links.{behind_lf, banners_in, AreGreetings}
+use Rattle.host_journal.specs.Links.{behind_lf, AreGreetings}
 use Rattle.host_journal.specs.Ports.{AreGreeted, SeemsFull, AnswersLines}
 use Rattle.host_journal.specs.Steps.{HostLog, stored_in, got_in, latest_got, marks_in, marks_at_banners}
 use Rattle.host_journal.specs.Steps.PortStep.{got}
 use Rattle.stream_host.proofs.Greeting.{answered_stored}
 use Rattle.stream_host.proofs.Links.{behind_taken}
-use Rattle.stream_host.proofs.Raised.{AreStored, banners_first}
+use Rattle.stream_host.proofs.Raised.{AreStored}
 use Rattle.board_journal.specs.Ports as board
 use Rattle.board_journal.proofs.LinkSteps.{taken_back, answered_back, same_taken}
 use Rattle.list_ports.specs.Joining.{BytesPass, RepliesPass, MarksPass}
@@ -111,7 +112,7 @@ module _ (waiting : List Reply) (host : HostLog) (l : board.BoardLog) (q : Repli
 
   pub banners_are : length (greeted_in (board.link_steps l)) ≡ banners_in waiting + banners_in (latest_got host)
   banners_are =
-      greeted_count (board.link_steps l) ∙ (ap banners_in answered_is ∙ (sum_by-append (λ (r : Reply). cond (is_banner r) 1 0) (reverse waiting) (latest_got host)
+      greeted_count (board.link_steps l) ∙ (ap banners_in answered_is ∙ (banners_on (reverse waiting) (latest_got host)
       ∙ ap (λ n. n + banners_in (latest_got host)) (same_banners waiting)))
 
 module _ (ws : List ℕ) (closed shut_is over : Bool) (waiting : List Reply) (count : ℕ) (mark : Mark) (host : HostLog) (l : board.BoardLog)
@@ -201,7 +202,7 @@ module _ (count : ℕ) (mark : Mark) (waiting : List Reply) (bytes marks : List 
   reply_answered r may = record { count_is = m.count_is; number_is = m.number_is; bytes_is = m.bytes_is; within = m.within; rising = m.rising; loads = m.loads; well = (may, m.well); greeted = greeted }
     where
       more : banners_in (waiting ++ r ∷ []) ≡ cond (is_banner r) 1 0 + banners_in waiting
-      more = let a = sum_by-append (λ (s : Reply). cond (is_banner s) 1 0) waiting (r ∷ []) in let f = banners_first r [] in omega arith
+      more = let a = banners_on waiting (r ∷ []) in let f = banners_first r [] in omega arith
 
       by_banner : (t : Bool) (n : ℕ) → n ≡ cond t 1 0 + banners_in waiting → AreGreetings at_banners (drop n (cond t (next_mark steps ∷ greeted_in steps) (greeted_in steps)))
       by_banner true n is = let one : n ≡ suc (banners_in waiting) = omega arith in subst (λ k. AreGreetings at_banners (drop k (next_mark steps ∷ greeted_in steps))) (sym one) m.greeted
@@ -229,11 +230,6 @@ answers_first r rs = sum_by-cons (λ (s : Reply). cond (is_answer s) 1 0) r rs
 lfs_first : (b : ℕ) (bytes : List ℕ) → lfs_in (b ∷ bytes) ≡ cond (nat_eq b 10) 1 0 + lfs_in bytes
 lfs_first b bytes = sum_by-cons (λ (c : ℕ). cond (nat_eq c 10) 1 0) b bytes
 
-banner_is_none : (r : Reply) → is_banner r ≡ true → is_answer r ≡ false
-banner_is_none replies.Ok e = absurd cc
-banner_is_none (replies.Error n) e = absurd cc
-banner_is_none _ e = refl
-
 total : (l : List LinkStep) → AnswersWell l → answers_in (link.answered_in l) + lfs_since l ≤ lfs_in (link.taken_in l) + answers_since l
 total [] w = omega arith
 total (Took b ∷ l) w = let t = total l w in let f = lfs_first b (link.taken_in l) in omega arith
@@ -243,7 +239,7 @@ total (Answered r ∷ l) w =
     let f = answers_first r (link.answered_in l) in
     let c = (counts l w.1).fewer in
     by_bool (is_banner r)
-    (λ b. let no = banner_is_none r b in let g = ap (λ (x : Bool). cond {A = ℕ} x 1 0) no in rw b (omega arith))
+    (λ b. let no = no_answer r b in let g = ap (λ (x : Bool). cond {A = ℕ} x 1 0) no in rw b (omega arith))
     (λ b. rw b (omega arith))
 
 same_answers : (l : board.BoardLog) → answers_in (board.answered_in l) ≡ answers_in (link.answered_in (board.link_steps l))

@@ -1,17 +1,16 @@
 -- The moments of Banners through the calls: no byte is taken before it is stored.
 use Rattle.std.proofs.Common.{◌≡◌, ℕ, zero, suc, ◌+◌, ◌-◌, ◌≤◌, ◌<◌, Bool, true, false, cond, List, [], ◌∷◌, ◌++◌, length, drop, refl, sym, ap, ◌∙◌, subst, arith, length-drop}
 use Rattle.std.specs.List.{AllByRecursion}
-use Rattle.std.proofs.lemmas.List.Sums.{sum_by-append, sum_by-cons}
 use Rattle.shared_rings.proofs.Placed.{by_bool}
 use Rattle.status_report.specs.declared.Reply.{Reply}
 use Rattle.status_report.specs.declared.Reply.TheVariants as replies
-use Rattle.status_report.specs.Answering.{is_banner}
+use Rattle.status_report.specs.Answering.{is_banner, banners_in}
+use Rattle.status_report.proofs.Banners.{banners_first, banners_on}
 use Rattle.serial_ring.specs.declared.view.LinkStep.{LinkStep}
 use Rattle.serial_ring.specs.declared.view.LinkStep.TheVariants.{Took, Marked, Answered}
 use Rattle.serial_ring.specs.Lists.{AreAtMost}
 use Rattle.serial_ring.specs.Logs as link
 use Rattle.serial_ring.specs.Logs.{taken_at_banners}
-use Rattle.host_journal.specs.Links.{banners_in}
 use Rattle.host_journal.specs.Steps.{HostLog, stored_in, stored_at_banners, got_in}
 use Rattle.host_journal.specs.Steps.PortStep.{got}
 use Rattle.board_journal.specs.Ports as board
@@ -67,12 +66,6 @@ moments_below (Answered r ∷ l) = by_banner (is_banner r) (moments_below l)
     by_banner : (t : Bool) → AllByRecursion (λ x. x ≤ length (link.taken_in l)) (taken_at_banners l) → AllByRecursion (λ x. x ≤ length (link.taken_in l)) (cond t (length (link.taken_in l) ∷ taken_at_banners l) (taken_at_banners l))
     by_banner true i = (omega arith, i)
     by_banner false i = i
-
-banners_on : (rs ss : List Reply) → banners_in (rs ++ ss) ≡ banners_in rs + banners_in ss
-banners_on rs ss = sum_by-append (λ r. cond (is_banner r) 1 0) rs ss
-
-banners_first : (r : Reply) (rs : List Reply) → banners_in (r ∷ rs) ≡ cond (is_banner r) 1 0 + banners_in rs
-banners_first r rs = sum_by-cons (λ (s : Reply). cond (is_banner s) 1 0) r rs
 
 one_more : (r : Reply) (n : ℕ) (ns : List ℕ) (rs : List Reply) → length ns ≡ banners_in rs → length (cond (is_banner r) (n ∷ ns) ns) ≡ banners_in (rs ++ r ∷ [])
 one_more r n ns rs e = let a = banners_on rs (r ∷ []) in let b = banners_first r [] in by_banner (is_banner r) (omega arith)

@@ -7,8 +7,9 @@ use Rattle.std.proofs.lemmas.List.Sums.{sum_by-append}
 use Rattle.std.proofs.lemmas.Nat.Bits.{bit_at_and, bit_at-lt}
 use Rattle.code_table.specs.declared.flags.Exec.{Exec}
 use Rattle.status_report.specs.declared.Reply.{Reply}
-use Rattle.status_report.specs.Answering.{lfs_in, is_answer, answers_in, is_banner}
+use Rattle.status_report.specs.Answering.{lfs_in, is_answer, answers_in, is_banner, banners_in}
 use Rattle.status_report.proofs.Answered.{answers_first}
+use Rattle.status_report.proofs.Banners.{banners_first, banners_on}
 use Rattle.realtime_flags.specs.declared.words.Flag.{Flag}
 use Rattle.realtime_flags.specs.declared.words.Flag.TheVariants as flags
 use Rattle.realtime_flags.specs.declared.words.Raise.{Raise}
@@ -22,13 +23,12 @@ use Rattle.serial_ring.specs.Logs as link
 use Rattle.serial_ring.specs.Logs.{greeted_in, answers_since, lfs_since}
 use Rattle.serial_ring.proofs.Logs.{counts}
 use Rattle.host_journal.specs.Jobs.{is_reset}
-use Rattle.host_journal.specs.Links.{banners_in}
 use Rattle.host_journal.specs.Raises.{raised_to, raises_in}
 use Rattle.host_journal.specs.Steps.{HostLog, stored_in, got_in, latest_got, marks_in, marks_at_banners, resets_in}
 use Rattle.host_journal.specs.Steps.PortStep.{raised}
 use Rattle.stream_host.proofs.Epochs.{some_banner}
 use Rattle.stream_host.proofs.Greeting.{answered_stored}
-use Rattle.stream_host.proofs.Raised.{AreStored, banners_first, low_mark, last_greeted}
+use Rattle.stream_host.proofs.Raised.{AreStored, low_mark, last_greeted}
 use Rattle.board_journal.specs.Ports.{BoardLog, taken_in, answered_in, link_steps, asks_reset}
 use Rattle.board_journal.specs.Ports.PortStep.{took_exec}
 use Rattle.board_journal.specs.Takes.{takes_in}
@@ -125,9 +125,6 @@ more_answers (r ∷ more) rs few =
     let i = more_answers more rs (begins_less r more rs few) in
     let a = answers_first r more in
     let n = ap (λ x. cond {A = ℕ} x 0 (cond (is_answer r) 1 0 + answers_behind_mark (more ++ rs))) (none_begins r more rs few) in omega arith
-
-banners_on : (rs ss : List Reply) → banners_in (rs ++ ss) ≡ banners_in rs + banners_in ss
-banners_on rs ss = sum_by-append (λ (r : Reply). cond (is_banner r) 1 0) rs ss
 
 module _ (ws : List ℕ) (waiting : List Reply) (count : ℕ) (mark : Mark) (host : HostLog) (l : BoardLog) (fifo : stored_in host ≡ taken_in l ++ ws)
     (q : RepliesPass waiting (answered_in l) (got_in host) (taken_in l)) (m : MarksPass count mark waiting (stored_in host) (marks_in host) (marks_at_banners host) (link_steps l)) (quiet : AwaitsNoReply host) where

@@ -18,9 +18,9 @@ use Rattle.pulse_engine.specs.Logs.PieceEvent.{asked as stop_asked, ticked, halt
 use Rattle.pulse_engine.specs.Logs.PieceEvent.{got as piece_came}
 use Rattle.status_report.specs.declared.Reply.{Reply}
 use Rattle.status_report.specs.declared.Reply.TheVariants as replies
+use Rattle.status_report.specs.Answering.{banners_in}
 use Rattle.host_journal.specs.Ports.{TakesByte, TakesRaise, SeemsFull, AnswersLines, PortsAgree}
 use Rattle.code_table.specs.Tables.{query}
-use Rattle.host_journal.specs.Links.{banners_in}
 use Rattle.host_journal.specs.Steps.{stored_in, stored_at_banners, got_in, latest_got, marks_in, marks_at_banners, is_shut_in}
 use Rattle.serial_ring.specs.Logs as link
 use Rattle.serial_ring.specs.Logs.{greeted_in, taken_at_banners, answers_since, lfs_since}

@@ -2,12 +2,11 @@
 use Rattle.std.specs.Prelude.{◌≡◌, ℕ, ◌+◌, ◌-◌, ◌≤◌, ◌⊎◌, Bool, true, false, not, ◌&&◌, cond, nat_eq, List, [], ◌∷◌, length, drop}
 use Rattle.code_table.specs.Tables.{query}
 use Rattle.status_report.specs.declared.Reply.{Reply}
-use Rattle.status_report.specs.Answering.{is_answer, is_banner, lfs_in}
+use Rattle.status_report.specs.Answering.{is_answer, is_banner, banners_in, lfs_in}
 use Rattle.realtime_flags.specs.Bits.{is_up, report_flag}
 use Rattle.serial_ring.specs.Lists.{answers_behind_mark}
 use Rattle.serial_ring.specs.Logs as link
 use Rattle.serial_ring.specs.Marks.{latest}
-use Rattle.host_journal.specs.Links.{banners_in}
 use Rattle.host_journal.specs.Steps.{stored_in, latest_got, marks_in, resets_in}
 use Rattle.host_journal.specs.Steps.{HostLog}
 use Rattle.host_journal.specs.Steps.PortStep.{raised}

@@ -21,14 +21,14 @@ use Rattle.motion_ring.specs.Sides.{ticks_at, ticks_published, unfinished_in}
 use Rattle.motion_ring.specs.Sides.{published_in as pieces_sent}
 use Rattle.motion_ring.specs.Ticks.{slots}
 use Rattle.board_journal.specs.Ports.{taken_in, link_steps, has_closed_in, answered_in, sent_in, known_in}
-use Rattle.status_report.specs.Answering.{reply_room, lfs_in, answers_in}
+use Rattle.status_report.specs.Answering.{reply_room, lfs_in, answers_in, banners_in}
 use Rattle.board_journal.specs.Ports.{BoardLog}
 use Rattle.pulse_engine.specs.Logs.{PieceLog, pieces_of, got_since, counted, uncounted, saw_stop, halts_of}
 use Rattle.serial_ring.specs.declared.view.LinkStep.{LinkStep}
 use Rattle.serial_ring.specs.Marks.{Mark, AreMarks, AreRising, latest}
 use Rattle.serial_ring.specs.Lists.{IsRoom, AreAtMost}
 use Rattle.serial_ring.specs.Logs.{marked_in, greeted_in, taken_at_banners, answers_since, lfs_since, AnswersWell}
-use Rattle.host_journal.specs.Links.{banners_in, AreGreetings}
+use Rattle.host_journal.specs.Links.{AreGreetings}
 use Rattle.host_journal.specs.Steps.{stored_in, stored_at_banners, got_in, marks_in, marks_at_banners, is_shut_in}
 use Rattle.host_journal.specs.Steps.{HostLog}
 use Rattle.list_ports.specs.Asked.{AsksBetween, LooksFirst, AsksPass, report_is_up, raised_behind, words_behind, told_by, resets_taken, has_looked}

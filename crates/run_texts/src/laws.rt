@@ -11,7 +11,7 @@ ghost use Rattle.run_rules.specs.Reports.{settled_to, raises_alarm};
 ghost use Rattle.run_rules.specs.States.{IsOpening};
 ghost use Rattle.run_rules.specs.Work.{Outcome, asks};
 ghost use Rattle.run_rules.specs.declared.State.{State};
-ghost use Rattle.status_report.specs.Answering.{without_reports};
+ghost use Rattle.status_report.specs.Answering.{without_reports, banners_in};
 ghost use Rattle.status_report.specs.declared.Reply.{Reply as AnyReply};
 ghost use Rattle.step_line.specs.Asking.{moves_of, ticks_among};
 ghost use Rattle.step_line.specs.declared.Head.{Head as AnyHead};
@@ -32,7 +32,7 @@ ghost use Rattle.run_texts.specs.Recorded.{IsRecorded, IsWhere, AreRecorded, tic
 ghost use Rattle.run_texts.specs.Sent.{Sent, is_reset, kept_of, has_reset, resets_in};
 ghost use Rattle.run_texts.specs.Sent.Sent.{a_text, a_stop};
 ghost use Rattle.run_texts.specs.SoFar.{LeadsTo, ComesBy, FitsSoFar};
-ghost use Rattle.run_texts.specs.Told.{banners_in, has_alarm};
+ghost use Rattle.run_texts.specs.Told.{has_alarm};
 
 /// A job, a console and steps have one course at most: what became of each line, where each cut and each reset stands,
 /// and what they leave, is determined by the texts.

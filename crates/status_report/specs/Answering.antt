@@ -27,6 +27,10 @@ abbrev pub is_banner : Reply → Bool
 is_banner Banner = true
 is_banner _ = false
 
+-- how many replies are Banners
+abbrev pub banners_in : List Reply → ℕ
+banners_in replies = count_by is_banner replies
+
 -- a reply is Bye
 abbrev pub is_bye : Reply → Bool
 is_bye Bye = true

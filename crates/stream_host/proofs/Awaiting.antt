@@ -4,8 +4,8 @@ use Rattle.std.specs.List.{count_by, list_any}
 use Rattle.std.proofs.lemmas.Bool.Decides.{nat_tests}
 use Rattle.std.proofs.lemmas.List.Sums.{sum_by-append, sum_by-cons, count_by-le-length}
 use Rattle.status_report.specs.declared.Reply.{Reply}
-use Rattle.status_report.specs.Answering.{is_banner}
-use Rattle.host_journal.specs.Links.{banners_in}
+use Rattle.status_report.specs.Answering.{banners_in}
+use Rattle.status_report.proofs.Banners.{banners_first, banners_last}
 use Rattle.host_journal.specs.Jobs.{is_reset, is_long, served, resets_scanned, lacks_banner}
 use Rattle.stream_host.specs.Ran.{AreAwaited, EndsInReset}
 use Rattle.host_journal.specs.Steps.{HostLog, Journal, port_log, got_in, latest_got, got_of, bytes_raised_in, resets_in, raises_of, resets_of, resets_so_far, banners_of, awaits_banner, scanned_of, raw_of, cut_of, due_of, more_served}
@@ -15,7 +15,7 @@ use Rattle.stream_host.specs.Conduct.{Conducted}
 use Rattle.stream_host.proofs.Texts.{reset_drops, long_same}
 use Rattle.stream_host.proofs.Raising.{served_on, none_at_lf, one_more, raised_is}
 use Rattle.stream_host.proofs.Keeping.{cut_is}
-use Rattle.stream_host.proofs.Raised.{awaits_on, banners_first}
+use Rattle.stream_host.proofs.Raised.{awaits_on}
 use Rattle.stream_host.proofs.Epochs.{banners_past}
 
 -- ---- how many
@@ -40,12 +40,9 @@ raised_resets h = sym (resets_raised (port_log h))
 pub scanned_resets : (room : ℕ) (h : Journal) → Conducted room h → resets_scanned (scanned_of h) ≡ resets_so_far h
 scanned_resets room h c = let r = raised_is room h c is_reset in let n = raised_resets h in omega arith
 
-pub banner_on : (rs : List Reply) (r : Reply) → banners_in (rs ++ r ∷ []) ≡ banners_in rs + cond (is_banner r) 1 0
-banner_on rs r = let e = sum_by-append (λ x. cond (is_banner x) 1 0) rs (r ∷ []) in omega arith
-
 banners_are : (h : HostLog) → banners_in (got_in h) ≡ banners_in (latest_got h)
 banners_are [] = refl
-banners_are (got r ∷ h) = let a = banner_on (got_in h) r in let f = banners_first r (latest_got h) in let m = banners_are h in omega arith
+banners_are (got r ∷ h) = let a = banners_last (got_in h) r in let f = banners_first r (latest_got h) in let m = banners_are h in omega arith
 banners_are (_ ∷ h) = banners_are h
 
 -- the Banners that were got, by the replies in order

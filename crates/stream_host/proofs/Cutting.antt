@@ -4,16 +4,17 @@ use Rattle.std.proofs.lemmas.List.{length-take}
 use Rattle.std.proofs.Math.Seq.{take-append-add}
 use Rattle.std.proofs.lemmas.List.Sums.{sum_by-append}
 use Rattle.status_report.specs.declared.Reply.{Reply}
-use Rattle.status_report.specs.Answering.{is_answer, answers_in, is_banner}
+use Rattle.status_report.specs.Answering.{is_answer, answers_in, is_banner, banners_in}
+use Rattle.status_report.proofs.Banners.{banners_last}
 use Rattle.serial_ring.specs.Lists.{has_banner}
-use Rattle.host_journal.specs.Links.{on_link, banners_in}
+use Rattle.host_journal.specs.Links.{on_link}
 use Rattle.stream_host.specs.Epochs.{Epoch, told_lines, dropped_lines, lines_in, told_in, replies_in, AreEpochs, lines_now, got_now, epoch_now, ended_of}
 use Rattle.host_journal.specs.Steps.{Journal, port_log, got_of, latest_got, begins, answered_of, raw_of, cut_of, live_of}
 use Rattle.host_journal.specs.Steps.PortStep.{stored, dropped, marked, raised, got, no_reply, shut}
 use Rattle.host_journal.specs.Steps.Step.{at_port, read_some, read_end, read_failed, scanned, line_over, wrote, gave_up, turned, attends}
 use Rattle.stream_host.specs.Conduct.{Conducted}
 use Rattle.stream_host.proofs.Epochs.{answered_live, begins_free, begins_none, both_true, some_banner, none_banner}
-use Rattle.stream_host.proofs.Awaiting.{banner_on, banners_got}
+use Rattle.stream_host.proofs.Awaiting.{banners_got}
 use Rattle.stream_host.proofs.Waiting.{few_unanswered}
 
 drop_add : (xs ys : List (List ℕ)) (n : ℕ) → drop (length xs + n) (xs ++ ys) ≡ drop n ys
@@ -90,14 +91,14 @@ reply_by room r h true c is are =
     more =
         let t = both_true (is_banner r) (has_banner (latest_got (port_log h))) is in
         let some = some_banner (latest_got (port_log h)) t.1 in let g = banners_got h in let o = ap (λ x. cond {A = ℕ} x 1 0) t.0 in
-        let a = banner_on (got_of h) r in omega arith
+        let a = banners_last (got_of h) r in omega arith
 reply_by room r h false c is are = with_reply room (cut_of h) (live_of h) (got_of h) (ended_of h) (epoch_now h) r are (by_banner (is_banner r) refl)
   where
     by_banner : (t : Bool) → is_banner r ≡ t → banners_in (got_of h ++ r ∷ []) - 1 ≡ banners_in (got_of h) - 1
     by_banner true b =
         let none = none_banner (latest_got (port_log h)) (sym (ap (λ t. t && has_banner (latest_got (port_log h))) b) ∙ is) in
-        let g = banners_got h in let o = ap (λ x. cond {A = ℕ} x 1 0) b in let a = banner_on (got_of h) r in omega arith
-    by_banner false b = let o = ap (λ x. cond {A = ℕ} x 1 0) b in let a = banner_on (got_of h) r in omega arith
+        let g = banners_got h in let o = ap (λ x. cond {A = ℕ} x 1 0) b in let a = banners_last (got_of h) r in omega arith
+    by_banner false b = let o = ap (λ x. cond {A = ℕ} x 1 0) b in let a = banners_last (got_of h) r in omega arith
 
 pub epochs_are : (room : ℕ) (h : Journal) → Conducted room h → AreEpochs room (cut_of h) (live_of h) (got_of h) (ended_of h) (epoch_now h)
 epochs_are room [] c = record { lines_are = refl; live_are = refl; replies_are = refl; count = refl; over = tt; begun = refl }

@@ -4,6 +4,7 @@ use Rattle.status_report.specs.declared.Reply.{Reply}
 use Rattle.serial_ring.specs.Marks.{latest}
 use Rattle.serial_ring.specs.Lists.{has_banner}
 use Rattle.status_report.specs.Answering.{is_banner}
+use Rattle.status_report.proofs.Banners.{banners_first}
 use Rattle.host_journal.specs.Links.{on_link}
 use Rattle.stream_host.specs.Epochs.{Epoch, lines_in, AreEnds, epoch_now, ended_of}
 use Rattle.host_journal.specs.Steps.{Journal, port_log, latest_got, begins, stored_of, marks_of, banners_of, awaits_banner, to_store, due_of}
@@ -11,7 +12,7 @@ use Rattle.host_journal.specs.Steps.PortStep.{stored, dropped, marked, raised, g
 use Rattle.host_journal.specs.Steps.Step.{at_port, read_some, read_end, read_failed, scanned, line_over, wrote, gave_up, turned, attends}
 use Rattle.stream_host.specs.Conduct.{Conducted}
 use Rattle.stream_host.proofs.Keeping.{none_next}
-use Rattle.stream_host.proofs.Raised.{banners_low, banners_first}
+use Rattle.stream_host.proofs.Raised.{banners_low}
 use Rattle.stream_host.proofs.Epochs.{IsSteady, IsPending, Stands, epoch_is, begins_at, both_true, some_banner, none_banner, pending_busy, pending_marked, whole_by}
 use Rattle.stream_host.proofs.Cutting.{epochs_are}
 

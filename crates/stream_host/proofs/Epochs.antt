@@ -5,11 +5,11 @@ use Rattle.std.proofs.lemmas.List.{length-drop, length-take, drop_all, take_all,
 use Rattle.std.proofs.lemmas.List.Sums.{sum_by-append, sum_by-cons}
 use Rattle.run_rules.specs.Lines.{ended}
 use Rattle.status_report.specs.declared.Reply.{Reply}
-use Rattle.status_report.specs.declared.Reply.TheVariants as replies
-use Rattle.status_report.specs.Answering.{lfs_in, is_answer, answers_in, is_banner}
+use Rattle.status_report.specs.Answering.{lfs_in, is_answer, answers_in, is_banner, banners_in}
+use Rattle.status_report.proofs.Banners.{banners_first, no_answer}
 use Rattle.serial_ring.specs.Marks.{latest, last_of}
 use Rattle.serial_ring.specs.Lists.{has_banner, answers_behind_mark}
-use Rattle.host_journal.specs.Links.{on_link, behind_lf, behind_mark, banners_in}
+use Rattle.host_journal.specs.Links.{on_link, behind_lf, behind_mark}
 use Rattle.host_journal.specs.Jobs.{is_reset, sent_text}
 use Rattle.host_journal.specs.Ports.{AnswersLines, SeemsFull}
 use Rattle.stream_host.specs.Ran.{AreBorders}
@@ -19,7 +19,7 @@ use Rattle.host_journal.specs.Steps.Step.{at_port, read_some, read_end, read_fai
 use Rattle.stream_host.specs.Conduct.{Conducted, MayMark, MayStore}
 use Rattle.stream_host.proofs.Links.{lfs_push, lfs_linked, behind_append, behind_ended, all_no_lf}
 use Rattle.stream_host.proofs.Keeping.{stored_is, none_next, linked_line}
-use Rattle.stream_host.proofs.Raised.{free_by, both, banners_first, IsMarked, marks_are, fresh_calm, AreStored, stored_so_far, last_greeted, early_greeted, rising_is, banners_low}
+use Rattle.stream_host.proofs.Raised.{free_by, both, IsMarked, marks_are, fresh_calm, AreStored, stored_so_far, last_greeted, early_greeted, rising_is, banners_low}
 
 -- ---- the answers of an epoch
 
@@ -31,10 +31,6 @@ earlier_in (_ ∷ h) = earlier_in h
 
 answers_last : (rs : List Reply) (r : Reply) → answers_in (rs ++ r ∷ []) ≡ answers_in rs + cond (is_answer r) 1 0
 answers_last rs r = let e = sum_by-append (λ x. cond (is_answer x) 1 0) rs (r ∷ []) in omega arith
-
-pub no_answer : (r : Reply) → is_banner r ≡ true → is_answer r ≡ false
-no_answer replies.Banner e = refl
-no_answer _ e = absurd cc
 
 pub both_true : (a b : Bool) → (a && b) ≡ true → (a ≡ true) × (b ≡ true)
 both_true true b e = (refl, e)

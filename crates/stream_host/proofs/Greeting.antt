@@ -1,18 +1,19 @@
 -- The marks of the Banners that a host got, in order.
 use Rattle.std.proofs.Common.{◌≡◌, ℕ, zero, suc, ◌+◌, ◌≤◌, ◌<◌, ◌⊎◌, inl, inr, Bool, true, false, cond, List, [], ◌∷◌, ◌++◌, length, refl, sym, ap, ◌∙◌, arith, subst, length-append}
-use Rattle.status_report.specs.Answering.{is_banner}
+use Rattle.status_report.specs.Answering.{is_banner, banners_in}
+use Rattle.status_report.proofs.Banners.{banners_first}
 use Rattle.serial_ring.specs.declared.view.LinkStep.{LinkStep}
 use Rattle.serial_ring.specs.declared.view.LinkStep.TheVariants.{Took, Marked, Answered}
 use Rattle.serial_ring.specs.Logs.{AnswersWell, marked_in, greeted_in, next_mark}
 use Rattle.serial_ring.specs.Marks.{Mark, start, IsMark, AreMarks, Follows}
 use Rattle.serial_ring.proofs.Logs.{next_follows}
-use Rattle.host_journal.specs.Links.{AreGreetings, AreInOrder, banners_in, numbered}
+use Rattle.host_journal.specs.Links.{AreGreetings, AreInOrder, numbered}
 use Rattle.host_journal.specs.Ports.{AreGreeted, PortsAgree}
 use Rattle.host_journal.specs.Steps.{HostLog, Journal, port_log, stored_of, latest_got, marks_in, marks_at_banners, marks_of, banners_of, to_store}
 use Rattle.host_journal.specs.Steps.PortStep.{stored, dropped, marked, raised, got, no_reply, shut}
 use Rattle.host_journal.specs.Steps.Step.{at_port, read_some, read_end, read_failed, scanned, line_over, wrote, gave_up, turned, attends}
 use Rattle.stream_host.specs.Conduct.{Conducted}
-use Rattle.stream_host.proofs.Raised.{AreStored, banners_first, low_mark}
+use Rattle.stream_host.proofs.Raised.{AreStored, low_mark}
 use Rattle.stream_host.proofs.Epochs.{Stands, epoch_is}
 
 -- ---- the next mark

@@ -2,11 +2,11 @@
 use Rattle.std.proofs.Common.{◌≡◌, ℕ, ◌+◌, ◌≤◌, ◌⊎◌, ◌&&◌, inl, inr, Bool, true, false, cond, List, [], ◌∷◌, ◌++◌, length, drop, nat_lt, nat_le, refl, sym, ap, ◌∙◌, arith, length-append}
 use Rattle.std.proofs.lemmas.Bool.Decides.{nat_tests}
 use Rattle.std.proofs.lemmas.List.{nil_from_length, length-drop}
-use Rattle.std.proofs.lemmas.List.Sums.{sum_by-cons}
 use Rattle.status_report.specs.declared.Reply.{Reply}
 use Rattle.status_report.specs.Answering.{is_banner}
+use Rattle.status_report.proofs.Banners.{banners_first}
 use Rattle.serial_ring.specs.Marks.{Mark, latest, last_of, IsMark, Follows, AreRising}
-use Rattle.host_journal.specs.Links.{banners_in, AreGreetings}
+use Rattle.host_journal.specs.Links.{AreGreetings}
 use Rattle.host_journal.specs.Jobs.{resume, is_reset}
 use Rattle.host_journal.specs.Steps.{HostLog, Journal, port_log, stored_in, latest_got, marks_in, marks_at_banners, marks_of, resets_of, banners_of, awaits_banner, scanned_of, raw_of, to_store, due_of, more_served, resumes_next, is_shut, has_limit, got_of}
 use Rattle.host_journal.specs.Steps.PortStep.{stored, dropped, marked, raised, got, no_reply, shut}
@@ -63,9 +63,6 @@ both t e f = absurd (let g = sym e ∙ f in cc)
 pub record IsWaiting (h : Journal) : Type 0 where
   pub free : to_store h ≡ []
   pub none_due : due_of h ≡ []
-
-pub banners_first : (r : Reply) (rs : List Reply) → banners_in (r ∷ rs) ≡ cond (is_banner r) 1 0 + banners_in rs
-banners_first r rs = sum_by-cons (λ (s : Reply). cond (is_banner s) 1 0) r rs
 
 pub awaits_on : (resets was is : ℕ) → was ≤ is → (nat_lt 0 resets && nat_le is resets) ≡ true → (nat_lt 0 resets && nat_le was resets) ≡ true
 awaits_on resets was is more e = by_tests (nat_lt 0 resets) (nat_le is resets) (nat_le was resets) refl refl e

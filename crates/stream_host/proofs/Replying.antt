@@ -29,12 +29,12 @@ use Rattle.std.proofs.lemmas.List.Folds.{list_any-append}
 use Rattle.outside.proofs.Written.{more_waits}
 use Rattle.status_report.specs.declared.Reply.TheVariants as replies
 use Rattle.status_report.specs.Replies.{reply_text}
+use Rattle.status_report.proofs.Banners.{banners_first}
 use Rattle.run_rules.specs.Told.{replies_text, is_error, errors_among}
 use Rattle.text_writer.specs.Writers.{with_text, with_all_asked}
 use Rattle.host_journal.specs.Steps.{has_given_up}
 use Rattle.stream_host.specs.Hosts.{shown}
 use Rattle.stream_host.proofs.Consoles.{same_job}
-use Rattle.stream_host.proofs.Raised.{banners_first}
 use Rattle.stream_host.proofs.Epochs.{all_lines, answered_live, banner_test, begins_none}
 
 -- ---- a reply

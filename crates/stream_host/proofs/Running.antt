@@ -15,7 +15,7 @@ use Rattle.host_journal.specs.Steps.{Journal, stored_of, got_of, is_shut, read_o
 use Rattle.host_journal.specs.Steps.Step.{turned, attends}
 use Rattle.stream_host.specs.Conduct.{Conducted, HasSentAll, HasWritten}
 use Rattle.stream_host.specs.Hosts.{HostFits, HostTurned, HostRests, TellsJob, TellsText, IsBetween, ends_turn}
-use Rattle.host_journal.specs.Links.{banners_in}
+use Rattle.status_report.specs.Answering.{banners_in}
 use Rattle.host_journal.specs.Jobs.{is_reset, lacks_banner}
 use Rattle.stream_host.specs.Ran.{AreRaised, is_sent_out, is_out, HostRan, HostRuns, HasFinished, TellsConsole, end_of, is_failed}
 use Rattle.stream_host.proofs.Keeping.{shut_is, stored_is}

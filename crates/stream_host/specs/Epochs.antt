@@ -2,8 +2,8 @@
 use Rattle.std.specs.Prelude.{◌≡◌, ℕ, ◌+◌, ◌-◌, ◌≤◌, cond, List, [], ◌∷◌, ◌++◌, length, take, drop, nat_eq}
 use Rattle.std.specs.List.{AllByRecursion}
 use Rattle.status_report.specs.declared.Reply.{Reply}
-use Rattle.status_report.specs.Answering.{answers_in}
-use Rattle.host_journal.specs.Links.{on_link, banners_in}
+use Rattle.status_report.specs.Answering.{answers_in, banners_in}
+use Rattle.host_journal.specs.Links.{on_link}
 use Rattle.host_journal.specs.Steps.{Journal, port_log, begins, raw_of}
 use Rattle.host_journal.specs.Steps.PortStep.{got}
 use Rattle.host_journal.specs.Steps.Step.{at_port, scanned, line_over}

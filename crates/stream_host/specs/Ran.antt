@@ -11,8 +11,8 @@ use Rattle.status_report.specs.declared.Reply.{Reply}
 use Rattle.host_journal.specs.declared.Reading.{Reading}
 use Rattle.host_journal.specs.declared.Reading.TheVariants.{Ended, Failed, Large, Stopped}
 use Rattle.host_journal.specs.declared.Stop.{Stop}
-use Rattle.host_journal.specs.Links.{on_link, banners_in}
-use Rattle.status_report.specs.Answering.{answers_in, is_bye}
+use Rattle.host_journal.specs.Links.{on_link}
+use Rattle.status_report.specs.Answering.{answers_in, is_bye, banners_in}
 use Rattle.host_journal.specs.Jobs.{resume, is_reset, is_long, marks_behind, resets_scanned, lacks_banner, served, served_in, stop_by, IsSent, IsSentSoFar}
 use Rattle.run_rules.specs.Work.{is_limit}
 use Rattle.host_journal.specs.Steps.{Journal, stored_of, marks_of, line_raises_of, has_bye, answered_of, errors_of, read_of, reading_of, scanned_of, cut_of, or_alarm, stop_of, text_of, written_of, has_given_up}
