@@ -28,7 +28,7 @@ use Rattle.board_rules.proofs.Standing.{Calm, Rested, calm_on, rested_is}
 use Rattle.board_rules.proofs.Tasks.{none_closed}
 use Rattle.board_epochs.specs.Epochs.{answered_state, point_of}
 use Rattle.epoch_courses.specs.Course.{unanswered_at, is_unanswered, is_made, passed_by, before_by, point_behind, point_broken}
-use Rattle.epoch_courses.proofs.Going.{leads_on}
+use Rattle.run_texts.proofs.SoFar.{leads_on}
 use Rattle.epoch_courses.proofs.Epoch.{SameKept, SameBut, same_but, same_before, locked_on, one_more, epoch_leads, less_known}
 use Rattle.epoch_courses.proofs.Made.{made_before_line}
 use Rattle.epoch_courses.proofs.Tells.{tells_alone, alone_told}

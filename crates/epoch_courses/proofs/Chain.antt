@@ -8,7 +8,7 @@ use Rattle.run_texts.specs.Points.{opening}
 use Rattle.run_texts.specs.Sent.{Sent}
 use Rattle.run_texts.specs.Sent.Sent.{a_text, a_stop}
 use Rattle.run_texts.specs.SoFar.{LeadsTo}
-use Rattle.run_texts.proofs.SoFar.{goes_on_from}
+use Rattle.run_texts.proofs.SoFar.{goes_on_from, leads_on}
 use Rattle.step_line.specs.Logs.{NewestFirst}
 use Rattle.board_rules.specs.Conduct.{IsFinished}
 use Rattle.board_journal.specs.Openings.{Opening}
@@ -23,7 +23,6 @@ use Rattle.board_epochs.specs.Work.{Work, stage_of}
 use Rattle.epoch_courses.specs.Course.{is_marked, with_reset, made_at_halt, open_journal, passed_so_far, passed_at_reset, closed_course, course_of, point_behind, point_at_reset, stands_at}
 use Rattle.epoch_courses.specs.Taken.{texts_in, bytes_with, closed_texts, sent_by, bytes_behind, left_by}
 use Rattle.epoch_courses.proofs.Epoch.{epoch_leads}
-use Rattle.epoch_courses.proofs.Going.{leads_on}
 use Rattle.epoch_courses.proofs.Halted.{known_made, marked_there}
 use Rattle.epoch_courses.proofs.Resets.{comes_there, next_there, is_reset}
 use Rattle.epoch_courses.proofs.Texts.{texts_behind, texts_now, behind_them}

@@ -30,7 +30,7 @@ use Rattle.board_rules.proofs.Numbers.{cut_has_lines}
 use Rattle.board_epochs.specs.Epochs.{point_of}
 use Rattle.epoch_courses.specs.Course.{is_made, passed_by, before_by, has_line_by, point_behind}
 use Rattle.epoch_courses.proofs.Made.{AllMade, made_before_line, made_before_cut}
-use Rattle.epoch_courses.proofs.Going.{leads_on}
+use Rattle.run_texts.proofs.SoFar.{leads_on}
 
 -- ---- what is locked
 

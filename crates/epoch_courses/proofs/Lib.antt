@@ -1,4 +1,3 @@
-pub mod Going
 pub mod Texts
 pub mod Tells
 pub mod Answered

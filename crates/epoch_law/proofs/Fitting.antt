@@ -36,7 +36,8 @@ use Rattle.epoch_records.proofs.Publishing.{epochs_of_stretches, some_epochs_of_
 use Rattle.epoch_law.specs.Joined.{AreConnected, ArePassed}
 use Rattle.epoch_law.specs.Ran.{HostDid, HasSent, BoardDid, BoardRan, PulseDid, PulseRan}
 use Rattle.epoch_law.proofs.Alarms.{course_so}
-use Rattle.epoch_law.proofs.Leading.{leads_with_more, follows_to_end, left_of_all}
+use Rattle.epoch_law.proofs.Leading.{follows_to_end, left_of_all}
+use Rattle.run_texts.proofs.SoFar.{leads_with_more}
 use Rattle.epoch_law.proofs.Sending.{cancels_scanned}
 
 -- ---- the records

@@ -21,7 +21,7 @@ use Rattle.epoch_links.proofs.Joining.{fronts}
 use Rattle.epoch_law.specs.Joined.{AreConnected}
 use Rattle.epoch_law.specs.Ran.{HostDid, BoardDid}
 use Rattle.epoch_law.specs.SoFar.{Sending, BeginWithBanner, BoardRuns}
-use Rattle.epoch_law.proofs.Leading.{leads_with_more}
+use Rattle.run_texts.proofs.SoFar.{leads_with_more}
 use Rattle.epoch_law.proofs.Sending.{cancels_scanned}
 
 -- ---- fronts
