@@ -4,7 +4,7 @@ import subprocess
 from pathlib import Path
 
 from model.cuts import EVENTS
-from model.legal import foreign_in
+from model.foreign import foreign_in
 
 AUDIT = Path(__file__).resolve().parent.parent.parent / "crates/grbl_audit/out/grbl_audit"
 SECONDS = 60  # of processor time

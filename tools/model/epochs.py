@@ -121,7 +121,7 @@ def ends_of(job, number):
     return ends + ([(9, f"fault: the job is larger than {LARGEST_JOB} bytes\n")] if len(job) > LARGEST_JOB else [])
 
 
-def run_of(job, most_events, told, steps="", status=None, buffers=STANDARD, by_rules_alone=False, is_attended=False):
+def run_of(job, most_events, told, steps="", status=None, buffers=STANDARD, is_attended=False):
     """The run of a job, and its epochs. Where a line may be refused since the machine still moves, it is so if the console
     that was told says so; jogs are cut where the steps that were told say so; a reset comes behind as many lines as the console
     says, and finds a machine in motion, or not, if that does; and what stands behind a line that a soft limit stops ends the sending,
@@ -133,7 +133,7 @@ def run_of(job, most_events, told, steps="", status=None, buffers=STANDARD, by_r
     for at, sent in enumerate(sents):
         text = GREETING + (texts[at] if at < len(texts) else "")
         part = parts[at] if at < len(parts) else NO_STEPS
-        machine = Machine(kept.room if kept else most_events, text.split("\r\n"), cuts_of(part.text, part.place), buffers, by_rules_alone, is_attended)
+        machine = Machine(kept.room if kept else most_events, text.split("\r\n"), cuts_of(part.text, part.place), buffers, is_attended=is_attended)
         if kept:
             machine.open(kept, part.place, lines)
             machine.course.has_asked = sent.has_asked

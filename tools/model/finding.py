@@ -3,7 +3,7 @@ the steps record them: each line is answered, or broken off by a reset, jogs are
 stand in any of these decides. Written from the definitions, without the order in which the program goes through the texts."""
 from typing import NamedTuple, Optional
 
-from model.legal import is_foreign
+from model.foreign import is_foreign
 from model.lines import COMMENT, kept_of, scan
 from model.machine import ALARM, LOCKED, LOST
 from model.recorded import Making, Part, Steps
@@ -13,6 +13,7 @@ from model.rules import Board, outcomes_of
 ORIGIN = (0, 0, 0)
 STOP = None  # a reset, among what is sent
 FITS, MISFIT, REPLIES, FOREIGN = 0, 1, 7, 8
+SAID = {FITS: "fits: {} events\n", MISFIT: "misfit at byte {}\n", REPLIES: "replies differ at line {}\n", FOREIGN: "line {} isn't audited\n"}
 
 
 class Finding(NamedTuple):
@@ -20,6 +21,11 @@ class Finding(NamedTuple):
 
     status: int
     number: int
+
+    @property
+    def said(self):
+        """What is printed."""
+        return SAID[self.status].format(self.number)
 
 
 # ---- a job
@@ -181,7 +187,8 @@ class Search:
         return any(self.is_over(point) and self.console.is_at_end(point.told) for point in self.points)
 
     def lines_at_fault(self):
-        """The lines whose reply, or whose absence, can't stand where the console stands furthest: one, if the definitions are exact."""
+        """The lines whose reply, or whose absence, can't stand where the console stands furthest: one, if the definitions are exact. A line may
+        wait there for what a reset tells."""
         furthest = max(point.told for point in self.points)
         return {self.line_at_fault(point) for point in self.points if point.told == furthest}
 

@@ -68,10 +68,9 @@ class Kept(NamedTuple):
 
 class Machine:
     """Lines are answered in order, from a banner on; `console` has the lines of what is told, and the script what is asked of the
-    motion. By the rules alone, a line may be refused since the machine moves, and jogs cut, also where answers before show that all is
-    done."""
+    motion."""
 
-    def __init__(self, most_events, told, cuts=(), buffers=STANDARD, by_rules_alone=False, is_attended=False):
+    def __init__(self, most_events, told, cuts=(), buffers=STANDARD, is_attended=False):
         self.modes = {"motion": "G0", "plane": "G17", "units": "G21", "distance": "G90", "system": "G54"}
         self.spindle, self.coolant, self.tool, self.feed, self.speed = "M5", "M9", 0, 0, 0
         self.offsets = {name: [0] * 3 for name in OFFSETS}
@@ -83,7 +82,6 @@ class Machine:
         self.was_cut = False  # the next line is begun behind a cut, or where jogs are done
         self.under_way = ""  # the machine may be found in this state: "Run" or "Jog", or in none, since all is done
         self.has_moved = False  # a line has moved the machine, and none that settles is answered since
-        self.by_rules_alone, self.moved_in, self.last_was_jog = by_rules_alone, set(), False  # and so has a line of G-code, or a jog
         self.left, self.work = self.leave(), NOTHING
         self.course = Course(self.left, buffers=buffers, is_attended=is_attended)
 
@@ -132,12 +130,11 @@ class Machine:
             self.left = self.leave()
         else:
             self.console.append("ok")
-        self.work = self.work._replace(stood=not self.by_rules_alone and (self.work.stood or self.was_cut))
+        self.work = self.work._replace(stood=self.work.stood or self.was_cut)
         self.has_moved = not self.work.settles and (self.has_moved or self.work.moves > 0)
-        self.moved_in = set() if self.work.settles else self.moved_in | ({self.work.state} if self.work.moves else set())
         self.course.add(line, len(kept) + 1, self.left, self.script.ticks, self.work)
         is_cut = bool(self.cuts) and self.cuts[0].number == self.number
-        self.was_cut = is_cut and (self.by_rules_alone or self.under_way == "Jog")
+        self.was_cut = is_cut and self.under_way == "Jog"
         if self.was_cut:
             self.cut_jogs(self.cuts.pop(0))
 
@@ -185,18 +182,8 @@ class Machine:
     def refuse_in(self, states, error):
         """A line is refused where the machine is found in some states. Where it may be, the console tells whether it was."""
         at = len(self.console)
-        if self.may_be_found(states) and self.told[at : at + 1] == [f"error:{error}"]:
+        if self.under_way in states and self.told[at : at + 1] == [f"error:{error}"]:
             raise Refused(error)
-
-    def may_be_found(self, states):
-        """Whether the machine may be found in one of some states. The rules alone let a line of G-code find a jog wherever the last that
-        was accepted of both is one, and other lines moves that no line has settled: also behind a cut, and where an answer shows that
-        these are done."""
-        if not self.by_rules_alone:
-            return self.under_way in states
-        if "Run" not in states:
-            return self.last_was_jog
-        return not self.moved_in.isdisjoint(states) and ("Jog" in states or not self.last_was_jog)
 
     def leave_state(self, state):
         """A line is accepted that is not where the machine is found in this state: so all that may be under way in it is
@@ -275,7 +262,6 @@ class Machine:
         stood = self.leave_state("Run")
         moves = int(self.go(target, lengths["F"], True))
         self.has_jogged |= bool(moves)
-        self.last_was_jog = True
         self.under_way = "Jog" if moves else self.under_way
         self.work = Work(moves, "Jog", stood=stood)
 
@@ -330,7 +316,7 @@ class Machine:
         if self.leaves_travel([place for place, _ in ways]):
             self.work = Work(stood=stood, halts=True)
             raise Limited
-        self.feed, self.last_was_jog = feed, False
+        self.feed = feed
         self.tool = line.values.get("T", self.tool * WHOLE) // WHOLE
         marks = self.turn(line)
         self.modes = modes

@@ -1,10 +1,12 @@
 """The records of a step text, one by one, and how far they are those that the lines of a part ask for."""
+from collections import Counter
+from functools import lru_cache
 from typing import NamedTuple, Optional
 
 from model.cuts import EVENTS as WAYS
 from model.motion import Move, event_lines, hard_cap
 from model.rules import ticks_of
-from texts.steps import EVENTS, HEAD, MARK, MARK_ENDS, MOST_EVENTS, RUN, VERSION
+from texts.steps import EVENTS, HEAD, MARK, MARK_ENDS, MOST_EVENTS, RUN, VERSION, BadText, in_form_one, in_form_two
 
 LINE = 2**32
 WIDE = 2**64
@@ -13,9 +15,8 @@ END = b"E\n"
 
 class Record(NamedTuple):
     """A line of a step text that is a record: an event, so many times; a mark, as a text; or a head, with its line, its events, and its
-    squared speed. And where the line begins."""
+    squared speed."""
 
-    at: int
     event: str = ""
     times: int = 1
     mark: str = ""
@@ -31,21 +32,33 @@ class Record(NamedTuple):
         return int(self.mark[2:])
 
 
-def record_of(line, at, is_compact):
+@lru_cache(4096)
+def record_of(line, is_compact):
     """The record that a line is, or None."""
     if line in EVENTS:
-        return Record(at, line[:-1].decode("ascii"))
+        return Record(line[:-1].decode("ascii"))
     head, mark, run = HEAD.fullmatch(line), MARK.fullmatch(line), RUN.fullmatch(line)
     if head:
         number, count, square, cycles = map(int, head.groups())
         is_whole = 1 <= number < LINE and 1 <= count < LINE and square < WIDE and cycles < WIDE
-        return Record(at, head=(number, count, square)) if is_whole else None
+        return Record(head=(number, count, square)) if is_whole else None
     if mark:
         is_whole = int(mark[2]) < MARK_ENDS[mark[1].decode("ascii")]
-        return Record(at, mark=line[:-1].decode("ascii")) if is_whole else None
+        return Record(mark=line[:-1].decode("ascii")) if is_whole else None
     if run and is_compact and run[2] in EVENTS and 2 <= int(run[1]) <= MOST_EVENTS:
-        return Record(at, run[2][:-1].decode("ascii"), int(run[1]))
+        return Record(run[2][:-1].decode("ascii"), int(run[1]))
     return None
+
+
+def plain_of(steps):
+    """The text in form 1 of a step text of either form, each line of which is a record or the end."""
+    plain = in_form_one(steps) if steps.startswith(VERSION) else steps
+    for number, line in enumerate(plain.splitlines(keepends=True), 1):
+        if line != END and record_of(line, False) is None:
+            raise BadText(number, "no step record")
+    if plain is not steps and in_form_two(plain) != steps:
+        raise BadText(1, "equal events stand apart")
+    return plain
 
 
 class Steps:
@@ -53,12 +66,13 @@ class Steps:
 
     def __init__(self, text):
         self.is_compact = text.startswith(VERSION)
-        self.records, at = [], len(VERSION) if self.is_compact else 0
+        self.records, self.places, at = [], [], len(VERSION) if self.is_compact else 0
         for line in text[at:].splitlines(keepends=True):
-            record = record_of(line, at, self.is_compact)
+            record = record_of(line, self.is_compact)
             if record is None or (self.is_compact and not self.is_apart(record)):
                 break
             self.records.append(record)
+            self.places.append(at)
             at += len(line)
         self.behind, self.rest = at, text[at:]
         self.endings, ending = [len(self.records)] * (len(self.records) + 1), len(self.records)
@@ -73,7 +87,7 @@ class Steps:
 
     def place(self, at):
         """Where the line of a record begins."""
-        return self.records[at].at if at < len(self.records) else self.behind
+        return self.places[at] if at < len(self.records) else self.behind
 
     def ends_with(self, at):
         """What stands behind so many records, if it begins with the end; or None."""
@@ -136,17 +150,22 @@ class Making(NamedTuple):
 
     def take_events(self, steps):
         """Behind all events of the last head that are recorded next, or None."""
-        at, came, place, end = self.at, self.came, self.place, steps.endings[self.at]
+        at, came, end = self.at, self.came, steps.endings[self.at]
         while at < end and self.is_next(steps.records[at], came):
-            times = steps.records[at].times
-            place = tuple(here + step * times for here, step in zip(place, WAYS[steps.records[at].event]))
-            at, came = at + 1, came + times
-        return self._replace(at=at, place=place, came=came, ticks=self.ticks + came - self.came) if came > self.came else None
+            at, came = at + 1, came + steps.records[at].times
+        if came == self.came:
+            return None
+        place = self.place
+        for event, times in Counter(self.events[self.came : came]).items():
+            place = tuple(here + step * times for here, step in zip(place, WAYS[event]))
+        return self._replace(at=at, place=place, came=came, ticks=self.ticks + came - self.came)
 
     def is_next(self, record, came):
         """Whether a record is of events that are next, where so many of the last head are recorded."""
         behind = came + record.times
-        return behind <= len(self.events) and all(event == record.event for event in self.events[came:behind])
+        if behind > len(self.events):
+            return False
+        return self.events[came] == record.event if record.times == 1 else set(self.events[came:behind]) == {record.event}
 
     def take_head(self, head, move):
         """Behind a head of a move, or None."""

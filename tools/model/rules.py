@@ -33,11 +33,12 @@ class Asked:
 
 class Board(Machine):
     """What lines leave: modes, offsets, settings, and the position; the number of the last line; whether it is locked; and what a line
-    may find under way. `moved_in` has Run where a line of G-code has moved since the last that settles, and Jog where a jog has."""
+    may find under way. `moved_in` has Run where a line of G-code has moved since the last that settles, and Jog where a jog has; the last
+    that was accepted of both may be a jog."""
 
     def __init__(self, room):
-        super().__init__(0, [], by_rules_alone=True)
-        self.room, self.is_found = room, False
+        super().__init__(0, [])
+        self.room, self.is_found, self.moved_in, self.last_was_jog = room, False, set(), False
 
     def leave_state(self, state):
         return False
@@ -45,6 +46,13 @@ class Board(Machine):
     def refuse_in(self, states, error):
         if self.is_found and self.may_be_found(states):
             raise Refused(error)
+
+    def may_be_found(self, states):
+        """Whether the machine may be found in one of some states: a line of G-code may find a jog wherever the last that was accepted of both
+        is one, and other lines moves that no line has settled."""
+        if "Run" not in states:
+            return self.last_was_jog
+        return not self.moved_in.isdisjoint(states) and ("Jog" in states or not self.last_was_jog)
 
     @property
     def place(self):
@@ -107,6 +115,7 @@ def outcome_of(board, kept, is_found):
         after.console.append("ok")
     work = after.work
     after.moved_in = set() if work.settles else board.moved_in | ({work.state} if work.moves else set())
+    after.last_was_jog = work.state == "Jog" if work.state else board.last_was_jog
     return Outcome(after, tuple(after.console), tuple(after.script.items), work.settles, work.state == "Jog", work.moves > 0, after.script.is_halted)
 
 
