@@ -25,6 +25,7 @@ use Rattle.run_texts.specs.Told.{told_in, told_of}
 use Rattle.run_texts.proofs.Leading.{onto_none}
 use Rattle.run_texts.proofs.Making.{before_record}
 use Rattle.run_texts.proofs.OneMaking.{one_making}
+use Rattle.run_texts.proofs.SoFar.{leads_with_more}
 use Rattle.run_texts.proofs.Stops.{Inside, Stop, stops_of}
 use Rattle.run_texts.proofs.Stops.Stop.{cut_at, reset_at}
 use Rattle.audit_rules.specs.Consoles.{Tells}
@@ -34,7 +35,6 @@ use Rattle.audit_rules.proofs.BehindText.{onward, waits_later}
 use Rattle.audit_rules.proofs.BehindCourses.{Compared, compare}
 use Rattle.audit_rules.proofs.BehindCourses.Compared.{further, behind, passed_by}
 use Rattle.audit_rules.proofs.BehindMade.{with_lines, made_at_once, made_of_more, front_of_course}
-use Rattle.audit_rules.proofs.Fitting.{reset_on, behind_on}
 use Rattle.audit_rules.proofs.OneLine.{told_further}
 use Rattle.audit_rules.proofs.OneWay.{stop_number}
 use Rattle.audit_rules.proofs.Replies.{all_joined, in_turn}
@@ -42,19 +42,6 @@ use Rattle.audit_rules.proofs.Stands.{between, waits_before}
 use Rattle.audit_rules.proofs.StopsMade.{stops_by, stops_made, stops_both, no_stops}
 
 -- ---- courses
-
--- a course over the first of what was sent leads to what is left of all of it
-over_more : (p last : Point) (sent left more : List Sent) (ps : List Passed) → LeadsTo p sent ps last left → LeadsTo p (sent ++ more) ps last (left ++ more)
-over_more p last sent left more [] f = (f.0, ap (λ (ss : List Sent). ss ++ more) f.1)
-over_more p last sent left more (a_cut k at ∷ ps) f = (f.0, over_more (behind_cut at p) last sent left more ps f.1)
-over_more p last sent left more (a_reset r ∷ ps) f =
-    (reset_on p sent more r f.0, subst (λ (ss : List Sent). LeadsTo (behind_the_reset r p) ss ps last (left ++ more)) (sym (behind_on sent more f.0.comes)) (over_more (behind_the_reset r p) last (behind_reset sent) left more ps f.1))
-over_more p last [] left more (a_line o ∷ ps) f = absurd f
-over_more p last (a_stop ∷ sent) left more (a_line o ∷ ps) f = absurd f
-over_more p last (a_text line ∷ sent) left more (a_line o ∷ ps) f = (f.0, over_more (behind_line p line o) last sent left more ps f.1)
-over_more p last [] left more (a_broken o ∷ ps) f = absurd f
-over_more p last (a_stop ∷ sent) left more (a_broken o ∷ ps) f = absurd f
-over_more p last (a_text line ∷ sent) left more (a_broken o ∷ ps) f = (f.0, over_more (behind_broken p o) last sent left more ps f.1)
 
 -- the rest of a course leads on from where its front has led
 rest_leads : (p mid last : Point) (sent left gone : List Sent) (ps qs : List Passed) → LeadsTo p sent ps mid left → LeadsTo p sent (ps ++ qs) last gone → LeadsTo mid left qs last gone
@@ -72,7 +59,7 @@ rest_leads p mid last (a_text line ∷ sent) left gone (a_broken o ∷ ps) qs f 
 
 module _ (sent : List Sent) (console : List ℕ) (records : List Record) (since begun : List Outcome) (made : List Record) (c : HasCome sent console records since begun made) where
   leads : LeadsTo (opening c.first) sent c.reached.course c.point c.left
-  leads = subst (λ (ss : List Sent). LeadsTo (opening c.first) ss c.reached.course c.point c.left) (sym c.whole) (over_more (opening c.first) c.point c.front [] c.left c.reached.course c.reached.leads)
+  leads = subst (λ (ss : List Sent). LeadsTo (opening c.first) ss c.reached.course c.point c.left) (sym c.whole) (leads_with_more (opening c.first) c.point c.front [] c.left c.reached.course c.reached.leads)
 
   tells : Tells console (told_in c.reached.course) c.rest
   tells = subst (λ (rs : List Reply). Tells console rs c.rest) (sym c.reached.tells) c.tells

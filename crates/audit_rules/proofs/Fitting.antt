@@ -1,5 +1,5 @@
 -- Texts that fit stand.
-use Rattle.std.proofs.Common.{◌≡◌, ℕ, zero, suc, List, [], ◌∷◌, ◌++◌, append_assoc, append-nil, length, replicate, true, false, Bool, sym, refl, ap, ◌∙◌, subst, arith}
+use Rattle.std.proofs.Common.{◌≡◌, ℕ, zero, suc, List, [], ◌∷◌, ◌++◌, append_assoc, append-nil, replicate, true, false, Bool, sym, refl, ap, ◌∙◌, subst, arith}
 use Rattle.std.specs.List.{AllByRecursion}
 use Rattle.std.proofs.lemmas.List.{same_from_push}
 use Rattle.std.proofs.lemmas.List.Concat.{flat_map-append}
@@ -9,19 +9,20 @@ use Rattle.step_line.specs.declared.Record.{Record}
 use Rattle.step_line.specs.declared.Record.TheVariants as kinds
 use Rattle.run_rules.specs.Outcomes.{either}
 use Rattle.run_rules.specs.Work.{Outcome}
-use Rattle.run_texts.specs.Courses.{Passed, Reset, Follows, IsLeft, IsReset, behind_cut, behind_the_reset}
+use Rattle.run_texts.specs.Courses.{Passed, Follows, IsLeft, behind_cut, behind_the_reset}
 use Rattle.run_texts.specs.Courses.Passed.{a_line, a_broken, a_cut, a_reset}
 use Rattle.run_texts.specs.Left.{behind_lines}
 use Rattle.run_texts.specs.Parts.{Ending, Part, parts_of, ending_record, is_ending}
 use Rattle.run_texts.specs.Parts.Ending.{by_cut, by_reset}
 use Rattle.run_texts.specs.Points.{Point, behind_line, behind_broken}
 use Rattle.run_texts.specs.Recorded.{AreRecorded}
-use Rattle.run_texts.specs.Sent.{Sent, has_reset, waiting_in, behind_reset}
+use Rattle.run_texts.specs.Sent.{Sent, behind_reset}
 use Rattle.run_texts.specs.Sent.Sent.{a_text, a_stop}
 use Rattle.run_texts.specs.SoFar.{LeadsTo, AreMadeSoFar}
 use Rattle.run_texts.proofs.Leading.{onto_none, onto_more, onto_begun}
 use Rattle.run_texts.proofs.OneMaking.{split_last}
 use Rattle.run_texts.proofs.SoFar.{EndAtEnd}
+use Rattle.run_texts.proofs.Going.{behind_on, reset_on}
 use Rattle.audit_rules.specs.Standing.{Stand}
 use Rattle.audit_rules.specs.StepTexts.{IsLineOf, records_of}
 use Rattle.step_record.specs.declared.forms.Form.{Form}
@@ -129,31 +130,6 @@ ends_lines form (l ∷ ls) front each e =
     subst (λ (ks : List Line). EndsLines ks front) (sym r.is) (by_last form r.front r.last front is_last.0 records)
 
 -- ---- a longer job
-
-has_on : (sent more : List Sent) → has_reset sent ≡ true → has_reset (sent ++ more) ≡ true
-has_on [] more e = absurd cc
-has_on (a_text line ∷ sent) more e = has_on sent more e
-has_on (a_stop ∷ sent) more e = refl
-
-waiting_on : (sent more : List Sent) → has_reset sent ≡ true → waiting_in (sent ++ more) ≡ waiting_in sent
-waiting_on [] more e = absurd cc
-waiting_on (a_text line ∷ sent) more e = ap (λ (ls : List (List ℕ)). line ∷ ls) (waiting_on sent more e)
-waiting_on (a_stop ∷ sent) more e = refl
-
-pub behind_on : (sent more : List Sent) → has_reset sent ≡ true → behind_reset (sent ++ more) ≡ behind_reset sent ++ more
-behind_on [] more e = absurd cc
-behind_on (a_text line ∷ sent) more e = behind_on sent more e
-behind_on (a_stop ∷ sent) more e = refl
-
-pub reset_on : (p : Point) (sent more : List Sent) (r : Reset) → IsReset p sent r → IsReset p (sent ++ more) r
-reset_on p sent more r is = record {
-  free = is.free;
-  comes = has_on sent more is.comes;
-  number = is.number;
-  dropped = is.dropped ∙ ap length (sym (waiting_on sent more is.comes));
-  cause = is.cause;
-  locked = is.locked;
-}
 
 -- a course over the first of what was sent leads to what is left of all of it
 pub record LeadsOn (p last : Point) (sent more : List Sent) (course : List Passed) : Type 0 where
