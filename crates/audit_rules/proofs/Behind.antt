@@ -58,13 +58,13 @@ rest_leads p mid last (a_text line ∷ sent) left gone (a_broken o ∷ ps) qs f 
 -- ---- a course that has come so far, and another one
 
 module _ (sent : List Sent) (console : List ℕ) (records : List Record) (since begun : List Outcome) (made : List Record) (c : HasCome sent console records since begun made) where
-  leads : LeadsTo (opening c.first) sent c.reached.course c.point c.left
+  pub leads : LeadsTo (opening c.first) sent c.reached.course c.point c.left
   leads = subst (λ (ss : List Sent). LeadsTo (opening c.first) ss c.reached.course c.point c.left) (sym c.whole) (leads_with_more (opening c.first) c.point c.front [] c.left c.reached.course c.reached.leads)
 
-  tells : Tells console (told_in c.reached.course) c.rest
+  pub tells : Tells console (told_in c.reached.course) c.rest
   tells = subst (λ (rs : List Reply). Tells console rs c.rest) (sym c.reached.tells) c.tells
 
-  makes : AreMadeSoFar origin (parts_of c.reached.course) records
+  pub makes : AreMadeSoFar origin (parts_of c.reached.course) records
   makes =
       let all : IsMade ((since ++ []) ++ (begun ++ [])) (made ++ []) c.making =
       subst (λ (bs : List Outcome). IsMade bs (made ++ []) c.making) (ap (λ (bs : List Outcome). bs ++ begun) (sym (append-nil since)) ∙ ap (λ (bs : List Outcome). (since ++ []) ++ bs) (sym (append-nil begun)))

@@ -38,7 +38,7 @@ too_late s first others rest n e number late =
     absurd (omega (arith, numbers, number, late))
 
 -- a course that has passed the number of a cut or a reset does not have it
-ahead : (p last : Point) (sent left : List Sent) (ps : List Passed) (s : Stop) (others more : List Stop) → LeadsTo p sent ps last left → s ∷ others ≡ stops_of ps ++ more → stop_number s + 2 ≤ p.before.number → IsPassedBy s others more last
+pub ahead : (p last : Point) (sent left : List Sent) (ps : List Passed) (s : Stop) (others more : List Stop) → LeadsTo p sent ps last left → s ∷ others ≡ stops_of ps ++ more → stop_number s + 2 ≤ p.before.number → IsPassedBy s others more last
 ahead p last sent left [] s others more f e late = record { next = e; number = subst (λ (x : Point). stop_number s + 2 ≤ x.before.number) (sym f.0) late }
 ahead p last sent left (a_cut k at ∷ ps) s others more f e late = too_late s (cut_at k at) others (stops_of ps ++ more) p.before.number e f.0.number late
 ahead p last sent left (a_reset r ∷ ps) s others more f e late = too_late s (reset_at r.number r.at) others (stops_of ps ++ more) p.before.number e (sym f.0.number) late

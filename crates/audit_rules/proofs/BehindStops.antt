@@ -53,7 +53,7 @@ ends_here place since begun made others ending ps r inside ends all =
     }
 
 -- a course that makes such a record next has its cut or reset next
-next_stop : (more : List Passed) (since begun : List Outcome) (place : Steps3) (made others : List Record) (s : Stop) (r : Record) (rest : List Stop) → Inside made → stops_by (moved_by place made) (r ∷ others) ≡ s ∷ rest
+pub next_stop : (more : List Passed) (since begun : List Outcome) (place : Steps3) (made others : List Record) (s : Stop) (r : Record) (rest : List Stop) → Inside made → stops_by (moved_by place made) (r ∷ others) ≡ s ∷ rest
     → AreMadeSoFar place (behind_lines since begun (parts_of more)) (made ++ r ∷ others) → stops_of more ≡ s ∷ rest
 next_stop more since begun place made others s r rest inside comes all = stops_made more since begun place (made ++ r ∷ others) all ∙ none_inside made (r ∷ others) place inside ∙ comes
 

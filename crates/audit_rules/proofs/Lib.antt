@@ -26,3 +26,6 @@ pub mod BehindCourses
 pub mod BehindMade
 pub mod Behind
 pub mod BehindStops
+pub mod NoRecord
+pub mod Late
+pub mod Come

@@ -34,7 +34,7 @@ use Rattle.audit_rules.proofs.Replies.{all_joined, tells_first}
 -- ---- what may come
 
 -- what is told first of two
-first_half : (rest : List ℕ) (first second : List Reply) (later : List ℕ) → TellsNext rest (first ++ second) later → (more : List ℕ) × TellsNext rest first more
+pub first_half : (rest : List ℕ) (first second : List Reply) (later : List ℕ) → TellsNext rest (first ++ second) later → (more : List ℕ) × TellsNext rest first more
 first_half rest first second later t =
     let f = tells_first t.replies first second later t.are t.each in (f.0, subst (λ (text : List ℕ). TellsNext text first f.0) (sym t.text) f.1)
 
@@ -62,7 +62,7 @@ none_comes p q (a_text kept ∷ a_stop ∷ left) gone rest later (a_broken o ∷
 none_comes p q (a_text kept ∷ a_text line ∷ left) gone rest later (a_broken o ∷ a_broken u ∷ ps) n f rebases told answered = both true refl f.1.0.answered
 
 -- and no report
-no_reports : (p : Point) (left : List Sent) (rest later : List ℕ) (replies : List Reply) → TellsNothing p left rest → rest ≡ replies_text replies ++ later → AllByRecursion IsOnConsole replies → without_reports replies ≡ [] → rest ≡ later
+pub no_reports : (p : Point) (left : List Sent) (rest later : List ℕ) (replies : List Reply) → TellsNothing p left rest → rest ≡ replies_text replies ++ later → AllByRecursion IsOnConsole replies → without_reports replies ≡ [] → rest ≡ later
 no_reports p left rest later [] n text each none = text
 no_reports p left rest later (r ∷ rs) n text each none = by_kind (is_report r) refl where
   by_kind : (b : Bool) → is_report r ≡ b → rest ≡ later
@@ -99,7 +99,7 @@ rebases_on p between last (a_stop ∷ sent) waiting left (a_broken o ∷ ps) qs 
 rebases_on p between last (a_text line ∷ sent) waiting left (a_broken o ∷ ps) qs f a b = rebases_on (behind_broken p o) between last sent waiting left ps qs f.1 a b
 
 -- behind what a console tells it tells what comes next
-told_on : (console : List ℕ) (told more : List Reply) (rest later : List ℕ) → Tells console told rest → TellsNext rest more later → Tells console (told ++ more) later
+pub told_on : (console : List ℕ) (told more : List Reply) (rest later : List ℕ) → Tells console told rest → TellsNext rest more later → Tells console (told ++ more) later
 told_on console told more rest later t n = record {
   behind = t.behind ++ n.replies;
   text =

@@ -1,12 +1,14 @@
 -- How a course that stands goes on behind another one, on one console and one job.
-use Rattle.std.specs.Prelude.{◌≡◌, ℕ, Bool, true, false, List, [], ◌∷◌, ◌++◌}
+use Rattle.std.specs.Prelude.{◌≡◌, ◌≤◌, ℕ, ◌+◌, Bool, true, false, List, [], ◌∷◌, ◌++◌}
 use Rattle.units.specs.declared.Steps3.{Steps3}
 use Rattle.flight.specs.Places.{origin}
 use Rattle.status_report.specs.Answering.{is_report}
 use Rattle.status_report.specs.Replies.{reply_text}
 use Rattle.status_report.specs.declared.Reply.{Reply}
 use Rattle.status_report.specs.declared.Reply.TheVariants.{Alarm}
+use Rattle.step_line.specs.declared.Mark.TheVariants.{Cut, Reset as ResetMark}
 use Rattle.step_line.specs.declared.Record.{Record}
+use Rattle.step_line.specs.declared.Record.TheVariants as kinds
 use Rattle.run_rules.specs.declared.State.{State}
 use Rattle.run_rules.specs.States.{IsOpening}
 use Rattle.run_rules.specs.Reports.{raises_alarm}
@@ -91,3 +93,11 @@ pub record TellsNothing (p : Point) (left : List Sent) (rest : List ℕ) : Type 
 -- It does not go on with the alarm of a soft limit, where the next line may raise that.
 abbrev pub TellsNoAlarm : Point → List Sent → List ℕ → Type 0
 TellsNoAlarm p left rest = (kept : List ℕ) (more : List Sent) (o : Outcome) → left ≡ a_text kept ∷ more → IsPassed p kept o → raises_alarm o ≡ true → GoesOnWith rest (Alarm soft_limit) → ⊥
+
+-- Record r comes of a line behind the last of n - 1 lines, of which these ticks are left: of their part nothing is left, or it is
+-- the mark of a later line, or of a reset behind the last, or it is the end.
+abbrev pub IsOfLater : ℕ → List Record → Record → Type 0
+IsOfLater n ticks (kinds.Mark (Cut k)) = n ≤ k
+IsOfLater n ticks (kinds.Mark (ResetMark k)) = n ≤ k + 1
+IsOfLater n ticks kinds.End = Unit {0}
+IsOfLater n ticks r = ticks ≡ []

@@ -1,28 +1,30 @@
 //! Laws of audits.
 
 ghost use Rattle.std.specs.Prelude.{◌≡◌, ◌↔◌, ◌≤◌, ◌+◌, true, false, not, ℕ, List, [], ◌∷◌, ◌++◌, length, All};
+ghost use Rattle.std.specs.List.{AllByRecursion};
 ghost use Rattle.run_texts.specs.Points.{Point};
 ghost use Rattle.run_texts.specs.Sent.{Sent};
 ghost use Rattle.step_line.specs.declared.Mark.TheVariants.{Cut, Reset as ResetMark};
 ghost use Rattle.step_line.specs.declared.Record.{Record as AnyRecord};
 ghost use Rattle.step_line.specs.declared.Record.TheVariants as kinds;
 ghost use Rattle.run_rules.specs.Work.{Outcome};
-ghost use Rattle.run_texts.specs.Courses.{Reset, IsCut, IsReset};
+ghost use Rattle.run_texts.specs.Courses.{Passed, Reset, IsCut, IsReset};
 ghost use Rattle.run_texts.specs.Left.{part_of};
 ghost use Rattle.run_texts.specs.Making.{Making, IsMade};
 ghost use Rattle.run_texts.specs.Parts.{is_ending};
 ghost use Rattle.run_texts.specs.Parts.Ending.{by_cut, by_reset};
 ghost use Rattle.run_texts.specs.Recorded.{IsRecorded};
-ghost use Rattle.run_texts.specs.Told.{told_at_reset};
+ghost use Rattle.run_texts.specs.Told.{told_in, told_at_reset};
 ghost use Rattle.status_report.specs.Answering.{is_banner};
 ghost use Rattle.status_report.specs.declared.Reply.{Reply};
 ghost use Rattle.units.specs.declared.Steps3.{Steps3};
 ghost use Rattle.audit_rules.specs.declared.Audit.{Audit as AnyAudit};
 ghost use Rattle.audit_rules.specs.Consoles.{GoesOnWith, is_of_reset};
 ghost use Rattle.audit_rules.specs.Findings.{Finds, FitsWith, BreaksAt, IsForeign, HasForeign, IsTooLong, exit_of};
-ghost use Rattle.audit_rules.specs.Onward.{GoesOnTo, HasCome, StandsBehind, TellsNext, TellsNothing, TellsNoAlarm, begins_with_line};
+ghost use Rattle.audit_rules.specs.Onward.{GoesOnTo, HasCome, StandsBehind, IsOfLater, TellsNext, TellsNothing, TellsNoAlarm, begins_with_line};
 ghost use Rattle.audit_rules.specs.Scanned.{sent_in};
-ghost use Rattle.audit_rules.specs.Standing.{Stand, StandTo, StandRead, AreUpTo};
+ghost use Rattle.run_texts.specs.SoFar.{LeadsTo, RebasesNothing};
+ghost use Rattle.audit_rules.specs.Standing.{MayWait, Stand, StandTo, StandRead, AreUpTo};
 ghost use Rattle.audit_rules.specs.StepTexts.{IsLineOf, FollowsLast, AreLinesOf, IsStepText, last_of, form_of, records_of};
 ghost use Rattle.step_line.specs.Records.{IsRecord};
 ghost use Rattle.step_record.specs.Forms.{text_in};
@@ -134,6 +136,29 @@ pub fn a_console_stands_no_further_than_it_tells()
         TellsNothing p left rest → (rest ≡ [] → IsOver p left → ⊥) → (line : ℕ) → IsLineAtFault p left rest (last_answered 1 0 (s.course ++ s.others)) line → HasBadReply sent console steps line }
     ensures alarm { (sent : List Sent) (console steps : List ℕ) (z : StandTo sent console steps) (p : Point) (left : List Sent) (rest : List ℕ) → StandsUpTo sent console (records_of z.done) p left rest →
         TellsNothing p left rest → p.before.alarmed ≡ false → TellsNoAlarm p left rest → (k : ℕ) → HasAlarm sent console steps k → ⊥ }
+{}
+
+/// Behind the records of a course that has come to a point no more stand, if what is left of the console tells nothing there, and the
+/// next one comes of a later line (`none`). A cut or a reset that comes behind a record of a line that begins there is of that line or
+/// of a later one (`cut`, `reset`).
+pub fn no_record_stands_where_nothing_is_told()
+    ensures none { (sent : List Sent) (console : List ℕ) (records made : List AnyRecord) (since begun : List Outcome) (c : HasCome sent console records since begun made) → TellsNothing c.point c.left c.rest →
+        (r : AnyRecord) → IsOfLater c.point.before.number c.making.owed r → Stand sent console (records ++ r ∷ []) → ⊥ }
+    ensures cut { (sent : List Sent) (console : List ℕ) (records made : List AnyRecord) (since begun : List Outcome) (c : HasCome sent console records since begun made) → c.making.owed ≡ [] →
+        (x : AnyRecord) → is_ending x ≡ false → (xs : List AnyRecord) → AllByRecursion (λ r. is_ending r ≡ false) xs → (k : ℕ) → Stand sent console (records ++ x ∷ (xs ++ kinds.Mark (Cut k) ∷ [])) → c.point.before.number ≤ k }
+    ensures reset { (sent : List Sent) (console : List ℕ) (records made : List AnyRecord) (since begun : List Outcome) (c : HasCome sent console records since begun made) → c.making.owed ≡ [] →
+        (x : AnyRecord) → is_ending x ≡ false → (xs : List AnyRecord) → AllByRecursion (λ r. is_ending r ≡ false) xs → (k : ℕ) → Stand sent console (records ++ x ∷ (xs ++ kinds.Mark (ResetMark k) ∷ [])) → c.point.before.number ≤ k }
+{}
+
+/// Where a course has come to, its records stand (`records`), and a console stands up to there (`here`), and as far as what goes on
+/// behind it without records (`on`). Where all is told of the job, nothing more is (`nothing`), and no alarm (`alarm`).
+pub fn a_course_stands_where_it_has_come_to()
+    ensures records { (sent : List Sent) (console : List ℕ) (records made : List AnyRecord) (since begun : List Outcome) → HasCome sent console records since begun made → Stand sent console records }
+    ensures here { (sent : List Sent) (console : List ℕ) (records made : List AnyRecord) (since begun : List Outcome) (c : HasCome sent console records since begun made) → StandsUpTo sent console records c.point c.left c.rest }
+    ensures on { (sent : List Sent) (console : List ℕ) (records made : List AnyRecord) (since begun : List Outcome) (c : HasCome sent console records since begun made) (q : Point) (gone : List Sent) (later : List ℕ) (ps : List Passed) →
+        LeadsTo c.point c.left ps q gone → RebasesNothing c.point c.left ps → TellsNext c.rest (told_in ps) later → MayWait q gone later → StandsUpTo sent console records q gone later }
+    ensures nothing { (p : Point) (left : List Sent) → IsOver p left → TellsNothing p left [] }
+    ensures alarm { (p : Point) (left : List Sent) → TellsNoAlarm p left [] }
 {}
 
 /// And one line raises the alarm of a soft limit.

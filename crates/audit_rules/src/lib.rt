@@ -5,8 +5,9 @@ mod laws;
 mod rows;
 
 pub use laws::{
-    a_console_stands_no_further_than_it_tells, bad_replies_stand_at_one_place,
-    cuts_and_resets_come_behind_their_lines, one_line_has_the_bad_reply, one_line_raises_the_alarm,
+    a_console_stands_no_further_than_it_tells, a_course_stands_where_it_has_come_to,
+    bad_replies_stand_at_one_place, cuts_and_resets_come_behind_their_lines,
+    no_record_stands_where_nothing_is_told, one_line_has_the_bad_reply, one_line_raises_the_alarm,
     one_thing_is_found, records_stand_behind_a_course, records_stand_from_the_left,
     step_texts_go_on_line_by_line, step_texts_have_one_list,
     steps_that_were_read_stand_up_to_a_line, texts_are_found_to_fit_if_they_do,
