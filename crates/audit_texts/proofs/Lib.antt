@@ -1,4 +1,5 @@
 pub mod JobRead
 pub mod JobTold
 pub mod ConsoleRead
+pub mod ConsoleNext
 pub mod StepsRead

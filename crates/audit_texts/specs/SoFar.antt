@@ -3,7 +3,7 @@ use Rattle.std.specs.Prelude.{◌≡◌, ◌≤◌, ◌⊎◌, ℕ, ◌<◌, ◌
 use Rattle.std.specs.declared.option.Option.{Option}
 use Rattle.std.specs.List.{flat_map, sum_by, AllByRecursion}
 use Rattle.outside.specs.Causes.{SourceState}
-use Rattle.status_report.specs.Answering.{without_reports, is_bye}
+use Rattle.status_report.specs.Answering.{without_reports, is_report, is_bye}
 use Rattle.status_report.specs.Replies.{reply_text}
 use Rattle.status_report.specs.declared.Reply.{Reply}
 use Rattle.status_report.specs.declared.Reply.TheVariants.{Banner, Error, Alarm}
@@ -14,7 +14,7 @@ use Rattle.step_record.specs.declared.forms.Line.TheVariants as line_kinds
 use Rattle.run_rules.specs.Told.{replies_text}
 use Rattle.run_texts.specs.Sent.{Sent, resets_of, sent_by}
 use Rattle.run_texts.specs.Sent.Sent.{a_text, a_stop}
-use Rattle.audit_rules.specs.Consoles.{IsOnConsole}
+use Rattle.audit_rules.specs.Consoles.{IsOnConsole, Tells}
 use Rattle.audit_rules.specs.Findings.{is_foreign, foreign_in}
 use Rattle.audit_rules.specs.Scanned.{Scanned, scanned, cuts_by, holds_by}
 use Rattle.audit_rules.specs.StepTexts.{AreLinesOf, IsStepText, form_of, body_of, heading, last_of, lines_text, records_of}
@@ -201,6 +201,29 @@ pub record IsWhole (text : List ℕ) (told : List Reply) : Type 0 where
 -- if so, nothing follows what was told
 abbrev pub EndsConsole : Bool → Listening → SourceState → Type 0
 EndsConsole none l source = none ≡ true → (text : List ℕ) (told : List Reply) → ConsoleSoFar l source text told → IsWhole text told
+
+-- A console tells this, and then this is left of it, which begins with no report.
+pub record StandsAt (text : List ℕ) (told : List Reply) (rest : List ℕ) : Type 0 where
+  pub tells : Tells text told rest
+  pub no_report : (report : Reply) (later : List ℕ) → is_report report ≡ true → IsOnConsole report → rest ≡ reply_text report ++ later → ⊥
+
+-- of a console that is not too long this holds of what is left
+abbrev pub StandsSo : (List ℕ → Type 0) → Listening → SourceState → Type 0
+StandsSo So l source = (text : List ℕ) (told : List Reply) → ConsoleSoFar l source text told → (too_long ≤ length text → ⊥) → (rest : List ℕ) × StandsAt text told rest × So rest
+
+-- it begins with this reply, or with none that is looked for
+abbrev pub IsNextOn : Option Reply → List ℕ → Type 0
+IsNextOn (Some reply) rest = (later : List ℕ) × (rest ≡ reply_text reply ++ later)
+IsNextOn None rest = (reply : Reply) → is_looked_for reply ≡ true → (later : List ℕ) → rest ≡ reply_text reply ++ later → ⊥
+
+-- it begins with a reply that is heard, and not with one that is not; `Bye` has no text
+abbrev pub IsHeardOn : Bool → Reply → List ℕ → Type 0
+IsHeardOn true reply rest = (later : List ℕ) × (rest ≡ reply_text reply ++ later)
+IsHeardOn false reply rest = is_bye reply ≡ false → (later : List ℕ) → rest ≡ reply_text reply ++ later → ⊥
+
+-- something is left, if the console is not at its end
+abbrev pub IsMoreOn : Bool → List ℕ → Type 0
+IsMoreOn none rest = none ≡ false → rest ≡ [] → ⊥
 
 -- a console that is not too long tells these replies, and nothing else
 pub record TellsAll (text : List ℕ) (all : List Reply) : Type 0 where

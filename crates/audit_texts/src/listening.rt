@@ -8,7 +8,7 @@ ghost use Rattle.status_report.specs.declared.Reply.{Reply as AnyReply};
 ghost use Rattle.audit_rules.specs.Telling.{HasNoBanner};
 ghost use Rattle.audit_readers.specs.Windows.{KnowsEnd, ahead, too_long};
 ghost use Rattle.audit_texts.specs.Reading.{KnowsConsole, IsSame};
-ghost use Rattle.audit_texts.specs.SoFar.{ConsoleSoFar, Opens, Hears, TakesReply, IsNotNext, StandsNext, StaysTold, BecomesKnown, IsRead, IsReadOn, EndsConsole, FindsReply, HearsNot, EndsNot, is_looked_for};
+ghost use Rattle.audit_texts.specs.SoFar.{ConsoleSoFar, Opens, Hears, TakesReply, IsNotNext, StandsNext, StaysTold, BecomesKnown, IsRead, IsReadOn, EndsConsole, StandsSo, IsNextOn, IsHeardOn, IsMoreOn, FindsReply, HearsNot, EndsNot, is_looked_for};
 
 use audit_readers::ConsoleReader;
 use outside::{Failed, Source};
@@ -69,6 +69,7 @@ impl Listening {
         ensures next { IfOk result (λ reply. reply ≡ self.new.known) }
         ensures so_far { IfOk result (λ reply. StaysTold self.old self.new (S.state source.old) (S.state source.new)) }
         ensures found { IfOk result (λ reply. FindsReply reply self.old (S.state source.old)) }
+        ensures stands { IfOk result (λ reply. StandsSo (IsNextOn reply) self.old (S.state source.old)) }
     {
         if self.known.is_some() {
             return Ok(self.known);
@@ -129,6 +130,7 @@ impl Listening {
         ensures known { MatchResult result (λ answer. KnowsConsole self.new.reader (S.state source.new) × IsSame (S.state source.old) (S.state source.new)) (λ e. Rose (S.state source.old).faults (S.state source.new).faults) }
         ensures so_far { IfOk result (λ yes. (text : List ℕ) (told : List AnyReply) → ConsoleSoFar self.old (S.state source.old) text told → Hears yes self.new (S.state source.new) text (told ++ reply.now ∷ [])) }
         ensures no { IfOk result (λ yes. HearsNot yes self.old (S.state source.old) reply.now) }
+        ensures stands { IfOk result (λ yes. StandsSo (IsHeardOn yes reply.now) self.old (S.state source.old)) }
     {
         if let Some(known) = self.known {
             self.known = None;
@@ -145,6 +147,7 @@ impl Listening {
         ensures read { IfOk result (λ none. IsReadOn self.old.reader.window self.new.reader.window (S.state source.old) (S.state source.new) self.old.reader.place self.new.reader.place) }
         ensures ends { IfOk result (λ none. EndsConsole none self.old (S.state source.old)) }
         ensures no { IfOk result (λ none. EndsNot none self.old (S.state source.old)) }
+        ensures stands { IfOk result (λ none. StandsSo (IsMoreOn none) self.old (S.state source.old)) }
         ensures over { IfOk result (λ none. IsRead self.new.reader.window self.new.reader.place) }
     {
         let none = self.known.is_none();
