@@ -3,3 +3,4 @@ pub mod JobTold
 pub mod ConsoleRead
 pub mod ConsoleNext
 pub mod StepsRead
+pub mod StepsNext

@@ -59,6 +59,7 @@ steps_open r at before after text known o =
       last = o.last;
       place = omega (arith, place);
       told_are = refl;
+      line = λ x e. absurd (let f : None ≡ Some x = e in cc);
     }
 
 -- ---- a line
@@ -85,8 +86,8 @@ left_of form r (line_kinds.Run n b) is k = rw (k.0, k.1) (run_left form n b is)
 left_of form r line_kinds.Version is k = absurd is
 
 pub line_kept : (old mid now : Recorded) (s t : SourceState) (text : List ℕ) (told : List Record) (line : Line) → old.next ≡ None → StepsSoFar old s text told → ReadsLine old.reader mid.reader s t line
-    → now.reader ≡ mid.reader → KeepsLine now line → StepsSoFar now t text told
-line_kept old mid now s t text told line none c read same keeps =
+    → now.reader ≡ mid.reader → now.at ≡ old.reader.place → KeepsLine now line → StepsSoFar now t text told
+line_kept old mid now s t text told line none c read same starts keeps =
     let f = follows_on old.reader.window mid.reader.window s t c.rest (line_text line) c.follows read.text in
     let may : IsLineOf (form_of text) line = subst (λ (f : Form). IsLineOf f line) c.form read.may.is in
     let behind : FollowsLast (form_of text) (last_of c.lines) line =
@@ -111,11 +112,13 @@ line_kept old mid now s t text told line none c read same keeps =
           ∙ ap (λ (rs : List Record). rs ++ records_by line) before
           ∙ ap (λ (rs : List Record). records_of c.lines ++ rs) (sym (append-nil (records_by line)))
           ∙ sym (flat_map-append records_by c.lines (line ∷ []));
+      line = λ x e. record { before = c.lines; last = line; split = refl; place = starts ∙ c.place; part = []; are = append-nil (records_by line) ∙ sym (left_of (form_of text) now line may keeps) };
     }
 
 -- no line was read
-pub none_kept : (old now : Recorded) (s t : SourceState) (text : List ℕ) (told : List Record) → IsWhereItWas old.reader now.reader s t → now.next ≡ old.next → now.count ≡ old.count → StepsSoFar old s text told → StepsSoFar now t text told
-none_kept old now s t text told is next count c = record {
+pub none_kept : (old now : Recorded) (s t : SourceState) (text : List ℕ) (told : List Record) → IsWhereItWas old.reader now.reader s t → now.next ≡ old.next → now.count ≡ old.count
+    → ((x : Record) → old.next ≡ Some x → now.at ≡ old.at) → StepsSoFar old s text told → StepsSoFar now t text told
+none_kept old now s t text told is next count starts c = record {
   lines = c.lines;
   rest = c.rest;
   body = c.body;
@@ -125,6 +128,17 @@ none_kept old now s t text told is next count c = record {
   last = is.last ∙ c.last;
   place = is.place ∙ c.place;
   told_are = rw (next, count) c.told_are;
+  line = λ x e.
+      let here : old.next ≡ Some x = sym next ∙ e in
+      let l = c.line x here in
+      record {
+        before = l.before;
+        last = l.last;
+        split = l.split;
+        place = starts x here ∙ l.place;
+        part = l.part;
+        are = l.are ∙ ap (λ (o : Option Record). l.part ++ records_left o old.count) (sym next) ∙ ap (λ (n : ℕ). l.part ++ records_left now.next n) (sym count);
+      };
 }
 
 -- ---- a record is told
@@ -148,6 +162,7 @@ last_told c s text told r n next none h = record {
       ∙ ap (λ (k : ℕ). told ++ r ∷ replicate k r) (sym none)
       ∙ ap (λ (o : Option Record). told ++ records_left o c.count) (sym next)
       ∙ h.told_are;
+  line = λ x e. absurd (let f : None ≡ Some x = e in cc);
 }
 
 pub one_told : (c : Recorded) (s : SourceState) (text : List ℕ) (told : List Record) (r : Record) → c.next ≡ Some r → (c.count - 1 ≡ 0 → ⊥) → StepsSoFar c s text told
@@ -167,6 +182,21 @@ one_told c s text told r next some h = record {
       ∙ ap (λ (rs : List Record). told ++ r ∷ rs) (sym (one_less c.count r some))
       ∙ ap (λ (o : Option Record). told ++ records_left o c.count) (sym next)
       ∙ h.told_are;
+  line = λ x e.
+      let l = h.line r next in
+      record {
+        before = l.before;
+        last = l.last;
+        split = l.split;
+        place = l.place;
+        part = l.part ++ r ∷ [];
+        are =
+            l.are
+            ∙ ap (λ (o : Option Record). l.part ++ records_left o c.count) next
+            ∙ ap (λ (rs : List Record). l.part ++ r ∷ rs) (one_less c.count r some)
+            ∙ sym (append_assoc l.part (r ∷ []) (r ∷ replicate (c.count - 1 - 1) r))
+            ∙ ap (λ (o : Option Record). (l.part ++ r ∷ []) ++ records_left o (c.count - 1)) (sym next);
+      };
 }
 
 -- ---- the end
@@ -205,20 +235,22 @@ read_to c s text told h =
 -- ---- what the reader does
 
 pub read_by : (found : Option Line) (old mid now : Recorded) (s t : SourceState) → old.next ≡ None → Reads old.reader mid.reader s t found → mid.next ≡ old.next → mid.count ≡ old.count
-    → now.reader ≡ mid.reader → IfSome found (λ l. KeepsLine now l) → (found ≡ None → now ≡ mid) → StaysRecorded old now s t
-read_by None old mid now s t none read next count same keeps stays = λ text told c.
-    subst (λ (r : Recorded). StepsSoFar r t text told) (sym (stays refl)) (none_kept old mid s t text told read.where_it_was next count c)
-read_by (Some line) old mid now s t none read next count same keeps stays = λ text told c. line_kept old mid now s t text told line none c read same keeps
+    → now.reader ≡ mid.reader → now.at ≡ old.reader.place → IfSome found (λ l. KeepsLine now l) → (found ≡ None → now ≡ mid) → StaysRecorded old now s t
+read_by None old mid now s t none read next count same starts keeps stays = λ text told c.
+    subst (λ (r : Recorded). StepsSoFar r t text told) (sym (stays refl))
+    (none_kept old mid s t text told read.where_it_was next count (λ x e. absurd (let f : None ≡ Some x = sym none ∙ e in cc)) c)
+read_by (Some line) old mid now s t none read next count same starts keeps stays = λ text told c. line_kept old mid now s t text told line none c read same starts keeps
 
 pub ends_by : (b over : Bool) (old now : Recorded) (s t : SourceState) → IsWhereItWas old.reader now.reader s t → now.next ≡ old.next → now.count ≡ old.count
     → ((text : List ℕ) → ahead now.reader.window t ≡ Some text → (over ≡ true) → text ≡ []) → (b ≡ true → (over ≡ true) × (now.next ≡ None)) → EndsSteps b old now s t
 ends_by b over old now s t is next count whole all = λ text told c.
-    let d = none_kept old now s t text told is next count c in
+    let still : Recorded = record now { at = old.at } in
+    let d = none_kept old still s t text told is next count (λ x e. refl) c in
     record {
-      read = read_to now t text told d;
+      read = read_to still t text told d;
       all = λ yes.
           let rest : d.rest ≡ [] = whole d.rest d.follows (all yes).0 in
-          let e = all_told now t text told (all yes).1 (d.follows ∙ ap Some rest) d in
+          let e = all_told still t text told (all yes).1 (d.follows ∙ ap Some rest) d in
           record { lines = d.lines; are_lines = e.0; are = e.1 };
     }
 
@@ -275,7 +307,7 @@ may_stand form lines l later are =
     let g = (go_on form lines l).0 (lines_first form (lines ++ l ∷ []) later (subst (AreLinesOf form) (sym (append_assoc lines (l ∷ []) later)) are)) in
     (g.1, g.2)
 
-kept_some : (form : Form) (r : Recorded) (l : Line) → IsLineOf form l → KeepsLine r l → (x : Record) × (r.next ≡ Some x)
+pub kept_some : (form : Form) (r : Recorded) (l : Line) → IsLineOf form l → KeepsLine r l → (x : Record) × (r.next ≡ Some x)
 kept_some form r (line_kinds.One x) is k = (x, k.0)
 kept_some form r (line_kinds.Run n b) is k = (kinds.Event b, k.0)
 kept_some form r line_kinds.Version is k = absurd is
@@ -286,16 +318,22 @@ kept_next form r l rest is k =
     let x = kept_some form r l is k in
     x.1 ∙ sym (ap (λ (o : Option Record). next_of (records_left o r.count ++ rest)) x.1) ∙ ap (λ (rs : List Record). next_of (rs ++ rest)) (left_of form r l is k)
 
+-- no line that may stands behind those that were read
+pub none_here : (old now : StepsRead) (s t : SourceState) (form : Form) (lines : List Line) (rest : List ℕ) → old.form ≡ form → old.last ≡ last_of lines → ahead old.window s ≡ Some rest → ReadsNone old now s t
+    → (l : Line) (more : List ℕ) → rest ≡ line_text l ++ more → AreLinesOf form (lines ++ l ∷ []) → ⊥
+none_here old now s t form lines rest form_is last_is follows read l more text are =
+    let may = may_stand form lines l [] are in
+    let here : now.form ≡ form = read.where_it_was.form ∙ form_is in
+    let last : now.last ≡ last_of lines = read.where_it_was.last ∙ last_is in
+    let behind : FollowsLast now.form now.last l = subst (λ (f : Form). FollowsLast f now.last l) (sym here) (subst (λ (o : Option Line). FollowsLast form o l) (sym last) may.1) in
+    read.none rest more l (still_follows old.window now.window s t rest follows read.where_it_was.stays.kept) (record { is = subst (λ (f : Form). IsLineOf f l) (sym here) may.0; follows = behind }) text
+
 none_read : (old now : StepsRead) (s t : SourceState) (form : Form) (lines later : List Line) (rest : List ℕ) → old.form ≡ form → old.last ≡ last_of lines → ahead old.window s ≡ Some rest
     → ReadsNone old now s t → AreLinesOf form (lines ++ later) → rest ≡ lines_text later → later ≡ []
 none_read old now s t form lines [] rest form_is last_is follows read are text = refl
 none_read old now s t form lines (l ∷ later) rest form_is last_is follows read are text =
-    let may = may_stand form lines l later are in
-    let here : now.form ≡ form = read.where_it_was.form ∙ form_is in
-    let last : now.last ≡ last_of lines = read.where_it_was.last ∙ last_is in
-    let behind : FollowsLast now.form now.last l = subst (λ (f : Form). FollowsLast f now.last l) (sym here) (subst (λ (o : Option Line). FollowsLast form o l) (sym last) may.1) in
-    absurd (read.none rest (lines_text later) l (still_follows old.window now.window s t rest follows read.where_it_was.stays.kept)
-    (record { is = subst (λ (f : Form). IsLineOf f l) (sym here) may.0; follows = behind }) text)
+    absurd (none_here old now s t form lines rest form_is last_is follows read l (lines_text later) text
+    (lines_first form (lines ++ l ∷ []) later (subst (AreLinesOf form) (sym (append_assoc lines (l ∷ []) later)) are)))
 
 line_read : (old now : StepsRead) (s t : SourceState) (form : Form) (lines later : List Line) (rest : List ℕ) (line : Line) → old.form ≡ form → ahead old.window s ≡ Some rest
     → ReadsLine old now s t line → AreLinesOf form (lines ++ later) → rest ≡ lines_text later → (more : List Line) × (later ≡ line ∷ more) × IsLineOf form line

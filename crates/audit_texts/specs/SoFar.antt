@@ -9,6 +9,7 @@ use Rattle.status_report.specs.declared.Reply.{Reply}
 use Rattle.status_report.specs.declared.Reply.TheVariants.{Banner, Error, Alarm}
 use Rattle.step_line.specs.declared.Record.{Record}
 use Rattle.step_line.specs.declared.Record.TheVariants as kinds
+use Rattle.step_record.specs.Forms.{line_text}
 use Rattle.step_record.specs.declared.forms.Line.{Line as AnyLine}
 use Rattle.step_record.specs.declared.forms.Line.TheVariants as line_kinds
 use Rattle.run_rules.specs.Told.{replies_text}
@@ -17,6 +18,7 @@ use Rattle.run_texts.specs.Sent.Sent.{a_text, a_stop}
 use Rattle.audit_rules.specs.Consoles.{IsOnConsole, Tells}
 use Rattle.audit_rules.specs.Findings.{is_foreign, foreign_in}
 use Rattle.audit_rules.specs.Scanned.{Scanned, scanned, cuts_by, holds_by}
+use Rattle.audit_rules.specs.Standing.{place_behind}
 use Rattle.audit_rules.specs.StepTexts.{AreLinesOf, IsStepText, form_of, body_of, heading, last_of, lines_text, records_of}
 use Rattle.audit_readers.specs.Console.{ConsoleRead}
 use Rattle.audit_readers.specs.Jobs.{JobRead, scanned_behind, lines_behind}
@@ -249,6 +251,15 @@ abbrev pub records_left : Option Record → ℕ → List Record
 records_left None count = []
 records_left (Some r) count = r ∷ replicate (count - 1) r
 
+-- The records that are left are the last ones of the last of these lines, which begins at this place.
+pub record AreOfLast (text : List ℕ) (lines : List AnyLine) (at : ℕ) (left : List Record) : Type 0 where
+  pub before : List AnyLine
+  pub last : AnyLine
+  pub split : lines ≡ before ++ last ∷ []
+  pub place : at ≡ place_behind text before
+  pub part : List Record
+  pub are : records_of (last ∷ []) ≡ part ++ left
+
 -- These lines were read of steps, and its judge was told these records.
 pub record StepsSoFar (r : Recorded) (source : SourceState) (text : List ℕ) (told : List Record) : Type 0 where
   pub lines : List AnyLine
@@ -260,10 +271,51 @@ pub record StepsSoFar (r : Recorded) (source : SourceState) (text : List ℕ) (t
   pub last : r.reader.last ≡ last_of lines
   pub place : r.reader.place ≡ length (heading (form_of text)) + length (lines_text lines)
   pub told_are : told ++ records_left r.next r.count ≡ records_of lines
+  pub line : (x : Record) → r.next ≡ Some x → AreOfLast text lines r.at (records_left r.next r.count)
 
 -- nothing more was told of them
 abbrev pub StaysRecorded : Recorded → Recorded → SourceState → SourceState → Type 0
 StaysRecorded old now before after = (text : List ℕ) (told : List Record) → StepsSoFar old before text told → StepsSoFar now after text told
+
+-- These records are those of lines, behind which this place is.
+pub record AreBehind (text : List ℕ) (told : List Record) (at : ℕ) : Type 0 where
+  pub lines : List AnyLine
+  pub rest : List ℕ
+  pub body : body_of text ≡ lines_text lines ++ rest
+  pub are : AreLinesOf (form_of text) lines
+  pub told_are : told ≡ records_of lines
+  pub place : at ≡ place_behind text lines
+
+-- and no line stands there that may
+pub record StandsNoLine (text : List ℕ) (told : List Record) (at : ℕ) : Type 0 where
+  pub behind : AreBehind text told at
+  pub none : (line : AnyLine) (more : List ℕ) → behind.rest ≡ line_text line ++ more → AreLinesOf (form_of text) (behind.lines ++ line ∷ []) → ⊥
+
+-- A record is the next of a line that begins at this place.
+pub record StandsIn (text : List ℕ) (told : List Record) (at : ℕ) (next : Record) : Type 0 where
+  pub before : List AnyLine
+  pub last : AnyLine
+  pub rest : List ℕ
+  pub body : body_of text ≡ lines_text (before ++ last ∷ []) ++ rest
+  pub are : AreLinesOf (form_of text) (before ++ last ∷ [])
+  pub place : at ≡ place_behind text before
+  pub part : List Record
+  pub later : List Record
+  pub told_are : told ≡ records_of before ++ part
+  pub of_last : records_of (last ∷ []) ≡ part ++ next ∷ later
+
+-- behind these records comes this one, or no line, at this place
+abbrev pub RecordStands : Option Record → List ℕ → List Record → ℕ → Type 0
+RecordStands None text told at = StandsNoLine text told at
+RecordStands (Some next) text told at = StandsIn text told at next
+
+-- so it is in steps that are not too long
+abbrev pub StandsNow : Option Record → Recorded → Recorded → SourceState → Type 0
+StandsNow found old now source = (text : List ℕ) (told : List Record) → StepsSoFar old source text told → (too_long ≤ length text → ⊥) → RecordStands found text told now.at
+
+-- where no record is left, its place is behind all that was told
+abbrev pub IsPlaceBehind : Recorded → Recorded → SourceState → Type 0
+IsPlaceBehind old now source = (text : List ℕ) (told : List Record) → StepsSoFar old source text told → old.next ≡ None → AreBehind text told now.at
 
 -- steps are these records, and nothing else
 pub record AreRecords (text : List ℕ) (told : List Record) : Type 0 where

@@ -4,7 +4,7 @@ ghost use Rattle.std.specs.Prelude.{◌≡◌, ◌↔◌, ◌≤◌, ◌∷◌, 
 ghost use Rattle.outside.specs.Causes.{Rose, SourceState};
 ghost use Rattle.step_line.specs.declared.Record.{Record as AnyRecord};
 ghost use Rattle.audit_texts.specs.Reading.{KnowsSteps, IsSame};
-ghost use Rattle.audit_texts.specs.SoFar.{StepsSoFar, StaysRecorded, KeepsLine, IsRead, IsReadOn, EndsSteps, FindsRecord, StepsGoOn};
+ghost use Rattle.audit_texts.specs.SoFar.{StepsSoFar, StaysRecorded, StandsNow, IsPlaceBehind, KeepsLine, IsRead, IsReadOn, EndsSteps, FindsRecord, StepsGoOn};
 ghost use Rattle.audit_readers.specs.Windows.{too_long};
 
 use crate::listening::TOO_LONG;
@@ -46,6 +46,7 @@ impl Recorded {
         ensures next { IfOk result (λ found. found ≡ self.new.next) }
         ensures so_far { IfOk result (λ found. StaysRecorded self.old self.new (S.state source.old) (S.state source.new)) }
         ensures found { IfOk result (λ found. FindsRecord found self.old (S.state source.old)) }
+        ensures stands { IfOk result (λ found. StandsNow found self.old self.new (S.state source.old)) }
     {
         if self.next.is_some() {
             return Ok(self.next);
@@ -62,6 +63,7 @@ impl Recorded {
     /// A line was read.
     fn keep(&mut self, line: Option<Line>)
         ensures reader { self.new.reader ≡ self.old.reader }
+        ensures at { self.new.at ≡ self.old.at }
         ensures kept { IfSome line (λ l. KeepsLine self.new l) }
         ensures none { line ≡ None → self.new ≡ self.old }
     {
@@ -90,7 +92,9 @@ impl Recorded {
     }
 
     /// Where the line begins that comes next.
-    pub fn at(&self) -> u64 {
+    pub fn at(&self) -> u64
+        ensures { result ≡ self.now.at }
+    {
         self.at
     }
 
@@ -100,6 +104,7 @@ impl Recorded {
         ensures known { MatchResult result (λ answer. KnowsSteps self.new.reader (S.state source.new) × IsSame (S.state source.old) (S.state source.new)) (λ e. Rose (S.state source.old).faults (S.state source.new).faults) }
         ensures ends { IfOk result (λ over. EndsSteps over self.old self.new (S.state source.old) (S.state source.new)) }
         ensures no { IfOk result (λ over. StepsGoOn over self.old (S.state source.old)) }
+        ensures place { IfOk result (λ over. IsPlaceBehind self.old self.new (S.state source.old)) }
     {
         self.at = self.reader.place();
         let is_at_end = self.reader.is_at_end(source)?;
