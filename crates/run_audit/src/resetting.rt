@@ -1,6 +1,6 @@
 //! The resets of an audit, and the lines that they keep from their answers.
 
-ghost use Rattle.std.specs.Prelude.{◌≡◌, ◌↔◌, ◌+◌, ◌-◌, ◌∷◌, ◌++◌, ◌&&◌, [], ℕ, List, Some, None, MatchResult, IfOk, IfSome, IsTrue, true, false, not, length, map};
+ghost use Rattle.std.specs.Prelude.{◌≡◌, ◌↔◌, ◌+◌, ◌-◌, ◌∷◌, ◌++◌, ◌&&◌, ◌||◌, [], ℕ, List, Some, None, MatchResult, IfOk, IfSome, IsTrue, true, false, not, length, map};
 ghost use Rattle.outside.specs.Causes.{Rose, SourceState};
 ghost use Rattle.step_line.specs.declared.Mark.TheVariants.{Reset as ResetMark};
 ghost use Rattle.step_line.specs.declared.Record.TheVariants as kinds;
@@ -8,7 +8,8 @@ ghost use Rattle.run_texts.specs.Sent.Sent.{a_text, a_stop};
 ghost use Rattle.audit_texts.specs.Reading.{KnowsJob, IsSame};
 ghost use Rattle.audit_texts.specs.SoFar.{IsItem};
 ghost use Rattle.run_audit.specs.UnderWay.{IsUnderWay, IsDropping, IsNext, GoesOn, mark_of};
-ghost use Rattle.audit_course.specs.SoFar.{has_moved};
+ghost use Rattle.line_interpreter.specs.Lefts.{greeting};
+ghost use Rattle.audit_course.specs.SoFar.{has_moved, left_to_tell};
 ghost use Rattle.run_audit.specs.Along.{StaysAlongIf, ReadsAlongIf, IsUntaken, IsDone, IsResetTold, MayBeOfLine, BrokenComes, ResetComes, is_alarm};
 
 use crate::auditor::{Auditor, Finding, Unread, is_ending};
@@ -280,6 +281,7 @@ impl Auditor {
     fn pass_reset(&mut self, dropped: u32, alarm: bool) -> Option<Finding>
         requires broken { self.old.broken ≡ None → ⊥ }
         ensures bad { IfSome result (λ found. (line : ℕ) × (found ≡ Finding.BadReplies line)) }
+        ensures greets { result ≡ None → left_to_tell self.new.course ≡ greeting alarm (alarm || self.old.course.locked) }
         ensures sending { self.new.sending ≡ self.old.sending }
         ensures listening { self.new.listening ≡ self.old.listening }
         ensures recorded { self.new.recorded ≡ self.old.recorded }
