@@ -125,7 +125,7 @@ alarm_at_end p last (a_text line ∷ sent) rest (a_broken o ∷ ps) f none some 
 
 -- ---- it asks for nothing
 
-limits : (b : Before) (o : Outcome) → AnswersOrHalts b o → is_limit o.answer ≡ true → o ≡ limited b
+pub limits : (b : Before) (o : Outcome) → AnswersOrHalts b o → is_limit o.answer ≡ true → o ≡ limited b
 limits b o (inl once) one = differ (is_limit o.answer) one (no_alarm o.answer once.one)
 limits b o (inr is) one = is
 

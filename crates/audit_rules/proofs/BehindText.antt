@@ -264,7 +264,7 @@ some_push (y ∷ xs) x e = cc
 some_first : (x : Reply) (xs : List Reply) → ◌≡◌ {A = List Reply} (x ∷ xs) [] → ⊥
 some_first x xs e = cc
 
-first_of_line : (p : Point) (kept : List ℕ) (o : Outcome) (us : List Reply) → BecomesAt true p kept o → FirstOfLine o us
+pub first_of_line : (p : Point) (kept : List ℕ) (o : Outcome) (us : List Reply) → BecomesAt true p kept o → FirstOfLine o us
 first_of_line p kept o us is = by_answer (line_answers true p kept o is) where
   quiet : Quiet (tells o.work)
   quiet = line_quiet true p kept o is

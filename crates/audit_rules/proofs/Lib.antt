@@ -29,3 +29,5 @@ pub mod BehindStops
 pub mod NoRecord
 pub mod Late
 pub mod Come
+pub mod ToldApart
+pub mod LineShort

@@ -4,5 +4,6 @@ pub mod StepTexts
 pub mod Standing
 pub mod Telling
 pub mod Onward
+pub mod Faults
 pub mod Findings
 pub mod Rows

@@ -4,9 +4,11 @@ ghost use Rattle.std.specs.Prelude.{◌≡◌, ◌↔◌, ◌≤◌, ◌+◌, tr
 ghost use Rattle.std.specs.List.{AllByRecursion};
 ghost use Rattle.run_texts.specs.Points.{Point};
 ghost use Rattle.run_texts.specs.Sent.{Sent};
+ghost use Rattle.run_texts.specs.Sent.Sent.{a_text};
 ghost use Rattle.step_line.specs.declared.Mark.TheVariants.{Cut, Reset as ResetMark};
 ghost use Rattle.step_line.specs.declared.Record.{Record as AnyRecord};
 ghost use Rattle.step_line.specs.declared.Record.TheVariants as kinds;
+ghost use Rattle.run_rules.specs.Reports.{raises_alarm};
 ghost use Rattle.run_rules.specs.Work.{Outcome};
 ghost use Rattle.run_texts.specs.Courses.{Passed, Reset, IsCut, IsReset};
 ghost use Rattle.run_texts.specs.Left.{part_of};
@@ -16,10 +18,12 @@ ghost use Rattle.run_texts.specs.Parts.Ending.{by_cut, by_reset};
 ghost use Rattle.run_texts.specs.Recorded.{IsRecorded};
 ghost use Rattle.run_texts.specs.Told.{told_in, told_at_reset};
 ghost use Rattle.status_report.specs.Answering.{is_banner};
+ghost use Rattle.status_report.specs.Replies.{reply_text};
 ghost use Rattle.status_report.specs.declared.Reply.{Reply};
 ghost use Rattle.units.specs.declared.Steps3.{Steps3};
 ghost use Rattle.audit_rules.specs.declared.Audit.{Audit as AnyAudit};
-ghost use Rattle.audit_rules.specs.Consoles.{GoesOnWith, is_of_reset};
+ghost use Rattle.audit_rules.specs.Consoles.{GoesOnAnew, GoesOnWith, Tells, is_of_reset};
+ghost use Rattle.audit_rules.specs.Faults.{BeginsWithNoReport, FailsAt, StandsBetween, TellsLineShort, TellsShort};
 ghost use Rattle.audit_rules.specs.Findings.{Finds, FitsWith, BreaksAt, IsForeign, HasForeign, IsTooLong, exit_of};
 ghost use Rattle.audit_rules.specs.Onward.{GoesOnTo, HasCome, StandsBehind, IsOfLater, TellsNext, TellsNothing, TellsNoAlarm, begins_with_line};
 ghost use Rattle.audit_rules.specs.Scanned.{sent_in};
@@ -159,6 +163,25 @@ pub fn a_course_stands_where_it_has_come_to()
         LeadsTo c.point c.left ps q gone → RebasesNothing c.point c.left ps → TellsNext c.rest (told_in ps) later → MayWait q gone later → StandsUpTo sent console records q gone later }
     ensures nothing { (p : Point) (left : List Sent) → IsOver p left → TellsNothing p left [] }
     ensures alarm { (p : Point) (left : List Sent) → TellsNoAlarm p left [] }
+{}
+
+/// If a text tells some replies next, and then goes on otherwise than with a certain one, it does not tell that one behind them,
+/// whatever follows (`short`). What a console tells in two halves has a place between them, where no report follows
+/// (`between`). A text that begins with no report and with no reply of a reset does not go on anew (`anew`).
+pub fn a_text_tells_one_thing()
+    ensures short { (text later : List ℕ) (heard more : List Reply) (reply : Reply) → TellsShort text heard reply → TellsNext text (heard ++ reply ∷ more) later → ⊥ }
+    ensures between { (console : List ℕ) (first second : List Reply) (rest : List ℕ) → Tells console (first ++ second) rest → BeginsWithNoReport rest → StandsBetween console first second rest }
+    ensures anew { (text : List ℕ) → BeginsWithNoReport text → ((reply : Reply) (later : List ℕ) → is_of_reset reply ≡ true → text ≡ reply_text reply ++ later → ⊥) → GoesOnAnew text → ⊥ }
+{}
+
+/// A line is at hand, and of all that may become of it a console tells nothing whole. Then that line is at fault (`fails`). If what is
+/// told of it begins with the alarm of a soft limit, and that was heard, the line has raised it (`alarm`); else no line raises it
+/// there (`calm`).
+pub fn a_line_that_is_not_told_is_at_fault()
+    ensures fails { (p : Point) (kept : List ℕ) (more : List Sent) (rest : List ℕ) (t : TellsLineShort p kept rest) (last : ℕ) → FailsAt p (a_text kept ∷ more) rest last p.before.number }
+    ensures calm { (p : Point) (kept : List ℕ) (more : List Sent) (rest : List ℕ) (t : TellsLineShort p kept rest) → (raises_alarm t.outcome ≡ true → t.heard ≡ []) → TellsNoAlarm p (a_text kept ∷ more) rest }
+    ensures alarm { (p : Point) (kept : List ℕ) (more : List Sent) (rest : List ℕ) (t : TellsLineShort p kept rest) (sent : List Sent) (console steps : List ℕ) (z : StandTo sent console steps) →
+        StandsUpTo sent console (records_of z.done) p (a_text kept ∷ more) rest → raises_alarm t.outcome ≡ true → (t.heard ≡ [] → ⊥) → HasAlarm sent console steps p.before.number }
 {}
 
 /// And one line raises the alarm of a soft limit.
