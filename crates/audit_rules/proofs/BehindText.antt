@@ -157,7 +157,7 @@ less (r ∷ rs) (q ∷ qs) rest later first more each are told is text = by_kind
   by_kind true report here again = again here (same_report r q (replies_text rs ++ rest) (replies_text qs ++ later) are.0 report whole)
   by_kind false plain here again = report_alone r q (replies_text rs ++ rest) (replies_text qs ++ later) each.0 told.0 are.0 plain whole
 
-of_reset_plain : (r : Reply) → is_of_reset r ≡ true → (is_report r ≡ false) × IsOnConsole r
+pub of_reset_plain : (r : Reply) → is_of_reset r ≡ true → (is_report r ≡ false) × IsOnConsole r
 of_reset_plain Banner e = (refl, tt)
 of_reset_plain (Alarm n) e = (refl, tt)
 of_reset_plain Ok e = absurd cc

@@ -31,3 +31,8 @@ pub mod Late
 pub mod Come
 pub mod ToldApart
 pub mod LineShort
+pub mod ResetShort
+pub mod ComeUpTo
+pub mod NextRefused
+pub mod Breaks
+pub mod Found

@@ -4,7 +4,7 @@ use Rattle.status_report.specs.Replies.{reply_text}
 use Rattle.status_report.specs.declared.Message.TheVariants.{ResetToContinue}
 use Rattle.status_report.specs.declared.Reply.{Reply}
 use Rattle.status_report.specs.declared.Reply.TheVariants.{Alarm, Message}
-use Rattle.run_rules.specs.Outcomes.{either, limited}
+use Rattle.run_rules.specs.Outcomes.{either}
 use Rattle.run_rules.specs.Reports.{raises_alarm}
 use Rattle.run_rules.specs.Work.{Outcome, soft_limit, tells}
 use Rattle.run_texts.specs.Points.{Point, IsPassed, behind_broken}

@@ -1,10 +1,10 @@
 //! Laws of audits.
 
-ghost use Rattle.std.specs.Prelude.{◌≡◌, ◌↔◌, ◌≤◌, ◌+◌, true, false, not, ℕ, List, [], ◌∷◌, ◌++◌, length, All};
+ghost use Rattle.std.specs.Prelude.{◌≡◌, ◌↔◌, ◌≤◌, ◌<◌, ◌+◌, true, false, not, ℕ, List, [], ◌∷◌, ◌++◌, length, All};
 ghost use Rattle.std.specs.List.{AllByRecursion};
 ghost use Rattle.run_texts.specs.Points.{Point};
-ghost use Rattle.run_texts.specs.Sent.{Sent};
-ghost use Rattle.run_texts.specs.Sent.Sent.{a_text};
+ghost use Rattle.run_texts.specs.Sent.{Sent, has_reset, kept_of};
+ghost use Rattle.run_texts.specs.Sent.Sent.{a_text, a_stop};
 ghost use Rattle.step_line.specs.declared.Mark.TheVariants.{Cut, Reset as ResetMark};
 ghost use Rattle.step_line.specs.declared.Record.{Record as AnyRecord};
 ghost use Rattle.step_line.specs.declared.Record.TheVariants as kinds;
@@ -22,18 +22,20 @@ ghost use Rattle.status_report.specs.Replies.{reply_text};
 ghost use Rattle.status_report.specs.declared.Reply.{Reply};
 ghost use Rattle.units.specs.declared.Steps3.{Steps3};
 ghost use Rattle.audit_rules.specs.declared.Audit.{Audit as AnyAudit};
+ghost use Rattle.audit_rules.specs.declared.Audit.TheVariants as audits;
 ghost use Rattle.audit_rules.specs.Consoles.{GoesOnAnew, GoesOnWith, Tells, is_of_reset};
-ghost use Rattle.audit_rules.specs.Faults.{BeginsWithNoReport, FailsAt, StandsBetween, TellsLineShort, TellsShort};
-ghost use Rattle.audit_rules.specs.Findings.{Finds, FitsWith, BreaksAt, IsForeign, HasForeign, IsTooLong, exit_of};
-ghost use Rattle.audit_rules.specs.Onward.{GoesOnTo, HasCome, StandsBehind, IsOfLater, TellsNext, TellsNothing, TellsNoAlarm, begins_with_line};
-ghost use Rattle.audit_rules.specs.Scanned.{sent_in};
+ghost use Rattle.audit_rules.specs.Faults.{BeginsWithNoReport, BreaksNoLine, ComesUpTo, FailsAt, PartCutsNot, PartMakesNot, PartResetsNot, ReadsUpTo, ResetRefused, StandsBetween, TellsLineShort, TellsResetShort, TellsShort};
+ghost use Rattle.audit_rules.specs.Findings.{Finds, FitsWith, BreaksAt, IsForeign, HasForeign, IsTooLong, is_foreign, foreign_in, exit_of};
+ghost use Rattle.audit_rules.specs.Onward.{GoesOnTo, HasCome, StandsBehind, IsOfLater, TellsNext, TellsNothing, TellsNoAlarm, TellsNoLine, TellsNoReset, begins_with_line};
+ghost use Rattle.audit_rules.specs.Scanned.{scanned, sent_in};
 ghost use Rattle.run_texts.specs.SoFar.{LeadsTo, RebasesNothing};
-ghost use Rattle.audit_rules.specs.Standing.{MayWait, Stand, StandTo, StandRead, AreUpTo};
+ghost use Rattle.audit_rules.specs.Standing.{MayWait, Stand, StandTo, StandRead, AreUpTo, place_behind};
 ghost use Rattle.audit_rules.specs.StepTexts.{IsLineOf, FollowsLast, AreLinesOf, IsStepText, last_of, form_of, records_of};
 ghost use Rattle.step_line.specs.Records.{IsRecord};
-ghost use Rattle.step_record.specs.Forms.{text_in};
+ghost use Rattle.step_record.specs.Forms.{line_text, text_in};
 ghost use Rattle.step_record.specs.declared.forms.Form.{Form};
 ghost use Rattle.step_record.specs.declared.forms.Line.{Line};
+ghost use Rattle.step_record.specs.declared.forms.Line.TheVariants as line_kinds;
 ghost use Rattle.audit_rules.specs.Telling.{StandsUpTo, ConsoleStands, StandsNoFurther, HasNoBanner, HasBadReply, HasAlarm, IsLineAtFault, IsOver, last_answered};
 
 /// A text of steps is the lines of one list at most.
@@ -182,6 +184,79 @@ pub fn a_line_that_is_not_told_is_at_fault()
     ensures calm { (p : Point) (kept : List ℕ) (more : List Sent) (rest : List ℕ) (t : TellsLineShort p kept rest) → (raises_alarm t.outcome ≡ true → t.heard ≡ []) → TellsNoAlarm p (a_text kept ∷ more) rest }
     ensures alarm { (p : Point) (kept : List ℕ) (more : List Sent) (rest : List ℕ) (t : TellsLineShort p kept rest) (sent : List Sent) (console steps : List ℕ) (z : StandTo sent console steps) →
         StandsUpTo sent console (records_of z.done) p (a_text kept ∷ more) rest → raises_alarm t.outcome ≡ true → (t.heard ≡ [] → ⊥) → HasAlarm sent console steps p.before.number }
+{}
+
+/// Nothing of a reset is told where what is told of it goes on otherwise (`short`), where none is left of the job (`none`), or where
+/// none may come (`refused`). Then the line at fault, if a console goes on anew, is the one that `IsLineAtFault` says (`anew`). If a reset
+/// is next of a job and it does not go on so, or if something is left behind all that may come, no line is (`stop`, `over`).
+pub fn a_reset_that_is_not_told_is_at_fault()
+    ensures short { (p : Point) (left : List Sent) (rest : List ℕ) → TellsResetShort p rest → TellsNoReset p left rest }
+    ensures none { (p : Point) (left : List Sent) (rest : List ℕ) → has_reset left ≡ false → TellsNoReset p left rest }
+    ensures refused { (p : Point) (left : List Sent) (rest : List ℕ) (first : Reply) → GoesOnWith rest first → is_of_reset first ≡ true → ResetRefused p left (not (is_banner first)) → TellsNoReset p left rest }
+    ensures anew { (p : Point) (left : List Sent) (rest : List ℕ) → p.unanswered ≡ false → BeginsWithNoReport rest → GoesOnAnew rest → TellsNoReset p left rest → (last line : ℕ) → IsLineAtFault p left rest last line → FailsAt p left rest last line }
+    ensures stop { (p : Point) (more : List Sent) (rest : List ℕ) → p.before.alarmed ≡ false → p.unanswered ≡ false → BeginsWithNoReport rest → (GoesOnAnew rest → ⊥) → (last : ℕ) → FailsAt p (a_stop ∷ more) rest last (last + 1) }
+    ensures over { (p : Point) (left : List Sent) (rest : List ℕ) → IsOver p left → BeginsWithNoReport rest → (rest ≡ [] → ⊥) → (last : ℕ) → FailsAt p left rest last (last + 1) }
+{}
+
+/// A course has come to a point, and steps were read up to a record with which its records stand no more (`read`). Then a console stands
+/// up to there by the records of the lines that stand (`here`), and as far as what goes on behind it without records (`on`). Where nothing
+/// is told that may come, and the next record comes of a later line, the line at fault has the bad reply (`bad`), and no line
+/// raises the alarm of a soft limit (`alarm`).
+pub fn a_console_stands_by_the_lines_that_stand()
+    ensures read { (sent : List Sent) (console steps : List ℕ) (records made : List AnyRecord) (since begun : List Outcome) (c : HasCome sent console records since begun made) (lines : List Line) (text : List ℕ) (left : List AnyRecord) →
+        ReadsUpTo steps lines text records left (λ r. Stand sent console (records ++ r ∷ []) → ⊥) → StandRead sent console steps lines text records left }
+    ensures here { (sent : List Sent) (console steps : List ℕ) (records made : List AnyRecord) (since begun : List Outcome) (c : HasCome sent console records since begun made) (lines : List Line) (text : List ℕ) (left : List AnyRecord) →
+        StandRead sent console steps lines text records left → ComesUpTo sent console steps lines records left c.point c.left c.rest c.reached.course }
+    ensures on { (sent : List Sent) (console steps : List ℕ) (records made : List AnyRecord) (since begun : List Outcome) (c : HasCome sent console records since begun made) (lines : List Line) (text : List ℕ) (left : List AnyRecord) →
+        StandRead sent console steps lines text records left → (q : Point) (gone : List Sent) (later : List ℕ) (ps : List Passed) → LeadsTo c.point c.left ps q gone → RebasesNothing c.point c.left ps →
+        TellsNext c.rest (told_in ps) later → MayWait q gone later → ComesUpTo sent console steps lines records left q gone later (c.reached.course ++ ps) }
+    ensures bad { (sent : List Sent) (console steps : List ℕ) (records made : List AnyRecord) (since begun : List Outcome) (c : HasCome sent console records since begun made) (lines : List Line) (text : List ℕ) (left : List AnyRecord) →
+        ReadsUpTo steps lines text records left (IsOfLater c.point.before.number c.making.owed) → (line : ℕ) → FailsAt c.point c.left c.rest (last_answered 1 0 c.reached.course) line → HasBadReply sent console steps line }
+    ensures alarm { (sent : List Sent) (console steps : List ℕ) (records made : List AnyRecord) (since begun : List Outcome) (c : HasCome sent console records since begun made) (lines : List Line) (text : List ℕ) (left : List AnyRecord) →
+        ReadsUpTo steps lines text records left (IsOfLater c.point.before.number c.making.owed) → TellsNothing c.point c.left c.rest → c.point.before.alarmed ≡ false → TellsNoAlarm c.point c.left c.rest → (k : ℕ) → HasAlarm sent console steps k → ⊥ }
+{}
+
+/// A record does not stand next where a course has come to a point: if the part at hand does not make it (`makes`), or may not be cut
+/// there (`cuts`) or reset (`resets`), or if the console does not go on anew (`anew`); a cut or a reset of a later line, if none comes
+/// (`later_cut`, `later_reset`); one of an earlier line, behind a record of a line that begins there (`early_cut`, `early_reset`).
+pub fn records_that_are_refused_do_not_stand()
+    ensures makes { (sent : List Sent) (console : List ℕ) (records made : List AnyRecord) (since begun : List Outcome) (c : HasCome sent console records since begun made) (r : AnyRecord) → is_ending r ≡ false → PartMakesNot since begun made r → Stand sent console (records ++ r ∷ []) → ⊥ }
+    ensures cuts { (sent : List Sent) (console : List ℕ) (records made : List AnyRecord) (since begun : List Outcome) (c : HasCome sent console records since begun made) (k : ℕ) → c.point.before.number ≡ k + 1 → PartCutsNot c.point c.place since begun made k → Stand sent console (records ++ kinds.Mark (Cut k) ∷ []) → ⊥ }
+    ensures resets { (sent : List Sent) (console : List ℕ) (records made : List AnyRecord) (since begun : List Outcome) (c : HasCome sent console records since begun made) (k : ℕ) (first : Reply) → c.point.before.number ≡ k + 1 →
+        GoesOnWith c.rest first → is_of_reset first ≡ true → PartResetsNot c.point c.left c.place since begun made k (not (is_banner first)) → Stand sent console (records ++ kinds.Mark (ResetMark k) ∷ []) → ⊥ }
+    ensures anew { (sent : List Sent) (console : List ℕ) (records made : List AnyRecord) (since begun : List Outcome) (c : HasCome sent console records since begun made) (k : ℕ) → c.point.before.number ≡ k + 1 → (GoesOnAnew c.rest → ⊥) → Stand sent console (records ++ kinds.Mark (ResetMark k) ∷ []) → ⊥ }
+    ensures later_cut { (sent : List Sent) (console : List ℕ) (records made : List AnyRecord) (since begun : List Outcome) (c : HasCome sent console records since begun made) (k : ℕ) → c.point.before.number ≤ k →
+        TellsNoLine c.point c.left c.rest → BreaksNoLine c.point c.left → Stand sent console (records ++ kinds.Mark (Cut k) ∷ []) → ⊥ }
+    ensures later_reset { (sent : List Sent) (console : List ℕ) (records made : List AnyRecord) (since begun : List Outcome) (c : HasCome sent console records since begun made) (k : ℕ) → c.point.before.number ≤ k →
+        TellsNoLine c.point c.left c.rest → BreaksNoLine c.point c.left → Stand sent console (records ++ kinds.Mark (ResetMark k) ∷ []) → ⊥ }
+    ensures early_cut { (sent : List Sent) (console : List ℕ) (records made : List AnyRecord) (since begun : List Outcome) (c : HasCome sent console records since begun made) → c.making.owed ≡ [] →
+        (x : AnyRecord) → is_ending x ≡ false → (xs : List AnyRecord) → AllByRecursion (λ r. is_ending r ≡ false) xs → (k : ℕ) → k < c.point.before.number → Stand sent console (records ++ x ∷ (xs ++ kinds.Mark (Cut k) ∷ [])) → ⊥ }
+    ensures early_reset { (sent : List Sent) (console : List ℕ) (records made : List AnyRecord) (since begun : List Outcome) (c : HasCome sent console records since begun made) → c.making.owed ≡ [] →
+        (x : AnyRecord) → is_ending x ≡ false → (xs : List AnyRecord) → AllByRecursion (λ r. is_ending r ≡ false) xs → (k : ℕ) → k < c.point.before.number → Stand sent console (records ++ x ∷ (xs ++ kinds.Mark (ResetMark k) ∷ [])) → ⊥ }
+{}
+
+/// Steps break a rule at the line that holds the next record (`before`), or behind all lines that were read (`all`), if another line
+/// stands there than the end (`other`), or none (`none`). A console that is told to its end stands whole (`whole`).
+pub fn steps_break_behind_the_lines_that_stand()
+    ensures before { (done before : List Line) (last : Line) (records part others : List AnyRecord) (r : AnyRecord) → AreUpTo done (before ++ last ∷ []) records (r ∷ others) → records ≡ records_of before ++ part → done ≡ before }
+    ensures all { (done lines : List Line) (records : List AnyRecord) → AreUpTo done lines records [] → done ≡ lines }
+    ensures other { (job console steps : List ℕ) (z : StandTo (sent_in job) console steps) (line : Line) (more : List ℕ) → z.rest ≡ line_text line ++ more → IsLineOf (form_of steps) line → (line ≡ line_kinds.One kinds.End → ⊥) →
+        BreaksAt job console steps (place_behind steps z.done) }
+    ensures none { (job console steps : List ℕ) (z : StandTo (sent_in job) console steps) → ((line : Line) (more : List ℕ) → z.rest ≡ line_text line ++ more → AreLinesOf (form_of steps) (z.done ++ line ∷ []) → ⊥) →
+        BreaksAt job console steps (place_behind steps z.done) }
+    ensures whole { (sent : List Sent) (console steps : List ℕ) (lines : List Line) (records left : List AnyRecord) (q : Point) (gone : List Sent) (course : List Passed) → ComesUpTo sent console steps lines records left q gone [] course →
+        IsOver q gone → ConsoleStands sent console steps }
+{}
+
+/// So of texts that are not too long the first line that is not audited is found, unless a line before it raises the alarm of a soft
+/// limit (`foreign`), and none does if that line or a later one does (`late`). And of texts whose lines are audited a bad reply is
+/// found, or, where the console stands whole, where the steps break a rule (`replies`, `records`).
+pub fn each_fault_is_found()
+    ensures foreign { (job console steps : List ℕ) (line : ℕ) (before : List (List ℕ)) (here : List ℕ) (behind : List (List ℕ)) → (IsTooLong console steps → ⊥) → (scanned job).lines ≡ before ++ here ∷ behind → line ≡ length before + 1 →
+        foreign_in before ≡ false → is_foreign (kept_of here) ≡ true → ((k : ℕ) → k < line → HasAlarm (sent_in job) console steps k → ⊥) → Finds job console steps (audits.Foreign line) }
+    ensures late { (sent : List Sent) (console steps : List ℕ) (line n : ℕ) → HasAlarm sent console steps n → line ≤ n → (k : ℕ) → k < line → HasAlarm sent console steps k → ⊥ }
+    ensures replies { (job console steps : List ℕ) (line : ℕ) → (IsTooLong console steps → ⊥) → (HasForeign job console steps → ⊥) → HasBadReply (sent_in job) console steps line → Finds job console steps (audits.BadReplies line) }
+    ensures records { (job console steps : List ℕ) (at : ℕ) → (IsTooLong console steps → ⊥) → (HasForeign job console steps → ⊥) → ConsoleStands (sent_in job) console steps → BreaksAt job console steps at → Finds job console steps (audits.Misfit at) }
 {}
 
 /// And one line raises the alarm of a soft limit.

@@ -5,12 +5,14 @@ mod laws;
 mod rows;
 
 pub use laws::{
-    a_console_stands_no_further_than_it_tells, a_course_stands_where_it_has_come_to,
-    a_line_that_is_not_told_is_at_fault, a_text_tells_one_thing, bad_replies_stand_at_one_place,
-    cuts_and_resets_come_behind_their_lines, no_record_stands_where_nothing_is_told,
-    one_line_has_the_bad_reply, one_line_raises_the_alarm, one_thing_is_found,
-    records_stand_behind_a_course, records_stand_from_the_left, step_texts_go_on_line_by_line,
-    step_texts_have_one_list, steps_that_were_read_stand_up_to_a_line,
+    a_console_stands_by_the_lines_that_stand, a_console_stands_no_further_than_it_tells,
+    a_course_stands_where_it_has_come_to, a_line_that_is_not_told_is_at_fault,
+    a_reset_that_is_not_told_is_at_fault, a_text_tells_one_thing, bad_replies_stand_at_one_place,
+    cuts_and_resets_come_behind_their_lines, each_fault_is_found,
+    no_record_stands_where_nothing_is_told, one_line_has_the_bad_reply, one_line_raises_the_alarm,
+    one_thing_is_found, records_stand_behind_a_course, records_stand_from_the_left,
+    records_that_are_refused_do_not_stand, step_texts_go_on_line_by_line, step_texts_have_one_list,
+    steps_break_behind_the_lines_that_stand, steps_that_were_read_stand_up_to_a_line,
     texts_are_found_to_fit_if_they_do, texts_that_fit_stand, who_tells_more_goes_on,
     written_texts_are_step_texts,
 };
