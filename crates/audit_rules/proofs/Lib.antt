@@ -34,5 +34,6 @@ pub mod LineShort
 pub mod ResetShort
 pub mod ComeUpTo
 pub mod NextRefused
+pub mod OtherMarks
 pub mod Breaks
 pub mod Found

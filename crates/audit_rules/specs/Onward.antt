@@ -101,3 +101,9 @@ IsOfLater n ticks (kinds.Mark (Cut k)) = n ≤ k
 IsOfLater n ticks (kinds.Mark (ResetMark k)) = n ≤ k + 1
 IsOfLater n ticks kinds.End = Unit {0}
 IsOfLater n ticks r = ticks ≡ []
+
+-- a mark that ends a part behind line n
+abbrev pub IsMarkOf : ℕ → Record → Type 0
+IsMarkOf n (kinds.Mark (Cut k)) = n ≡ k
+IsMarkOf n (kinds.Mark (ResetMark k)) = n ≡ k
+IsMarkOf n _ = ⊥
