@@ -37,3 +37,4 @@ pub mod NextRefused
 pub mod OtherMarks
 pub mod Breaks
 pub mod Found
+pub mod NoEndAnew
