@@ -38,3 +38,5 @@ pub mod OtherMarks
 pub mod Breaks
 pub mod Found
 pub mod NoEndAnew
+pub mod Ahead
+pub mod LastAnswered
