@@ -103,6 +103,26 @@ bare_by j first sent replies records s false u untouched = record {
   head = refl;
 }
 
+-- the line that is over says behind it what it said
+pub line_cut : (j : CourseJudge) (w : Interpreting) (state : State) (part : Known) (at : Steps3) (p : Point) (hand : List Outcome) → OfLine j p hand → j.in_hand ≡ false → w.left ≡ j.work.left
+    → OfLine (record j { work = w; state = state; part = part; cuts = j.cuts + 1; has_line = false; lost = false; answered = standing.Whole; code = standing.Whole; settled = standing.Whole }) (behind_cut at p) []
+line_cut j w state part at p hand o closed same_left = record {
+  work = o.work;
+  limit = o.limit;
+  moves = ap (λ (ts : List Task). j.line.moves || has_moves ts) same_left ∙ o.moves;
+  ticks = ap (λ (ts : List Task). j.line.asks || has_ticks ts) same_left ∙ o.ticks;
+  halts = ap (λ (ts : List Task). j.line.halts || has_halt ts) same_left ∙ o.halts;
+  marks = subst (AllByRecursion (λ (t : Task). ends_none t ≡ true)) (sym same_left) o.marks;
+  moved = o.moved;
+  jog_moved = o.jog_moved;
+  jogged = o.jogged;
+  alarmed = o.alarmed;
+  unheld = λ e. refl;
+  none = λ e. let n = o.none closed in record { none = refl; settles = n.settles; code = n.code; jog = n.jog };
+  held = λ e. absurd (let f : false ≡ true = sym closed ∙ e in cc);
+  are = tt;
+}
+
 pub part_cut : (j : CourseJudge) (k : ℕ) (w : Interpreting) (state : State) (first : State) (sent : List Sent) (replies : List Reply) (records : List Record) (s : HasJudged j first sent replies records)
     → MayCut j k → state ≡ (at_place j.place (record s.point.before { state = j.state })).state
     → w.left ≡ j.work.left → w.number ≡ j.work.number → (j.unanswered ≡ false → w.state ≡ state)
@@ -116,7 +136,7 @@ part_cut j k w state first sent replies records s may state_is same_left number_
   has_line = refl;
   unanswered = s.unanswered;
   hand = [];
-  line = cut_line;
+  line = line_cut j w state nothing_known j.place s.point s.hand s.line may.ends.closed same_left;
   since = [];
   begun = [];
   none_begun = λ e. refl;
@@ -185,24 +205,6 @@ part_cut j k w state first sent replies records s may state_is same_left number_
       s.stands,
     );
   })
-
-  cut_line : OfLine (record j { work = w; state = state; part = nothing_known; cuts = j.cuts + 1; has_line = false; lost = false; answered = standing.Whole; code = standing.Whole; settled = standing.Whole }) (behind_cut j.place s.point) []
-  cut_line = record {
-    work = s.line.work;
-    limit = s.line.limit;
-    moves = ap (λ (ts : List Task). j.line.moves || has_moves ts) same_left ∙ s.line.moves;
-    ticks = ap (λ (ts : List Task). j.line.asks || has_ticks ts) same_left ∙ s.line.ticks;
-    halts = ap (λ (ts : List Task). j.line.halts || has_halt ts) same_left ∙ s.line.halts;
-    marks = subst (AllByRecursion (λ (t : Task). ends_none t ≡ true)) (sym same_left) s.line.marks;
-    moved = s.line.moved;
-    jog_moved = s.line.jog_moved;
-    jogged = s.line.jogged;
-    alarmed = s.line.alarmed;
-    unheld = λ e. refl;
-    none = λ e. let n = s.line.none may.ends.closed in record { none = refl; settles = n.settles; code = n.code; jog = n.jog };
-    held = λ e. absurd (let f : false ≡ true = sym may.ends.closed ∙ e in cc);
-    are = tt;
-  }
 
 -- ---- a reset
 

@@ -5,6 +5,7 @@ use Rattle.units.specs.declared.Steps3.{Steps3}
 use Rattle.status_report.specs.declared.Reply.{Reply}
 use Rattle.step_line.specs.Asking.{ticks_of_all}
 use Rattle.step_line.specs.declared.Record.{Record}
+use Rattle.modal_state.specs.Modes.{rebased}
 use Rattle.system_lines.specs.Commands.{kind_of}
 use Rattle.run_rules.specs.declared.State.{State}
 use Rattle.run_rules.specs.declared.machine.Machine.{Machine}
@@ -34,12 +35,13 @@ use Rattle.audit_course.specs.declared.MotionError.{MotionError}
 use Rattle.audit_course.specs.declared.Progress.{Progress}
 use Rattle.audit_course.specs.declared.judge.CourseJudge.{CourseJudge}
 use Rattle.audit_course.specs.declared.ticks.Ticks.{Ticks}
-use Rattle.audit_course.specs.Heard.{KnowsPoint, KeepsPoint, HasHeard, StaysHeard, HearsSent, HearsReply, HearsReset, MayTellReset, TellsFound, HearsAlone, HearsNoLine, HearsNoReset}
+use Rattle.audit_course.specs.declared.ticks.Ticks.TheVariants as standing
+use Rattle.audit_course.specs.Heard.{KnowsPoint, KeepsPoint, CutsPoint, HasHeard, StaysHeard, HearsSent, HearsReply, HearsReset, MayTellReset, TellsFound, HearsAlone, HearsNoLine, HearsNoReset}
 use Rattle.audit_course.specs.Progressing.{asks_ticks, has_some, has_halt, is_halt, moved_now, fresh, Counts, IsNew, IsUnseen, IsItemOf}
 use Rattle.audit_course.specs.SoFar.{HasJudged, IsClosed, FindsRight, FindsStill, FindsAlone, MayBegin, left_to_tell, opened_at, texts_among}
 use Rattle.audit_course.proofs.Beginning.{broken_of, judged_line, judged_still, known_at, line_of, no_alarm, none_to_tell, since_at}
 use Rattle.audit_course.proofs.Counting.{lines_sent, texts_on}
-use Rattle.audit_course.proofs.Ending.{any_moved, behind_so, calm_line, opened_line, reset_may_come, to_tell}
+use Rattle.audit_course.proofs.Ending.{any_moved, behind_so, calm_line, line_cut, opened_line, reset_may_come, to_tell}
 use Rattle.audit_course.proofs.Outcomes.{telling_halts}
 use Rattle.audit_course.proofs.Parting.{closed_line, same_line}
 use Rattle.audit_course.proofs.Passing.{ask_told, counted, first_told, item_counts, none_later, quiet_told}
@@ -297,6 +299,28 @@ hears_alone old mid new error machine kept may keeps alone tells_found p before 
 -- none may be begun where the last has no answer, or has raised an alarm
 pub none_heard : (j : CourseJudge) → j.work.left ≡ [] → (j.unanswered ≡ false → j.line.halts ≡ true) → HearsNoLine j
 none_heard j done halts p before sent replies h kept o = none_begins_at j h.point h.hand h.line h.unanswered done halts kept o
+
+-- ---- a cut
+
+-- it stands where it stood, and the next line is judged from where the machine is
+pub cut_kept : (j : CourseJudge) (w : Interpreting) (state : State) (part : Known) → IsClosed j → state ≡ record j.state { parser = rebased j.state.parser j.place j.state.settings.limits.per_mm }
+    → w ≡ record j.work { state = record j.work.state { parser = rebased j.work.state.parser j.place j.work.state.settings.limits.per_mm } }
+    → CutsPoint j (record j { work = w; state = state; part = part; cuts = j.cuts + 1; has_line = false; lost = false; answered = standing.Whole; code = standing.Whole; settled = standing.Whole })
+cut_kept j w state part closed state_is work p hand at =
+    let here : State → State = λ (x : State). record x { parser = rebased x.parser j.place x.settings.limits.per_mm } in
+    let left : w.left ≡ j.work.left = ap (λ (i : Interpreting). i.left) work in (
+      j.place,
+      [],
+      record {
+        number = at.number ∙ sym (ap (λ (i : Interpreting). i.number) work);
+        state = ap here at.state ∙ sym state_is;
+        same_state = λ e. state_is ∙ ap here (at.same_state e) ∙ sym (ap (λ (i : Interpreting). i.state) work);
+        locked = at.locked;
+        unanswered = at.unanswered;
+        line = line_cut j w state part j.place p hand at.line closed.closed left;
+        at_hand = λ e. ap has_halt (left ∙ closed.done);
+      },
+    )
 
 -- ---- a reset
 

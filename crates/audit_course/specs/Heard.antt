@@ -1,10 +1,11 @@
 -- A course behind the first record that breaks a rule: records count no more, and what is told is heard.
 use Rattle.std.specs.Prelude.{◌≡◌, ◌≤◌, ◌++◌, ℕ, ◌+◌, Bool, true, false, not, ◌&&◌, ◌||◌, List, [], ◌∷◌, length, map}
+use Rattle.units.specs.declared.Steps3.{Steps3}
 use Rattle.status_report.specs.declared.Reply.{Reply}
 use Rattle.run_rules.specs.declared.machine.Machine.{Machine}
 use Rattle.run_rules.specs.Finding.{Found}
 use Rattle.run_rules.specs.Work.{Outcome, tells}
-use Rattle.run_texts.specs.Courses.{Passed, Reset, IsReset}
+use Rattle.run_texts.specs.Courses.{Passed, Reset, IsReset, behind_cut}
 use Rattle.run_texts.specs.Points.{Point, BecomesAt, IsPassed, IsBroken}
 use Rattle.run_texts.specs.Sent.{Sent}
 use Rattle.run_texts.specs.Sent.Sent.{a_text, a_stop}
@@ -50,6 +51,10 @@ pub record HasHeard (j : CourseJudge) (p : Point) (before : List Reply) (sent : 
 -- the course stands where it stood
 abbrev pub KeepsPoint : CourseJudge → CourseJudge → Type 0
 KeepsPoint j k = (p : Point) (hand : List Outcome) → KnowsPoint j p hand → (now : List Outcome) × KnowsPoint k p now
+
+-- A cut was made: it stands where it stood, behind the cut.
+abbrev pub CutsPoint : CourseJudge → CourseJudge → Type 0
+CutsPoint j k = (p : Point) (hand : List Outcome) → KnowsPoint j p hand → (at : Steps3) × (now : List Outcome) × KnowsPoint k (behind_cut at p) now
 
 -- nothing more was told
 abbrev pub StaysHeard : CourseJudge → CourseJudge → Type 0

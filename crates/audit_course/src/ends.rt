@@ -9,7 +9,7 @@ ghost use Rattle.part_making.specs.Judging.{coming_of, head_of};
 ghost use Rattle.line_interpreter.specs.Lefts.{greeting};
 ghost use Rattle.audit_course.specs.Progressing.{is_whole};
 ghost use Rattle.audit_course.specs.Here.{CutsNot, ResetsNot};
-ghost use Rattle.audit_course.specs.Heard.{StaysHeard, HearsReset, HearsNoReset, MayTellReset};
+ghost use Rattle.audit_course.specs.Heard.{CutsPoint, StaysHeard, HearsReset, HearsNoReset, MayTellReset};
 ghost use Rattle.audit_course.specs.SoFar.{left_to_tell, opened_at, BeginsPart, AddsRecord, AddsReset, EndsSoFar, RefusesEnd, RefusesRecord, RefusesReset, IsClosed, IsIdle, MayCut, MayReset, MayEnd};
 
 use crate::{CourseJudge, Progress, Ticks};
@@ -94,6 +94,7 @@ impl CourseJudge {
         requires place { IsPlace self.old.place }
         requires few { self.old.cuts + 1 < 2 ^ 32 }
         ensures adds { AddsRecord self.old self.new (kinds.Mark (CutMark k)) }
+        ensures point { CutsPoint self.old self.new }
         ensures work { self.new.work.left ≡ self.old.work.left }
         ensures unanswered { self.new.unanswered ≡ self.old.unanswered }
         ensures begins { BeginsPart self.new }
@@ -116,6 +117,7 @@ impl CourseJudge {
         ensures here { result ≡ false → self.old.work.left ≡ [] → IsPlace self.old.place → self.old.cuts + 1 < 2 ^ 32 → CutsNot self.old k }
         ensures no { result ≡ false → self.old.work.left ≡ [] → k + 1 ≤ self.old.work.number → IsPlace self.old.place → self.old.cuts + 1 < 2 ^ 32 → RefusesRecord self.old (kinds.Mark (CutMark k)) }
         ensures yes { IsTrue result → AddsRecord self.old self.new (kinds.Mark (CutMark k)) }
+        ensures point { IsTrue result → CutsPoint self.old self.new }
         ensures heard { result ≡ false → StaysHeard self.old self.new }
         ensures work { self.new.work.left ≡ self.old.work.left }
         ensures done { IsTrue result → self.new.work.left ≡ [] }

@@ -7,6 +7,9 @@ use Rattle.audit_course.proofs.judge.CourseJudge.cut.Goals as goal
 pub returns-clause-yes : goal.returns-clause-yes
 returns-clause-yes c = λ yes first sent replies records s. c.make_cut.ensures.adds first sent replies records (c.close.ensures.stays first sent replies records s)
 
+pub returns-clause-point : goal.returns-clause-point
+returns-clause-point c = λ yes p hand at. let closed = c.close.ensures.point p hand at in c.make_cut.ensures.point p closed.0 closed.1
+
 pub returns-then-not-may_cut-clause-here : goal.returns-then-not-may_cut-clause-here
 returns-then-not-may_cut-clause-here c = λ no done place few.
     let same = c.close.ensures in
