@@ -177,6 +177,7 @@ impl CourseJudge {
     pub fn begin(&mut self, line: &KeptLine, error: MotionError) -> bool
         ensures no { result ≡ false → self.old.work.left ≡ [] → self.old.work.number + 1 < 2 ^ 32 → RefusesLine self.old }
         ensures unheard { result ≡ false → self.old.work.left ≡ [] → self.old.work.number + 1 < 2 ^ 32 → HearsNoLine self.old }
+        ensures halted { result ≡ false → self.old.work.left ≡ [] → self.old.work.number + 1 < 2 ^ 32 → self.old.unanswered ≡ false → self.old.line.halts ≡ true }
         ensures yes { IsTrue result → (kept : List ℕ) → IsKept line.now kept → AddsSent self.old self.new (a_text kept ∷ []) }
         ensures heard { IsTrue result → (kept : List ℕ) → IsKept line.now kept → HearsSent self.old self.new (a_text kept ∷ []) }
         ensures alone { IsTrue result → (kept : List ℕ) → IsKept line.now kept → TellsAlone self.old self.new error kept }
@@ -221,6 +222,7 @@ impl CourseJudge {
     pub fn begin_unanswered(&mut self, line: &KeptLine) -> bool
         ensures no { result ≡ false → self.old.work.left ≡ [] → self.old.work.number + 1 < 2 ^ 32 → RefusesLine self.old }
         ensures unheard { result ≡ false → self.old.work.left ≡ [] → self.old.work.number + 1 < 2 ^ 32 → HearsNoLine self.old }
+        ensures halted { result ≡ false → self.old.work.left ≡ [] → self.old.work.number + 1 < 2 ^ 32 → self.old.unanswered ≡ false → self.old.line.halts ≡ true }
         ensures yes { IsTrue result → (kept : List ℕ) → IsKept line.now kept → AddsSent self.old self.new (a_text kept ∷ []) }
         ensures heard { IsTrue result → (kept : List ℕ) → IsKept line.now kept → HearsSent self.old self.new (a_text kept ∷ []) }
         ensures work { IsTrue result → (kept : List ℕ) → IsKept line.now kept → HasWorkOf self.old self.new false kept }
