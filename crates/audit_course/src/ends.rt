@@ -96,6 +96,7 @@ impl CourseJudge {
         ensures adds { AddsRecord self.old self.new (kinds.Mark (CutMark k)) }
         ensures point { CutsPoint self.old self.new }
         ensures work { self.new.work.left ≡ self.old.work.left }
+        ensures number { self.new.work.number ≡ self.old.work.number }
         ensures unanswered { self.new.unanswered ≡ self.old.unanswered }
         ensures begins { BeginsPart self.new }
     {
@@ -120,6 +121,7 @@ impl CourseJudge {
         ensures point { IsTrue result → CutsPoint self.old self.new }
         ensures heard { result ≡ false → StaysHeard self.old self.new }
         ensures work { self.new.work.left ≡ self.old.work.left }
+        ensures number { self.new.work.number ≡ self.old.work.number }
         ensures done { IsTrue result → self.new.work.left ≡ [] }
         ensures unanswered { IsTrue result → self.new.unanswered ≡ self.old.unanswered }
         ensures begins { IsTrue result → BeginsPart self.new }
@@ -184,6 +186,7 @@ impl CourseJudge {
         ensures short { length self.new.work.left ≤ 3 }
         ensures answered { self.new.unanswered ≡ false }
         ensures calm { self.new.line.halts ≡ false }
+        ensures number { self.new.work.number ≡ self.old.work.number + dropped }
         ensures begins { self.old.in_hand ≡ false → BeginsPart self.new }
     {
         let locked = locks(alarm, self.locked);
@@ -216,6 +219,7 @@ impl CourseJudge {
         ensures short { IsTrue result → length self.new.work.left ≤ 3 }
         ensures answered { IsTrue result → self.new.unanswered ≡ false }
         ensures calm { IsTrue result → self.new.line.halts ≡ false }
+        ensures number { IsTrue result → self.new.work.number ≡ self.old.work.number + dropped }
         ensures begins { IsTrue result → BeginsPart self.new }
         ensures here { result ≡ false → self.old.work.left ≡ [] → IsPlace self.old.place → self.old.work.number + dropped < 2 ^ 32 → ResetsNot self.old k dropped alarm }
         ensures no { result ≡ false → self.old.work.left ≡ [] → self.old.work.number ≡ k + 1 → IsPlace self.old.place → self.old.work.number + dropped < 2 ^ 32 → RefusesReset self.old k dropped alarm }
@@ -252,6 +256,7 @@ impl CourseJudge {
         ensures short { IsTrue result → length self.new.work.left ≤ 3 }
         ensures answered { IsTrue result → self.new.unanswered ≡ false }
         ensures calm { IsTrue result → self.new.line.halts ≡ false }
+        ensures number { IsTrue result → self.new.work.number ≡ self.old.work.number + dropped }
         ensures no { result ≡ false → self.old.work.left ≡ [] → self.old.work.number + dropped < 2 ^ 32 → HearsNoReset self.old alarm }
     {
         if !self.work.is_done() {

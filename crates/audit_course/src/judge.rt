@@ -192,6 +192,7 @@ impl CourseJudge {
         ensures heard { (r : AnyReply) → IsNextOf (tell r) self.old.work.left → HearsReply self.old self.new r }
         ensures left { (r : AnyReply) → IsNextOf (tell r) self.old.work.left → left_to_tell self.old ≡ r ∷ left_to_tell self.new }
         ensures work { self.new.work.left ≡ drop 1 self.old.work.left }
+        ensures number { self.new.work.number ≡ self.old.work.number }
         ensures line { SameLine self.old self.new }
     {
         self.work.done();

@@ -89,6 +89,7 @@ impl CourseJudge {
         ensures heard { StaysHeard self.old self.new }
         ensures lost { self.new.lost ≡ self.old.lost }
         ensures work { self.new.work.left ≡ drop 1 self.old.work.left }
+        ensures number { self.new.work.number ≡ self.old.work.number }
         ensures unanswered { self.new.unanswered ≡ self.old.unanswered }
         ensures in_hand { self.new.in_hand ≡ self.old.in_hand }
         ensures halts { has_halt self.old.work.left ≡ false → self.new.line.halts ≡ self.old.line.halts }
@@ -108,6 +109,7 @@ impl CourseJudge {
         ensures heard { StaysHeard self.old self.new }
         ensures lost { self.new.lost ≡ true → self.old.lost ≡ false → owed_of self.old.part ≢ [] }
         ensures work { self.new.work.left ≡ drop 1 self.old.work.left }
+        ensures number { self.new.work.number ≡ self.old.work.number }
         ensures unanswered { self.new.unanswered ≡ self.old.unanswered }
         ensures in_hand { self.new.in_hand ≡ self.old.in_hand }
         ensures halts { has_halt self.old.work.left ≡ false → self.new.line.halts ≡ self.old.line.halts }
@@ -129,6 +131,7 @@ impl CourseJudge {
         ensures heard { StaysHeard self.old self.new }
         ensures lost { self.new.lost ≡ true → self.old.lost ≡ false → owed_of self.old.part ≢ [] }
         ensures work { self.new.work.left ≡ drop 1 self.old.work.left }
+        ensures number { self.new.work.number ≡ self.old.work.number }
         ensures unanswered { self.new.unanswered ≡ self.old.unanswered }
         ensures in_hand { self.new.in_hand ≡ self.old.in_hand }
         ensures halts { has_halt self.old.work.left ≡ false → self.new.line.halts ≡ self.old.line.halts }
@@ -145,6 +148,7 @@ impl CourseJudge {
         ensures heard { StaysHeard self.old self.new }
         ensures lost { self.new.lost ≡ true → self.old.lost ≡ false → owed_of self.old.part ≢ [] }
         ensures work { self.new.work.left ≡ drop 1 self.old.work.left }
+        ensures number { self.new.work.number ≡ self.old.work.number }
         ensures unanswered { self.new.unanswered ≡ self.old.unanswered }
         ensures in_hand { self.new.in_hand ≡ self.old.in_hand }
         ensures halts { has_halt self.old.work.left ≡ false → self.new.line.halts ≡ self.old.line.halts }
@@ -167,6 +171,7 @@ impl CourseJudge {
         ensures left { left_to_tell self.new ≡ left_to_tell self.old }
         ensures lost { self.new.lost ≡ true → self.old.lost ≡ false → owed_of self.old.part ≢ [] }
         ensures work { self.new.work.left ≡ drop 1 self.old.work.left }
+        ensures number { self.new.work.number ≡ self.old.work.number }
         ensures unanswered { self.new.unanswered ≡ self.old.unanswered }
         ensures in_hand { self.new.in_hand ≡ self.old.in_hand }
         ensures halts { has_halt self.old.work.left ≡ false → self.new.line.halts ≡ self.old.line.halts }
