@@ -98,6 +98,7 @@ impl CourseJudge {
         ensures work { self.new.work.left ≡ self.old.work.left }
         ensures number { self.new.work.number ≡ self.old.work.number }
         ensures unanswered { self.new.unanswered ≡ self.old.unanswered }
+        ensures halts { self.new.line.halts ≡ self.old.line.halts }
         ensures begins { BeginsPart self.new }
     {
         self.work.rebase(self.place);
@@ -124,6 +125,7 @@ impl CourseJudge {
         ensures number { self.new.work.number ≡ self.old.work.number }
         ensures done { IsTrue result → self.new.work.left ≡ [] }
         ensures unanswered { IsTrue result → self.new.unanswered ≡ self.old.unanswered }
+        ensures halts { self.new.line.halts ≡ self.old.line.halts }
         ensures begins { IsTrue result → BeginsPart self.new }
     {
         if !self.work.is_done() {
@@ -220,6 +222,9 @@ impl CourseJudge {
         ensures answered { IsTrue result → self.new.unanswered ≡ false }
         ensures calm { IsTrue result → self.new.line.halts ≡ false }
         ensures number { IsTrue result → self.new.work.number ≡ self.old.work.number + dropped }
+        ensures work { result ≡ false → self.new.work ≡ self.old.work }
+        ensures unanswered { result ≡ false → self.new.unanswered ≡ self.old.unanswered }
+        ensures halts { result ≡ false → self.new.line.halts ≡ self.old.line.halts }
         ensures begins { IsTrue result → BeginsPart self.new }
         ensures here { result ≡ false → self.old.work.left ≡ [] → IsPlace self.old.place → self.old.work.number + dropped < 2 ^ 32 → ResetsNot self.old k dropped alarm }
         ensures no { result ≡ false → self.old.work.left ≡ [] → self.old.work.number ≡ k + 1 → IsPlace self.old.place → self.old.work.number + dropped < 2 ^ 32 → RefusesReset self.old k dropped alarm }
@@ -257,6 +262,9 @@ impl CourseJudge {
         ensures answered { IsTrue result → self.new.unanswered ≡ false }
         ensures calm { IsTrue result → self.new.line.halts ≡ false }
         ensures number { IsTrue result → self.new.work.number ≡ self.old.work.number + dropped }
+        ensures work { result ≡ false → self.new.work ≡ self.old.work }
+        ensures unanswered { result ≡ false → self.new.unanswered ≡ self.old.unanswered }
+        ensures halts { result ≡ false → self.new.line.halts ≡ self.old.line.halts }
         ensures no { result ≡ false → self.old.work.left ≡ [] → self.old.work.number + dropped < 2 ^ 32 → HearsNoReset self.old alarm }
     {
         if !self.work.is_done() {
