@@ -1,5 +1,5 @@
 -- A line is begun.
-use Rattle.std.proofs.Common.{◌≡◌, ℕ, ◌+◌, Bool, true, false, cond, not, ◌&&◌, ◌||◌, List, [], ◌∷◌, ◌++◌, length, append-nil, append_assoc, refl, sym, ap, ◌∙◌, subst, arith}
+use Rattle.std.proofs.Common.{◌≡◌, ◌≤◌, ℕ, ◌+◌, Bool, true, false, cond, not, ◌&&◌, ◌||◌, List, [], ◌∷◌, ◌++◌, length, append-nil, append_assoc, refl, sym, ap, ◌∙◌, subst, arith}
 use Rattle.std.specs.List.{AllByRecursion, list_any}
 use Rattle.flight.specs.Places.{origin}
 use Rattle.status_report.specs.declared.Reply.{Reply}
@@ -32,6 +32,7 @@ use Rattle.run_texts.specs.Sent.Sent.{a_text}
 use Rattle.run_texts.specs.SoFar.{Reaches}
 use Rattle.run_texts.proofs.Making.{line_made}
 use Rattle.run_texts.proofs.Reaching.{reaches_broken, reaches_line}
+use Rattle.run_texts.proofs.Tasks.{short_work}
 use Rattle.audit_course.specs.declared.Progress.{Progress}
 use Rattle.audit_course.specs.declared.judge.CourseJudge.{CourseJudge}
 use Rattle.audit_course.specs.declared.ticks.Ticks.{Ticks}
@@ -451,6 +452,16 @@ broken_work j k machine w accepted kept b judged finds work first sent replies r
     let o = judged (since_at s.point) in
     let at = judged_point j first sent replies records s in
     (s.point, o.0, finds s.point (known_at j s.point s.hand at b) o.0 (found_at j s.point s.hand machine w kept o.0 at b (o.1, o.2)), ap (λ (i : Interpreting). i.left) (work ∙ o.2))
+
+-- and it is short, whatever was told before: a point can be that of which a judge knows this
+pub short_found : (j : CourseJudge) (runs : Bool) (machine : Machine) (w : Interpreting) (kept : List ℕ) → ((since : Since) → (o : Outcome) × Found machine (stands_before j.work since) kept o × (w.left ≡ o.work))
+    → ((p : Point) → Knows j p → (o : Outcome) → Found machine p.before kept o → BecomesAt runs p kept o) → length w.left ≤ 64
+short_found j runs machine w kept judged finds =
+    let since : Since = record { moved = j.moved; jog_moved = j.jog_moved; jogged = j.jogged; alarmed = false } in
+    let p : Point = record { before = stands_before j.work since; locked = j.locked; has_line = false; unanswered = false } in
+    let knows : Knows j p = record { locked = refl; moved = refl; jog_moved = refl; jogged = refl } in
+    let o = judged since in
+    subst (λ (ts : List Task). length ts ≤ 64) (sym o.2) (short_work runs p kept o.0 (finds p knows o.0 o.1))
 
 -- ---- how the machine is found
 

@@ -1,6 +1,6 @@
 //! Lines that are begun.
 
-ghost use Rattle.std.specs.Prelude.{◌≡◌, ◌<◌, ◌+◌, ◌^◌, ◌∷◌, ◌&&◌, ◌||◌, not, [], true, false, List, ℕ, IsTrue};
+ghost use Rattle.std.specs.Prelude.{◌≡◌, ◌<◌, ◌≤◌, ◌+◌, ◌^◌, ◌∷◌, ◌&&◌, ◌||◌, not, [], true, false, List, length, ℕ, IsTrue};
 ghost use Rattle.run_rules.specs.Outcomes.{jogged_behind};
 ghost use Rattle.run_rules.specs.Work.{accepted_code, accepted_jog};
 ghost use Rattle.run_texts.specs.Sent.Sent.{a_text};
@@ -156,6 +156,7 @@ impl CourseJudge {
         ensures heard { (kept : List ℕ) → IsKept line.now kept → HearsSent self.old self.new (a_text kept ∷ []) }
         ensures tells { (kept : List ℕ) → IsKept line.now kept → TellsFound self.old self.new machine kept }
         ensures work { (kept : List ℕ) → IsKept line.now kept → HasWorkOf self.old self.new true kept }
+        ensures short { (kept : List ℕ) → IsKept line.now kept → length self.new.work.left ≤ 64 }
         ensures number { self.new.work.number ≡ self.old.work.number + 1 }
         ensures unanswered { self.new.unanswered ≡ self.old.unanswered }
         ensures in_hand { self.new.in_hand ≡ true }
@@ -184,6 +185,7 @@ impl CourseJudge {
         ensures alone { IsTrue result → (kept : List ℕ) → IsKept line.now kept → TellsAlone self.old self.new error kept }
         ensures heard_alone { IsTrue result → (kept : List ℕ) → IsKept line.now kept → HearsAlone self.old self.new error kept }
         ensures work { IsTrue result → (kept : List ℕ) → IsKept line.now kept → HasWorkOf self.old self.new true kept }
+        ensures short { IsTrue result → (kept : List ℕ) → IsKept line.now kept → length self.new.work.left ≤ 64 }
         ensures number { IsTrue result → self.new.work.number ≡ self.old.work.number + 1 }
         ensures unanswered { IsTrue result → self.new.unanswered ≡ false }
         ensures in_hand { IsTrue result → self.new.in_hand ≡ true }
@@ -206,6 +208,7 @@ impl CourseJudge {
         ensures adds { (kept : List ℕ) → IsKept line.now kept → AddsSent self.old self.new (a_text kept ∷ []) }
         ensures heard { (kept : List ℕ) → IsKept line.now kept → HearsSent self.old self.new (a_text kept ∷ []) }
         ensures work { (kept : List ℕ) → IsKept line.now kept → HasWorkOf self.old self.new false kept }
+        ensures short { (kept : List ℕ) → IsKept line.now kept → length self.new.work.left ≤ 64 }
         ensures number { self.new.work.number ≡ self.old.work.number + 1 }
         ensures unanswered { self.new.unanswered ≡ true }
         ensures lost { self.new.lost ≡ self.old.lost }
@@ -229,6 +232,7 @@ impl CourseJudge {
         ensures yes { IsTrue result → (kept : List ℕ) → IsKept line.now kept → AddsSent self.old self.new (a_text kept ∷ []) }
         ensures heard { IsTrue result → (kept : List ℕ) → IsKept line.now kept → HearsSent self.old self.new (a_text kept ∷ []) }
         ensures work { IsTrue result → (kept : List ℕ) → IsKept line.now kept → HasWorkOf self.old self.new false kept }
+        ensures short { IsTrue result → (kept : List ℕ) → IsKept line.now kept → length self.new.work.left ≤ 64 }
         ensures number { IsTrue result → self.new.work.number ≡ self.old.work.number + 1 }
         ensures unanswered { IsTrue result → self.new.unanswered ≡ true }
         ensures lost { IsTrue result → self.new.lost ≡ self.old.lost }

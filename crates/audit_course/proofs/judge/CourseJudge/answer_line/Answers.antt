@@ -1,7 +1,8 @@
 use Rattle.std.proofs.Common.{true, refl, ap, ◌∙◌, ◌&&◌, Bool, not, subst, sym}
 use Rattle.run_rules.specs.States.{IsState}
+use Rattle.line_interpreter.specs.Interpreting.{Interpreting}
 use Rattle.audit_course.proofs.Heard.{line_heard}
-use Rattle.audit_course.proofs.Beginning.{line_answered, line_tells, line_work}
+use Rattle.audit_course.proofs.Beginning.{line_answered, line_tells, line_work, short_found}
 use Rattle.audit_course.proofs.judge.CourseJudge.answer_line.Goals as goal
 
 pub of-self-requires : goal.of-self-requires
@@ -28,3 +29,8 @@ returns-clause-heard c = λ kept is.
     line_heard c.args.self.now c.args.machine c.judge_settling-judged.new.self c.of-self.result c.still_locked-self.result c.jogged_behind-self.result c.begin-self.result c.judge_settling-judged.result.accepted c.judge_settling-judged.result.settles kept
     c.requires.may (λ since. c.judge_settling-judged.ensures.becomes since kept is) (c.requires.found kept is) (c.of-self.ensures ∙ c.state.ensures.is) c.begin-self.ensures.is_new c.begin-self.ensures.accepted c.begin-self.ensures.settles c.jogged_behind-self.ensures
     (c.still_locked-self.ensures ∙ ap (λ (b : Bool). c.args.self.now.locked && not b) (c.unlocks-unlocked.ensures kept is))
+
+pub returns-clause-short : goal.returns-clause-short
+returns-clause-short c = λ kept is.
+    short_found c.args.self.now true c.args.machine c.judge_settling-judged.new.self kept
+    (λ since. let o = c.judge_settling-judged.ensures.becomes since kept is in (o.0, o.1, ap (λ (i : Interpreting). i.left) o.2)) (c.requires.found kept is)

@@ -1,6 +1,7 @@
-use Rattle.std.proofs.Common.{true, false, refl}
+use Rattle.std.proofs.Common.{true, false, refl, ap}
+use Rattle.line_interpreter.specs.Interpreting.{Interpreting}
 use Rattle.audit_course.proofs.Heard.{broken_heard}
-use Rattle.audit_course.proofs.Beginning.{line_unanswered, broken_work}
+use Rattle.audit_course.proofs.Beginning.{line_unanswered, broken_work, short_found}
 use Rattle.audit_course.proofs.judge.CourseJudge.break_line.Goals as goal
 
 pub returns-clause-adds : goal.returns-clause-adds
@@ -17,3 +18,8 @@ pub returns-clause-heard : goal.returns-clause-heard
 returns-clause-heard c = λ kept is.
     broken_heard c.args.self.now c.args.machine c.judge.new.self c.begin-self.result c.judge.result kept c.requires.may
     (λ since. c.judge.ensures.becomes since kept is) (c.requires.found kept is) c.begin-self.ensures.is_new c.begin-self.ensures.accepted c.begin-self.ensures.settles
+
+pub returns-clause-short : goal.returns-clause-short
+returns-clause-short c = λ kept is.
+    short_found c.args.self.now false c.args.machine c.judge.new.self kept
+    (λ since. let o = c.judge.ensures.becomes since kept is in (o.0, o.1, ap (λ (i : Interpreting). i.left) o.2)) (c.requires.found kept is)
