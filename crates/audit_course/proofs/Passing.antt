@@ -53,6 +53,11 @@ some_on (x ∷ xs) ys = refl
 ticks_first : (t : Task) (ts : List Task) → has_ticks (t ∷ ts) ≡ (has_some (ticks_of_all (asked_by_task t)) || has_ticks ts)
 ticks_first t ts = ap has_some (flat_map-append ticks_of_one (asked_by_task t) (asks ts)) ∙ some_on (ticks_of_all (asked_by_task t)) (ticks_of_all (asks ts))
 
+-- Whether a line halts the machine, by the tasks that are done or by those that are left, is the same behind each task.
+pub halts_on : (before now : Progress) (t : Task) (left rest : List Task) → IsNextOf t left → rest ≡ drop 1 left → Counts before now t → (now.halts || has_halt rest) ≡ (before.halts || has_halt left)
+halts_on before now t left rest next is counts = ap (λ (b : Bool). b || has_halt rest) counts.halts ∙ ap (λ (ts : List Task). (before.halts || is_halt t) || has_halt ts) is
+    ∙ or_on before.halts (is_halt t) (has_halt (drop 1 left)) ∙ ap (λ (ts : List Task). before.halts || has_halt ts) (sym next)
+
 -- it counts in the line at hand
 pub counted : (j k : CourseJudge) (p : Point) (hand : List Outcome) (t : Task) → OfLine j p hand → IsNextOf t j.work.left → k.work.left ≡ drop 1 j.work.left → Counts j.line k.line t → has_some (ticks_of_all (asked_by_task t)) ≡ asks_ticks t
     → k.moved ≡ j.moved → k.jog_moved ≡ j.jog_moved → k.jogged ≡ j.jogged → k.unanswered ≡ j.unanswered → k.in_hand ≡ j.in_hand → OfLine k p hand
@@ -61,8 +66,7 @@ counted j k p hand t o next left counts some moved jog_moved jogged unanswered i
   limit = o.limit;
   moves = flag has_moves (asks_move t) (λ ts. refl) k.line.moves j.line.moves counts.moves o.work o.moves;
   ticks = flag has_ticks (asks_ticks t) (λ ts. ticks_first t ts ∙ ap (λ (b : Bool). b || has_ticks ts) some) k.line.asks j.line.asks counts.asks o.work o.ticks;
-  halts = ap (λ (b : Bool). b || has_halt k.work.left) counts.halts ∙ ap (λ (ts : List Task). (j.line.halts || is_halt t) || has_halt ts) left
-      ∙ or_on j.line.halts (is_halt t) (has_halt (drop 1 j.work.left)) ∙ ap (λ (ts : List Task). j.line.halts || has_halt ts) (sym next) ∙ o.halts;
+  halts = halts_on j.line k.line t j.work.left k.work.left next left counts ∙ o.halts;
   marks = subst (AllByRecursion (λ (x : Task). ends_none x ≡ true)) (sym left) (subst (AllByRecursion (λ (x : Task). ends_none x ≡ true)) next o.marks).1;
   moved = o.moved ∙ sym (same_moved k.line.settles j.line.settles (accepted_code (kind_told k.line.accepted)) (accepted_code (kind_told j.line.accepted)) (has_moves o.work) k.moved j.moved counts.settles kind moved);
   jog_moved = o.jog_moved ∙ sym (same_moved k.line.settles j.line.settles (accepted_jog (kind_told k.line.accepted)) (accepted_jog (kind_told j.line.accepted)) (has_moves o.work) k.jog_moved j.jog_moved counts.settles jog jog_moved);

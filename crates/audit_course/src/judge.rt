@@ -1,6 +1,6 @@
 //! The judge of a course, and the tasks of the line at hand.
 
-ghost use Rattle.std.specs.Prelude.{◌≡◌, ◌≢◌, ◌∷◌, [], true, false, not, List, drop};
+ghost use Rattle.std.specs.Prelude.{◌≡◌, ◌≢◌, ◌∷◌, ◌||◌, [], true, false, not, List, drop};
 ghost use Rattle.status_report.specs.declared.Reply.{Reply as AnyReply};
 ghost use Rattle.status_report.specs.Answering.{is_report};
 ghost use Rattle.status_report.specs.Replies.{IsReply};
@@ -12,7 +12,7 @@ ghost use Rattle.run_rules.specs.States.{IsOpening};
 ghost use Rattle.run_rules.specs.Work.{Task};
 ghost use Rattle.run_rules.specs.Work.Task.{ask, tell, halt};
 ghost use Rattle.line_interpreter.specs.Lefts.{IsNextOf, IsTodo};
-ghost use Rattle.audit_course.specs.Progressing.{Counts, IsNew};
+ghost use Rattle.audit_course.specs.Progressing.{Counts, IsNew, has_halt};
 ghost use Rattle.audit_course.specs.SoFar.{HasJudged, AddsReply, MayBegin, SameLine, left_to_tell};
 ghost use Rattle.audit_course.specs.Heard.{HearsReply};
 
@@ -194,6 +194,7 @@ impl CourseJudge {
         ensures work { self.new.work.left ≡ drop 1 self.old.work.left }
         ensures number { self.new.work.number ≡ self.old.work.number }
         ensures line { SameLine self.old self.new }
+        ensures halting { (self.new.line.halts || has_halt self.new.work.left) ≡ (self.old.line.halts || has_halt self.old.work.left) }
     {
         self.work.done();
     }

@@ -93,6 +93,7 @@ impl CourseJudge {
         ensures unanswered { self.new.unanswered ≡ self.old.unanswered }
         ensures in_hand { self.new.in_hand ≡ self.old.in_hand }
         ensures halts { has_halt self.old.work.left ≡ false → self.new.line.halts ≡ self.old.line.halts }
+        ensures halting { (self.new.line.halts || has_halt self.new.work.left) ≡ (self.old.line.halts || has_halt self.old.work.left) }
     {
         self.line = counted(self.line, todo);
         self.work.done();
@@ -113,6 +114,7 @@ impl CourseJudge {
         ensures unanswered { self.new.unanswered ≡ self.old.unanswered }
         ensures in_hand { self.new.in_hand ≡ self.old.in_hand }
         ensures halts { has_halt self.old.work.left ≡ false → self.new.line.halts ≡ self.old.line.halts }
+        ensures halting { (self.new.line.halts || has_halt self.new.work.left) ≡ (self.old.line.halts || has_halt self.old.work.left) }
     {
         self.line = counted(self.line, todo);
         self.work.done();
@@ -135,6 +137,7 @@ impl CourseJudge {
         ensures unanswered { self.new.unanswered ≡ self.old.unanswered }
         ensures in_hand { self.new.in_hand ≡ self.old.in_hand }
         ensures halts { has_halt self.old.work.left ≡ false → self.new.line.halts ≡ self.old.line.halts }
+        ensures halting { (self.new.line.halts || has_halt self.new.work.left) ≡ (self.old.line.halts || has_halt self.old.work.left) }
     {
         let planned = self.work.planned_move();
         self.ask(Todo::Move, Item::Move(planned));
@@ -152,6 +155,7 @@ impl CourseJudge {
         ensures unanswered { self.new.unanswered ≡ self.old.unanswered }
         ensures in_hand { self.new.in_hand ≡ self.old.in_hand }
         ensures halts { has_halt self.old.work.left ≡ false → self.new.line.halts ≡ self.old.line.halts }
+        ensures halting { (self.new.line.halts || has_halt self.new.work.left) ≡ (self.old.line.halts || has_halt self.old.work.left) }
     {
         if is_ending(&mark) {
             self.work.done();
@@ -175,6 +179,7 @@ impl CourseJudge {
         ensures unanswered { self.new.unanswered ≡ self.old.unanswered }
         ensures in_hand { self.new.in_hand ≡ self.old.in_hand }
         ensures halts { has_halt self.old.work.left ≡ false → self.new.line.halts ≡ self.old.line.halts }
+        ensures halting { (self.new.line.halts || has_halt self.new.work.left) ≡ (self.old.line.halts || has_halt self.old.work.left) }
     {
         let todo = self.work.todo();
         match todo {

@@ -1,6 +1,7 @@
-use Rattle.std.proofs.Common.{true}
+use Rattle.std.proofs.Common.{true, ap}
+use Rattle.line_interpreter.specs.Interpreting.{Interpreting}
 use Rattle.audit_course.proofs.Heard.{item_heard}
-use Rattle.audit_course.proofs.Passing.{some_next, item_asked, task_lost, halts_same}
+use Rattle.audit_course.proofs.Passing.{some_next, item_asked, task_lost, halts_same, halts_on}
 use Rattle.audit_course.proofs.judge.CourseJudge.ask.Goals as goal
 
 pub returns-then-self-clause-stays : goal.returns-then-self-clause-stays
@@ -35,3 +36,13 @@ pub returns-clause-heard : goal.returns-clause-heard
 returns-clause-heard c =
     let n = some_next c.args.self.now.work.left c.requires.some in
     item_heard c.args.self.now n.0 c.args.item c.done.new.self c.counted-self.result c.ask.new.self c.args.self.now.lost n.1 c.requires.item (c.requires.of n.0 n.1) c.done.ensures (c.counted-self.ensures c.args.self.now.work.left c.requires.todo n.0 n.1)
+
+pub returns-then-self-clause-halting : goal.returns-then-self-clause-halting
+returns-then-self-clause-halting c =
+    let n = some_next c.args.self.now.work.left c.requires.some in
+    halts_on c.args.self.now.line c.counted-self.result n.0 c.args.self.now.work.left c.done.new.self.left n.1 (ap (λ (i : Interpreting). i.left) c.done.ensures) (c.counted-self.ensures c.args.self.now.work.left c.requires.todo n.0 n.1)
+
+pub returns-clause-halting : goal.returns-clause-halting
+returns-clause-halting c =
+    let n = some_next c.args.self.now.work.left c.requires.some in
+    halts_on c.args.self.now.line c.counted-self.result n.0 c.args.self.now.work.left c.done.new.self.left n.1 (ap (λ (i : Interpreting). i.left) c.done.ensures) (c.counted-self.ensures c.args.self.now.work.left c.requires.todo n.0 n.1)
