@@ -100,6 +100,7 @@ impl CourseJudge {
         ensures unanswered { self.new.unanswered ≡ self.old.unanswered }
         ensures halts { self.new.line.halts ≡ self.old.line.halts }
         ensures begins { BeginsPart self.new }
+        ensures no_line { self.new.has_line ≡ false }
     {
         self.work.rebase(self.place);
         self.state = self.state.rebased(self.place);
@@ -127,6 +128,7 @@ impl CourseJudge {
         ensures unanswered { IsTrue result → self.new.unanswered ≡ self.old.unanswered }
         ensures halts { self.new.line.halts ≡ self.old.line.halts }
         ensures begins { IsTrue result → BeginsPart self.new }
+        ensures no_line { IsTrue result → self.new.has_line ≡ false }
     {
         if !self.work.is_done() {
             return false;
@@ -190,6 +192,7 @@ impl CourseJudge {
         ensures calm { self.new.line.halts ≡ false }
         ensures number { self.new.work.number ≡ self.old.work.number + dropped }
         ensures begins { self.old.in_hand ≡ false → BeginsPart self.new }
+        ensures no_line { self.new.has_line ≡ false }
     {
         let locked = locks(alarm, self.locked);
         let state = self.state.anew(at);
@@ -226,6 +229,7 @@ impl CourseJudge {
         ensures unanswered { result ≡ false → self.new.unanswered ≡ self.old.unanswered }
         ensures halts { result ≡ false → self.new.line.halts ≡ self.old.line.halts }
         ensures begins { IsTrue result → BeginsPart self.new }
+        ensures no_line { IsTrue result → self.new.has_line ≡ false }
         ensures here { result ≡ false → self.old.work.left ≡ [] → IsPlace self.old.place → self.old.work.number + dropped < 2 ^ 32 → ResetsNot self.old k dropped alarm }
         ensures no { result ≡ false → self.old.work.left ≡ [] → self.old.work.number ≡ k + 1 → IsPlace self.old.place → self.old.work.number + dropped < 2 ^ 32 → RefusesReset self.old k dropped alarm }
     {
