@@ -7,7 +7,7 @@ ghost use Rattle.units.specs.Lengths.{IsPlace, IsCoordinate};
 ghost use Rattle.legal_heads.specs.Speeds.{MayStop};
 ghost use Rattle.part_making.specs.Judging.{coming_of, head_of};
 ghost use Rattle.line_interpreter.specs.Lefts.{greeting};
-ghost use Rattle.audit_course.specs.Progressing.{is_whole};
+ghost use Rattle.audit_course.specs.Progressing.{is_whole, has_halt};
 ghost use Rattle.audit_course.specs.Here.{CutsNot, ResetsNot};
 ghost use Rattle.audit_course.specs.Heard.{CutsPoint, StaysHeard, HearsReset, HearsNoReset, MayTellReset};
 ghost use Rattle.audit_course.specs.SoFar.{left_to_tell, opened_at, BeginsPart, AddsRecord, AddsReset, EndsSoFar, RefusesEnd, RefusesRecord, RefusesReset, IsClosed, IsIdle, MayCut, MayReset, MayEnd};
@@ -193,6 +193,7 @@ impl CourseJudge {
         ensures number { self.new.work.number ≡ self.old.work.number + dropped }
         ensures begins { self.old.in_hand ≡ false → BeginsPart self.new }
         ensures no_line { self.new.has_line ≡ false }
+        ensures quiet { has_halt self.new.work.left ≡ false }
     {
         let locked = locks(alarm, self.locked);
         let state = self.state.anew(at);
@@ -230,6 +231,7 @@ impl CourseJudge {
         ensures halts { result ≡ false → self.new.line.halts ≡ self.old.line.halts }
         ensures begins { IsTrue result → BeginsPart self.new }
         ensures no_line { IsTrue result → self.new.has_line ≡ false }
+        ensures quiet { IsTrue result → has_halt self.new.work.left ≡ false }
         ensures here { result ≡ false → self.old.work.left ≡ [] → IsPlace self.old.place → self.old.work.number + dropped < 2 ^ 32 → ResetsNot self.old k dropped alarm }
         ensures no { result ≡ false → self.old.work.left ≡ [] → self.old.work.number ≡ k + 1 → IsPlace self.old.place → self.old.work.number + dropped < 2 ^ 32 → RefusesReset self.old k dropped alarm }
     {
@@ -269,6 +271,7 @@ impl CourseJudge {
         ensures work { result ≡ false → self.new.work ≡ self.old.work }
         ensures unanswered { result ≡ false → self.new.unanswered ≡ self.old.unanswered }
         ensures halts { result ≡ false → self.new.line.halts ≡ self.old.line.halts }
+        ensures quiet { IsTrue result → has_halt self.new.work.left ≡ false }
         ensures no { result ≡ false → self.old.work.left ≡ [] → self.old.work.number + dropped < 2 ^ 32 → HearsNoReset self.old alarm }
     {
         if !self.work.is_done() {

@@ -1,8 +1,10 @@
-use Rattle.std.proofs.Common.{◌≤◌, Bool, true, false, length, arith, ap, sym, ◌∙◌, subst}
+use Rattle.std.proofs.Common.{◌≡◌, ◌≤◌, Bool, true, false, length, arith, ap, sym, ◌∙◌, subst}
 use Rattle.run_rules.specs.Work.{tells, telling}
 use Rattle.run_rules.proofs.Answering.{telling_tells}
 use Rattle.line_interpreter.specs.Interpreting.{Interpreting}
 use Rattle.line_interpreter.specs.Lefts.{greeting}
+use Rattle.audit_course.specs.Progressing.{has_halt}
+use Rattle.audit_course.proofs.Outcomes.{telling_halts}
 use Rattle.audit_course.proofs.judge.CourseJudge.open_epoch.Goals as goal
 
 short_greeting : (alarm locked : Bool) → length (telling (greeting alarm locked)) ≤ 3
@@ -16,3 +18,6 @@ returns-clause-greets c = ap (λ (i : Interpreting). tells i.left) c.open_behind
 
 pub returns-clause-short : goal.returns-clause-short
 returns-clause-short c = subst (λ (i : Interpreting). length i.left ≤ 3) (sym c.open_behind.ensures) (short_greeting c.args.alarm c.locks-locked.result)
+
+pub returns-clause-quiet : goal.returns-clause-quiet
+returns-clause-quiet c = subst (λ (i : Interpreting). has_halt i.left ≡ false) (sym c.open_behind.ensures) (telling_halts (greeting c.args.alarm c.locks-locked.result))
