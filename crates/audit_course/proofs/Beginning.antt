@@ -435,6 +435,7 @@ line_tells j k machine w accepted settles kept b judged work unanswered p hand a
       o.0,
       found_at j p hand machine w kept o.0 at b (o.1, o.2),
       ap (λ (u : Bool). cond u [] (tells k.work.left)) (unanswered ∙ b.answered) ∙ ap (λ (i : Interpreting). tells i.left) (work ∙ o.2),
+      ap (λ (i : Interpreting). i.left) (work ∙ o.2),
     )
 
 pub line_work : (j k : CourseJudge) (machine : Machine) (w : Interpreting) (accepted : Accepted) (settles : Bool) (kept : List ℕ) → MayBegin j

@@ -36,7 +36,7 @@ use Rattle.audit_course.specs.declared.Progress.{Progress}
 use Rattle.audit_course.specs.declared.judge.CourseJudge.{CourseJudge}
 use Rattle.audit_course.specs.declared.ticks.Ticks.{Ticks}
 use Rattle.audit_course.specs.declared.ticks.Ticks.TheVariants as standing
-use Rattle.audit_course.specs.Heard.{KnowsPoint, KeepsPoint, CutsPoint, HasHeard, StaysHeard, HearsSent, HearsReply, HearsReset, MayTellReset, TellsFound, HearsAlone, HearsNoLine, HearsNoReset}
+use Rattle.audit_course.specs.Heard.{KnowsPoint, KeepsPoint, CutsPoint, HasHeard, StaysHeard, HearsSent, HearsReply, HearsReset, MayTellReset, TellsFound, HearsAlone, HearsLine, HearsNoLine, HearsNoReset}
 use Rattle.audit_course.specs.Progressing.{asks_ticks, has_some, has_halt, is_halt, moved_now, fresh, Counts, IsNew, IsUnseen, IsItemOf}
 use Rattle.audit_course.specs.SoFar.{HasJudged, IsClosed, FindsRight, FindsStill, FindsAlone, MayBegin, left_to_tell, opened_at, texts_among}
 use Rattle.audit_course.proofs.Beginning.{broken_of, judged_line, judged_still, known_at, line_of, no_alarm, none_to_tell, since_at}
@@ -295,6 +295,14 @@ hears_alone old mid new error machine kept may keeps alone tells_found p before 
     let at = keeps h.point h.hand (heard_point old p before sent replies h) in
     let o = tells_found h.point at.0 at.1 in
     o.2 ∙ ap (λ (x : Outcome). tells x.work) (sym (alone h.point (known_at mid h.point at.0 at.1 may) o.0 u o.1 is r xs ys told fits))
+
+-- and all that it becomes is left to do
+pub hears_line : (old mid new : CourseJudge) (error : MotionError) (machine : Machine) (kept : List ℕ) → MayBegin mid → KeepsPoint old mid → FindsRight mid machine kept → FindsAlone mid error machine kept → TellsFound mid new machine kept → HearsLine old new error kept
+hears_line old mid new error machine kept may keeps right alone tells_found p before sent replies h =
+    let at = keeps h.point h.hand (heard_point old p before sent replies h) in
+    let knows = known_at mid h.point at.0 at.1 may in
+    let o = tells_found h.point at.0 at.1 in
+    (o.0, right h.point knows o.0 o.1, o.3, λ u is. alone h.point knows o.0 u o.1 is)
 
 -- none may be begun where the last has no answer, or has raised an alarm
 pub none_heard : (j : CourseJudge) → j.work.left ≡ [] → (j.unanswered ≡ false → j.line.halts ≡ true) → HearsNoLine j

@@ -80,15 +80,22 @@ pub record MayTellReset (j : CourseJudge) (alarm : Bool) : Type 0 where
 
 -- ---- the line that is begun
 
--- it is begun as it is found, and all that it tells is left to tell
+-- it is begun as it is found, and all that it tells is left to tell, and all that it does is left to do
 abbrev pub TellsFound : CourseJudge → CourseJudge → Machine → List ℕ → Type 0
-TellsFound j k machine kept = (p : Point) (hand : List Outcome) → KnowsPoint j p hand → (o : Outcome) × Found machine p.before kept o × (left_to_tell k ≡ tells o.work)
+TellsFound j k machine kept = (p : Point) (hand : List Outcome) → KnowsPoint j p hand → (o : Outcome) × Found machine p.before kept o × (left_to_tell k ≡ tells o.work) × (k.work.left ≡ o.work)
 
 -- If it becomes what tells first a reply that fits the error, all that this tells is left to tell.
 abbrev pub HearsAlone : CourseJudge → CourseJudge → MotionError → List ℕ → Type 0
 HearsAlone j k error kept =
     (p : Point) (before : List Reply) (sent : List Sent) (replies : List Reply) (h : HasHeard j p before sent replies) (o : Outcome)
     → BecomesAt true h.point kept o → (r : Reply) (xs ys : List Reply) → tells o.work ++ ys ≡ r ∷ xs → IsErrorOf error r → left_to_tell k ≡ tells o.work
+
+-- If the line becomes what tells first a reply that fits the error, it becomes this, and all that this does is left to do.
+abbrev pub HearsLine : CourseJudge → CourseJudge → MotionError → List ℕ → Type 0
+HearsLine j k error kept =
+    (p : Point) (before : List Reply) (sent : List Sent) (replies : List Reply) (h : HasHeard j p before sent replies)
+    → (o : Outcome) × BecomesAt true h.point kept o × (k.work.left ≡ o.work)
+    × ((u : Outcome) → BecomesAt true h.point kept u → (r : Reply) (xs ys : List Reply) → tells u.work ++ ys ≡ r ∷ xs → IsErrorOf error r → u ≡ o)
 
 -- ---- what may not come
 

@@ -9,7 +9,7 @@ ghost use Rattle.line_interpreter.specs.Keeping.{IsKept};
 ghost use Rattle.audit_course.specs.Progressing.{moved_now, fresh};
 ghost use Rattle.audit_course.specs.Here.{StandsAsBefore};
 ghost use Rattle.audit_course.specs.SoFar.{has_moved, StaysSoFar, AreNow, AddsSent, RefusesLine, MayBegin, IsIdle, FindsRight, FindsStill, TellsAlone, HasWorkOf};
-ghost use Rattle.audit_course.specs.Heard.{KeepsPoint, StaysHeard, HearsSent, TellsFound, HearsAlone, HearsNoLine};
+ghost use Rattle.audit_course.specs.Heard.{KeepsPoint, StaysHeard, HearsSent, TellsFound, HearsAlone, HearsLine, HearsNoLine};
 
 use crate::machines::unlocks;
 use crate::valid::ValidState;
@@ -184,6 +184,7 @@ impl CourseJudge {
         ensures heard { IsTrue result → (kept : List ℕ) → IsKept line.now kept → HearsSent self.old self.new (a_text kept ∷ []) }
         ensures alone { IsTrue result → (kept : List ℕ) → IsKept line.now kept → TellsAlone self.old self.new error kept }
         ensures heard_alone { IsTrue result → (kept : List ℕ) → IsKept line.now kept → HearsAlone self.old self.new error kept }
+        ensures hears_line { IsTrue result → (kept : List ℕ) → IsKept line.now kept → HearsLine self.old self.new error kept }
         ensures work { IsTrue result → (kept : List ℕ) → IsKept line.now kept → HasWorkOf self.old self.new true kept }
         ensures short { IsTrue result → (kept : List ℕ) → IsKept line.now kept → length self.new.work.left ≤ 64 }
         ensures number { IsTrue result → self.new.work.number ≡ self.old.work.number + 1 }
