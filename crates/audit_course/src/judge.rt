@@ -195,6 +195,7 @@ impl CourseJudge {
         ensures number { self.new.work.number ≡ self.old.work.number }
         ensures line { SameLine self.old self.new }
         ensures halting { (self.new.line.halts || has_halt self.new.work.left) ≡ (self.old.line.halts || has_halt self.old.work.left) }
+        ensures has_line { self.new.has_line ≡ self.old.has_line }
     {
         self.work.done();
     }

@@ -94,6 +94,7 @@ impl CourseJudge {
         ensures in_hand { self.new.in_hand ≡ self.old.in_hand }
         ensures halts { has_halt self.old.work.left ≡ false → self.new.line.halts ≡ self.old.line.halts }
         ensures halting { (self.new.line.halts || has_halt self.new.work.left) ≡ (self.old.line.halts || has_halt self.old.work.left) }
+        ensures has_line { self.new.has_line ≡ self.old.has_line }
     {
         self.line = counted(self.line, todo);
         self.work.done();
@@ -115,6 +116,7 @@ impl CourseJudge {
         ensures in_hand { self.new.in_hand ≡ self.old.in_hand }
         ensures halts { has_halt self.old.work.left ≡ false → self.new.line.halts ≡ self.old.line.halts }
         ensures halting { (self.new.line.halts || has_halt self.new.work.left) ≡ (self.old.line.halts || has_halt self.old.work.left) }
+        ensures has_line { self.new.has_line ≡ self.old.has_line }
     {
         self.line = counted(self.line, todo);
         self.work.done();
@@ -138,6 +140,7 @@ impl CourseJudge {
         ensures in_hand { self.new.in_hand ≡ self.old.in_hand }
         ensures halts { has_halt self.old.work.left ≡ false → self.new.line.halts ≡ self.old.line.halts }
         ensures halting { (self.new.line.halts || has_halt self.new.work.left) ≡ (self.old.line.halts || has_halt self.old.work.left) }
+        ensures has_line { self.new.has_line ≡ self.old.has_line }
     {
         let planned = self.work.planned_move();
         self.ask(Todo::Move, Item::Move(planned));
@@ -156,6 +159,7 @@ impl CourseJudge {
         ensures in_hand { self.new.in_hand ≡ self.old.in_hand }
         ensures halts { has_halt self.old.work.left ≡ false → self.new.line.halts ≡ self.old.line.halts }
         ensures halting { (self.new.line.halts || has_halt self.new.work.left) ≡ (self.old.line.halts || has_halt self.old.work.left) }
+        ensures has_line { self.new.has_line ≡ self.old.has_line }
     {
         if is_ending(&mark) {
             self.work.done();
@@ -180,6 +184,7 @@ impl CourseJudge {
         ensures in_hand { self.new.in_hand ≡ self.old.in_hand }
         ensures halts { has_halt self.old.work.left ≡ false → self.new.line.halts ≡ self.old.line.halts }
         ensures halting { (self.new.line.halts || has_halt self.new.work.left) ≡ (self.old.line.halts || has_halt self.old.work.left) }
+        ensures has_line { self.new.has_line ≡ self.old.has_line }
     {
         let todo = self.work.todo();
         match todo {
@@ -208,6 +213,7 @@ impl CourseJudge {
         ensures here { result ≡ false → owed_of self.old.part ≢ [] → is_ending given.now ≡ false → IsPlace self.old.place → self.old.events + 1 < 2 ^ 64 → MakesNot self.old given.now }
         ensures work { self.new.work ≡ self.old.work }
         ensures line { SameLine self.old self.new }
+        ensures has_line { self.new.has_line ≡ self.old.has_line }
     {
         let Some(place) = place_behind(&self.place, given) else {
             return false;
