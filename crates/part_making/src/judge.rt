@@ -170,7 +170,7 @@ impl PartJudge {
     }
 
     /// A head comes while events of the last head's move are not out.
-    fn go_on(&mut self, head: &Head) -> bool
+    fn continue_move(&mut self, head: &Head) -> bool
         requires { rest_of self.old.latest ≢ [] }
         ensures yes { IsTrue result → Goes self.old (kinds.Head head.now) self.new }
         ensures no { result ≡ false → Refuses self.old (kinds.Head head.now) }
@@ -178,7 +178,7 @@ impl PartJudge {
         let Some(traced) = &mut self.latest else {
             return false;
         };
-        traced.go_on(head)
+        traced.take_head(head)
     }
 
     /// A head comes, where something is owed.
@@ -188,7 +188,7 @@ impl PartJudge {
         ensures no { result ≡ false → Refuses self.old (kinds.Head head.now) }
     {
         if self.has_rest() {
-            return self.go_on(head);
+            return self.continue_move(head);
         }
         self.begin_move(head)
     }

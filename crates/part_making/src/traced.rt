@@ -112,7 +112,7 @@ impl Traced {
     }
 
     /// A head comes while events of the move are not out: whether it goes on with the move. If so it is taken.
-    pub(crate) fn go_on(&mut self, head: &Head) -> bool
+    pub(crate) fn take_head(&mut self, head: &Head) -> bool
         requires { rest_of (Some self.old) ≢ [] }
         ensures yes { IsTrue result → (next : Option AnyItem) → Goes (record { latest = Some self.old; next = next }) (kinds.Head head.now) (record { latest = Some self.new; next = next }) }
         ensures no { result ≡ false → (next : Option AnyItem) → Refuses (record { latest = Some self.old; next = next }) (kinds.Head head.now) }

@@ -19,7 +19,7 @@ use Rattle.code_table.specs.Tables.{query}
 use Rattle.host_journal.specs.declared.asking.Asking.{Asking}
 use Rattle.host_journal.specs.declared.asking.Asking.TheVariants.{Nothing}
 use Rattle.stream_host.specs.Conduct.{Conducted, AreAnswered, waits_for_lines, MayScanNext, MayMark, MayRaise, MayShut, HasSentAll, HasNoMore}
-use Rattle.stream_host.specs.Hosts.{HostFits, HasLine, KeepsLine, KeepsDue, KeepsPolls, KeepsJob, KeepsCounts, is_over, line_length, lengths, IsSummed, unread, KeepsResets, awaits_by, HasRoom, MayScanOn, MayReadOn, IsPiece}
+use Rattle.stream_host.specs.Hosts.{HostFits, HasLine, KeepsLine, KeepsDue, KeepsPolls, KeepsJob, KeepsCounts, is_too_long, line_length, lengths, IsSummed, unread, KeepsResets, awaits_by, HasRoom, MayScanOn, MayReadOn, IsPiece}
 use Rattle.stream_host.specs.declared.resets.Resets.{Resets}
 use Rattle.stream_host.specs.declared.counts.Counts.{Counts}
 use Rattle.status_report.specs.declared.Reply.{Reply}
@@ -46,7 +46,7 @@ alarm_now {room} s h f alarm = sym f.alarm_is ∙ alarm
 -- ---- the line in hand
 
 -- a line that is being scanned ends the sending where it is long
-pub ends_is : {room : ℕ} (s : Host) (h : Journal) → HostFits room s h → s.line.whole ≡ false → ends_sending (raw_of h) ≡ is_over s.line
+pub ends_is : {room : ℕ} (s : Host) (h : Journal) → HostFits room s h → s.line.whole ≡ false → ends_sending (raw_of h) ≡ is_too_long s.line
 ends_is {room} s h f e = sym (f.line_is.scanning e).0.long
 
 -- whichever it is
@@ -65,13 +65,13 @@ short_by raw short = let f = few_bytes raw short in by_test (length (sent_text r
     by_test n few = grind (arith, nat_tests)
 
 -- a line is over
-pub finished : (l m : SentLine) (raw : List ℕ) → HasLine l raw → is_over l ≡ false → m.kept.items ≡ l.kept.items → is_over m ≡ is_over l → m.whole ≡ true → m.place ≡ 0
+pub finished : (l m : SentLine) (raw : List ℕ) → HasLine l raw → is_too_long l ≡ false → m.kept.items ≡ l.kept.items → is_too_long m ≡ is_too_long l → m.whole ≡ true → m.place ≡ 0
     → KeepsLine m [] (sent_text raw ++ 10 ∷ [])
-finished l m raw has sends kept over whole place = record {
+finished l m raw has sends kept same whole place = record {
   scanning = λ e. absurd (let f = sym whole ∙ e in cc);
   storing = λ e. record {
     none = refl;
-    sends = over ∙ sends;
+    sends = same ∙ sends;
     within = omega arith;
     left_is = ap (λ (k : List ℕ). k ++ 10 ∷ []) (sym (kept ∙ all_kept)) ∙ ap (λ n. drop n (m.kept.items ++ 10 ∷ [])) (sym place);
   };
@@ -80,11 +80,11 @@ finished l m raw has sends kept over whole place = record {
     all_kept : l.kept.items ≡ sent_text raw
     all_kept = kept_whole 127 l.kept.items (sent_text raw) has.kept (short_by raw (sym has.long ∙ sends))
 
-pub size_is : (l : SentLine) (raw : List ℕ) (n : ℕ) → HasLine l raw → is_over l ≡ false → n ≡ length l.kept.items + 1 → n ≡ line_length raw
+pub size_is : (l : SentLine) (raw : List ℕ) (n : ℕ) → HasLine l raw → is_too_long l ≡ false → n ≡ length l.kept.items + 1 → n ≡ line_length raw
 size_is l raw n has sends size = size ∙ ap (λ (k : List ℕ). length k + 1) (kept_whole 127 l.kept.items (sent_text raw) has.kept (short_by raw (sym has.long ∙ sends)))
 
 -- what is kept of it asks for a pause or not
-pub pauses_is : (l : SentLine) (raw : List ℕ) (p : Bool) → HasLine l raw → is_over l ≡ false → p ≡ has_pause l.kept.items → p ≡ pauses raw
+pub pauses_is : (l : SentLine) (raw : List ℕ) (p : Bool) → HasLine l raw → is_too_long l ≡ false → p ≡ has_pause l.kept.items → p ≡ pauses raw
 pauses_is l raw p has sends is = is ∙ ap has_pause (kept_whole 127 l.kept.items (sent_text raw) has.kept (short_by raw (sym has.long ∙ sends)))
 
 -- ---- the counts
@@ -529,7 +529,7 @@ none_left_large room h c at none =
     let l = ap length (read_is room h c) in let m = length-append (scanned_of h) (unscanned_of h) in let n = ap length none in let k = few_scanned room h c in
     absurd (omega arith)
 
-no_more_by : {room : ℕ} (s : Host) (h : Journal) → HostFits room s h → (MayScanOn s → ⊥) → (MayReadOn s → ⊥) → s.line.whole ≡ false → is_over s.line ≡ false → s.line.due ≡ None
+no_more_by : {room : ℕ} (s : Host) (h : Journal) → HostFits room s h → (MayScanOn s → ⊥) → (MayReadOn s → ⊥) → s.line.whole ≡ false → is_too_long s.line ≡ false → s.line.due ≡ None
     → (r : Reading) → reading_of h ≡ r → (left : List ℕ) → unscanned_of h ≡ left → HasNoMore r (unscanned_of h) (raw_of h) (length (scanned_of h))
 no_more_by {room} s h f no_scan no_read whole long none Ended at left is = f.over at
 no_more_by {room} s h f no_scan no_read whole long none Failed at [] is = is
@@ -549,11 +549,11 @@ no_more_by {room} s h f no_scan no_read whole long none r at (b ∷ left) is = o
 
 -- all is sent where nothing may be scanned or read
 pub has_sent : {room : ℕ} (s : Host) (h : Journal) → HostFits room s h → s.line.whole ≡ false → s.line.due ≡ None → (MayScanOn s → ⊥) → (MayReadOn s → ⊥) → HasSentAll h
-has_sent {room} s h f whole none no_scan no_read = record { free = (f.line_is.scanning whole).1; all = by_over (is_over s.line) refl }
+has_sent {room} s h f whole none no_scan no_read = record { free = (f.line_is.scanning whole).1; all = by_length (is_too_long s.line) refl }
   where
-    by_over : (t : Bool) → is_over s.line ≡ t → (ends_sending (raw_of h) ≡ true) ⊎ HasNoMore (reading_of h) (unscanned_of h) (raw_of h) (length (scanned_of h))
-    by_over true e = inl (ends_is s h f whole ∙ e)
-    by_over false e = inr (no_more_by s h f no_scan no_read whole e none (reading_of h) refl (unscanned_of h) refl)
+    by_length : (t : Bool) → is_too_long s.line ≡ t → (ends_sending (raw_of h) ≡ true) ⊎ HasNoMore (reading_of h) (unscanned_of h) (raw_of h) (length (scanned_of h))
+    by_length true e = inl (ends_is s h f whole ∙ e)
+    by_length false e = inr (no_more_by s h f no_scan no_read whole e none (reading_of h) refl (unscanned_of h) refl)
 
 pub may_shut : {room : ℕ} (s : Host) (h : Journal) → HostFits room s h → s.line.whole ≡ false → s.shut ≡ false → awaits_by s.resets ≡ false → s.line.due ≡ None → (MayScanOn s → ⊥) → (MayReadOn s → ⊥) → MayShut h
 may_shut {room} s h f whole going epoch none no_scan no_read =

@@ -84,9 +84,9 @@ pub record HasLine (l : SentLine) (raw : List ℕ) : Type 0 where
   pub long : l.long ≡ is_long raw
   pub begun : l.begun ≡ nat_lt 0 (length raw)
 
--- the sending ends in it
-abbrev pub is_over : SentLine → Bool
-is_over l = l.long
+-- it is too long, so that the sending ends in it
+abbrev pub is_too_long : SentLine → Bool
+is_too_long l = l.long
 
 -- ---- the lines that have no answer
 
@@ -109,7 +109,7 @@ pub record KeepsJob (r : Reader) (left : List ℕ) (reading : Reading) (n : ℕ)
 -- a whole line that is being stored: from a place on it is left
 pub record IsStoring (l : SentLine) (raw left : List ℕ) : Type 0 where
   pub none : raw ≡ []
-  pub sends : is_over l ≡ false
+  pub sends : is_too_long l ≡ false
   pub within : l.place ≤ length l.kept.items
   pub left_is : left ≡ drop l.place (l.kept.items ++ 10 ∷ [])
 
@@ -264,7 +264,7 @@ pub record HasRoom (c : Counts) : Type 0 where
 -- the next byte may be scanned
 pub record MayScanOn (host : Host) : Type 0 where
   pub scanning : host.line.whole ≡ false
-  pub sends : is_over host.line ≡ false
+  pub sends : is_too_long host.line ≡ false
   pub none_due : host.line.due ≡ None
   pub some : host.job.place < host.job.end
   pub few : host.job.scanned < largest_job
@@ -272,7 +272,7 @@ pub record MayScanOn (host : Host) : Type 0 where
 -- the piece and the line let the job be read on
 pub record MayReadOn (host : Host) : Type 0 where
   pub scanning : host.line.whole ≡ false
-  pub sends : is_over host.line ≡ false
+  pub sends : is_too_long host.line ≡ false
   pub none_due : host.line.due ≡ None
   pub used : host.job.end ≤ host.job.place
   pub on : host.job.reading ≡ Stopped

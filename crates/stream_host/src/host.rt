@@ -13,7 +13,7 @@ ghost use Rattle.host_journal.specs.Steps.Step.{at_port, scanned, turned};
 ghost use Rattle.status_report.specs.Answering.{answers_in, is_bye};
 ghost use Rattle.host_journal.specs.Jobs.{is_reset, sent_text};
 ghost use Rattle.stream_host.specs.Conduct.{AreAnswered, waits_for_lines, IsSettled, MayShut};
-ghost use Rattle.stream_host.specs.Hosts.{HostFits, HostWorked, HostTurned, HostTellsOn, HasPolled, IsBetween, DidAlone, MayScanOn, MayReadOn, HasRoom, HasShown, HostRests, HasLine, IsSummed, lengths, with_banner, begins_by, awaits_by, KeepsLine, KeepsCounts, is_over, unread, shown};
+ghost use Rattle.stream_host.specs.Hosts.{HostFits, HostWorked, HostTurned, HostTellsOn, HasPolled, IsBetween, DidAlone, MayScanOn, MayReadOn, HasRoom, HasShown, HostRests, HasLine, IsSummed, lengths, with_banner, begins_by, awaits_by, KeepsLine, KeepsCounts, is_too_long, unread, shown};
 ghost use Rattle.outside.specs.Causes.{SourceState, SinkState};
 
 use crate::counts::Counts;
@@ -173,7 +173,7 @@ impl Host {
         ensures may_not { result ≡ false → MayScanOn self.now → ⊥ }
     {
         !self.line.whole
-            && !self.line.is_over()
+            && !self.line.is_too_long()
             && self.line.due.is_none()
             && self.job.place < self.job.end
             && self.job.scanned < LARGEST_JOB
@@ -339,7 +339,7 @@ impl Host {
     {
         self.line.due.is_none()
             && !self.line.whole
-            && !self.line.is_over()
+            && !self.line.is_too_long()
             && self.job.end <= self.job.place
             && matches!(self.job.reading, Reading::Stopped)
     }
@@ -544,7 +544,7 @@ fn is_alarmed_after(reply: &Reply, alarm: bool) -> bool
 /// The line in hand is over, and is to be stored.
 fn finish_line(line: &mut SentLine, counts: &mut Counts)
     requires room { HasRoom counts.old }
-    requires sends { is_over line.old ≡ false }
+    requires sends { is_too_long line.old ≡ false }
     ensures line { (raw : List ℕ) → HasLine line.old raw → KeepsLine line.new [] (sent_text raw ++ 10 ∷ []) }
     ensures counts { (raw : List ℕ) (live : List (List ℕ)) (got : List Reply) → HasLine line.old raw → KeepsCounts counts.old live got → answers_in got ≤ length live
         → KeepsCounts counts.new (live ++ raw ∷ []) got }

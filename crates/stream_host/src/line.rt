@@ -5,7 +5,7 @@ ghost use Rattle.std.specs.List.{list_any};
 ghost use Rattle.gcode_words.specs.Stripping.{taken_by};
 ghost use Rattle.host_journal.specs.Jobs.{is_reset};
 ghost use Rattle.host_journal.specs.Steps.{more_served};
-ghost use Rattle.stream_host.specs.Hosts.{HasLine, KeepsDue, is_over};
+ghost use Rattle.stream_host.specs.Hosts.{HasLine, KeepsDue, is_too_long};
 
 use arrayvec::ArrayVec;
 use gcode_words::realtime_bytes::RESET;
@@ -73,9 +73,9 @@ impl SentLine {
         self.whole = false;
     }
 
-    /// Whether the sending ends in it: it is too long.
-    pub(crate) fn is_over(&self) -> bool
-        ensures { result ≡ is_over self.now }
+    /// Whether it is too long, so that the sending ends in it.
+    pub(crate) fn is_too_long(&self) -> bool
+        ensures { result ≡ is_too_long self.now }
     {
         self.long
     }
@@ -120,7 +120,7 @@ impl SentLine {
     pub(crate) fn finish(&mut self) -> u8
         ensures length { result ≡ length self.old.kept.items + 1 }
         ensures kept { self.new.kept.items ≡ self.old.kept.items }
-        ensures over { is_over self.new ≡ is_over self.old }
+        ensures long { is_too_long self.new ≡ is_too_long self.old }
         ensures due { self.new.due ≡ self.old.due }
         ensures whole { self.new.whole ≡ true }
         ensures place { self.new.place ≡ 0 }

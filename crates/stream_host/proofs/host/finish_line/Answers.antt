@@ -4,7 +4,7 @@ use Rattle.stream_host.proofs.Hosting.{finished, size_is, pauses_is, counted_lin
 use Rattle.stream_host.proofs.host.finish_line.Goals as goal
 
 pub returns-clause-line : goal.returns-clause-line
-returns-clause-line c = λ raw has. let f = c.finish-size.ensures in finished c.args.line.now _ raw has c.requires.sends f.kept f.over f.whole f.place
+returns-clause-line c = λ raw has. let f = c.finish-size.ensures in finished c.args.line.now _ raw has c.requires.sends f.kept f.long f.whole f.place
 
 pub returns-clause-counts : goal.returns-clause-counts
 returns-clause-counts c = λ raw cuts got has keeps few.

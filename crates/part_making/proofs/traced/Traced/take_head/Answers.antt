@@ -5,7 +5,7 @@ use Rattle.legal_heads.specs.declared.Told.TheVariants as told_as
 use Rattle.step_line.specs.declared.Record.TheVariants as kinds
 use Rattle.part_making.specs.Judging.{Traced, Goes, head_on}
 use Rattle.part_making.proofs.Going.{head_goes_on}
-use Rattle.part_making.proofs.traced.Traced.go_on.Goals as goal
+use Rattle.part_making.proofs.traced.Traced.take_head.Goals as goal
 
 pub returns-clause-yes : goal.returns-clause-yes
 returns-clause-yes c = λ e next.
