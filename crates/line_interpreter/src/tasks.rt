@@ -29,16 +29,13 @@ ghost use Rattle.line_interpreter.specs.Lefts.{IsTodo, IsNextOf, IsSound, part_l
 use crate::greetings::{greeting_count, greeting_told};
 use gcode_check::{Item, Items};
 use modal_state::{Modal, Offsets, Parser, SpindleMode};
-use run_rules::{State, spindle_mark};
+use run_rules::{SOFT_LIMIT, State, spindle_mark};
 use settings::Settings;
 use status_report::{
     Message, Modes, OFFSET_REPLIES, Reply, SETTING_REPLIES, offset_reply, setting_reply,
 };
 use step_line::{Mark, PlannedMove};
 use units::{Move, Rate};
-
-/// The number of the alarm that a soft limit raises.
-const SOFT_LIMIT: u8 = 2;
 
 /// What there is to do next.
 #[derive(Clone, Copy, PartialEq, Eq)]

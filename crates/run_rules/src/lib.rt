@@ -21,6 +21,9 @@ use modal_state::{Parser, SpindleMode};
 use settings::Settings;
 use step_line::{Mark, SpindleCode};
 
+/// The number of the alarm that a soft limit raises.
+pub const SOFT_LIMIT: u8 = 2;
+
 /// What the lines answered so far leave for the next.
 #[derive(Clone, Copy, Debug, PartialEq, Eq)]
 pub struct State {

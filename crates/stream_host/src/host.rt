@@ -27,12 +27,10 @@ use host_journal::{
     Asking, HostPort, Reading, has_pause, is_held_after, pause_after, resumed_after,
 };
 use outside::{On, Sink, Source, Turn};
+use run_rules::SOFT_LIMIT;
 use serial_ring::Stored;
 use status_report::Reply;
 use text_writer::TextWriter;
-
-/// The number of the alarm that ends the run: a line is beyond the limits.
-const SOFT_LIMIT: u8 = 2;
 
 /// Whether a realtime byte is raised only once each line before its own is answered: a `?` is, and the cancel of a jog.
 fn waits_for_lines(byte: u8) -> bool
