@@ -28,7 +28,7 @@ impl Order {
         ensures state { self.new.state ≡ state_after self.old.state }
         ensures chosen { number_of result ≡ self.new.state / 2 ^ 62 }
     {
-        self.go_on();
+        self.advance();
         match self.state >> 62 {
             0 => Actor::Host,
             1 => Actor::Board,
@@ -37,9 +37,9 @@ impl Order {
         }
     }
 
-    /// One step of the generator.
+    /// The generator makes one step.
     #[inline]
-    fn go_on(&mut self)
+    fn advance(&mut self)
         ensures { self.new.state ≡ state_after self.old.state }
     {
         self.state = self.state.wrapping_mul(MULTIPLIER).wrapping_add(INCREMENT);
@@ -53,7 +53,7 @@ impl Order {
     {
         let mut count = 0;
         for _ in 0..AT_ONCE {
-            self.go_on();
+            self.advance();
             numbers[count] = self.state;
             count += usize::from(self.state >> 62 < 2);
         }

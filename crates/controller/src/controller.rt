@@ -60,7 +60,7 @@ impl<const N: usize> Controller<N> {
         ensures few { (state : State) (e : Epochs) → BoardFits self.old e → number_in state self.old e < 64 }
     {
         match &self.reset {
-            None => self.go_on(port),
+            None => self.turn_epoch(port),
             Some(_) => self.work_on(port),
         }
     }

@@ -56,7 +56,7 @@ impl<const N: usize> Controller<N> {
 
     /// Takes a turn of the open epoch. Behind it a reset is worked as soon as it may be.
     #[inline(always)]
-    pub(crate) fn go_on<P: BoardPort>(&mut self, port: &mut P) -> Turn
+    pub(crate) fn turn_epoch<P: BoardPort>(&mut self, port: &mut P) -> Turn
         requires { (rest : P.Rest) × (state : State) × (es : NewestFirst Closed) × (h : Journal) × P.stands port.old rest (log_of (goes es h)) × GoesFits state self.old es h × GoingBetween h }
         ensures goes_on { (rest : P.Rest) (state : State) (es : NewestFirst Closed) (h : Journal) → P.stands port.old rest (log_of (goes es h)) → GoesFits state self.old es h → GoingBetween h
             → GoesOn (P.stands port.new rest) result state self.old self.new (goes es h) }
@@ -100,7 +100,7 @@ impl<const N: usize> Controller<N> {
             unreachable!();
         };
         let turn = work.turn(port);
-        if work.is_over() {
+        if work.is_worked() {
             self.begin_epoch(&work);
         } else {
             self.reset = Some(work);

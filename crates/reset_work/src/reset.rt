@@ -85,7 +85,7 @@ impl ResetWork {
     }
 
     /// Whether the reset is worked whole, so that the next epoch begins.
-    pub fn is_over(&self) -> bool
+    pub fn is_worked(&self) -> bool
         ensures { (number : ℕ) (before : BoardLog) (w : Work) → IsWorking self.now number before w → this_turn w ≡ [] → (result ≡ true) ↔ IsWorked before w }
     {
         matches!(self.stage, Stage::Over)

@@ -121,7 +121,7 @@ fn answers(work: &mut ResetWork, tape: &mut Tape, want: Turn) -> bool
     requires { IsWorkedOn tape.old.left tape.old.ticks tape.old.done work.old }
     ensures { IsWorkedOn tape.new.left tape.new.ticks tape.new.done work.new }
 {
-    if work.is_over() {
+    if work.is_worked() {
         return false;
     }
     work.turn(tape) == want
@@ -159,7 +159,7 @@ fn a_reset_is_worked_turn_by_turn(rt: HostRuntime) {
     for &turn in TURNS {
         assert!(rt; answers(&mut work, &mut tape, turn));
     }
-    assert!(rt; work.is_over());
+    assert!(rt; work.is_worked());
     assert_eq!(rt; work.number(), 0);
     assert_eq!(rt; work.mark(), 1);
     assert_eq!(rt; work.taken(), 3);

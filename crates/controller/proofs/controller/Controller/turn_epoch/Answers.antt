@@ -3,7 +3,7 @@ use Rattle.board_epochs.specs.Epochs.{opening_behind}
 use Rattle.reset_work.specs.Counting.{IsCounted}
 use Rattle.controller.specs.declared.controller.Controller.{Controller}
 use Rattle.controller.proofs.Going.{still_goes, reset_begins}
-use Rattle.controller.proofs.controller.Controller.go_on.Goals as goal
+use Rattle.controller.proofs.controller.Controller.turn_epoch.Goals as goal
 
 pub begin_reset-requires : goal.begin_reset-requires
 begin_reset-requires g c =
