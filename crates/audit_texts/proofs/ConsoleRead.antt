@@ -189,9 +189,6 @@ read_front l s text told c = (replies_text (replies.Banner ∷ c.behind), c.read
 pub becomes_known : (old now : Listening) (reply : Reply) → old.known ≡ None → is_report reply ≡ false → is_looked_for reply ≡ true → TakesReply old.reader now.reader reply → BecomesKnown old now (Some reply)
 becomes_known old now reply known plain early taken = λ s text told c. reply_taken old (record now { known = Some reply }) s text told told reply known plain taken refl early c
 
-pub stays_unknown : (l : Listening) → l.known ≡ None → BecomesKnown l l None
-stays_unknown l known = λ s text told c. record { behind = c.behind; read = c.read; each = c.each; are = c.are ∙ ap (λ (o : Option Reply). told ++ known_of o) known; early = tt }
-
 -- the reply that is known is this one, or another
 pub known_heard : (l : Listening) (s : SourceState) (text : List ℕ) (told : List Reply) (k reply : Reply) (b : Bool) → l.known ≡ Some k → (b ≡ true → k ≡ reply) → ConsoleSoFar l s text told
     → Hears b (record l { known = None }) s text (told ++ reply ∷ [])

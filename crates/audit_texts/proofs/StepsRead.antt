@@ -146,25 +146,6 @@ none_kept old now s t text told is next count starts c = record {
 one_less : (n : ℕ) (r : Record) → (n - 1 ≡ 0 → ⊥) → replicate (n - 1) r ≡ r ∷ replicate (n - 1 - 1) r
 one_less n r some = let e : n - 1 ≡ suc (n - 1 - 1) = omega (arith, some) in ap (λ (k : ℕ). replicate k r) e
 
-pub last_told : (c : Recorded) (s : SourceState) (text : List ℕ) (told : List Record) (r : Record) (n : ℕ) → c.next ≡ Some r → c.count - 1 ≡ 0 → StepsSoFar c s text told
-    → StepsSoFar (record c { next = None; count = n }) s text (told ++ r ∷ [])
-last_told c s text told r n next none h = record {
-  lines = h.lines;
-  rest = h.rest;
-  body = h.body;
-  follows = h.follows;
-  are = h.are;
-  form = h.form;
-  last = h.last;
-  place = h.place;
-  told_are =
-      append-nil (told ++ r ∷ [])
-      ∙ ap (λ (k : ℕ). told ++ r ∷ replicate k r) (sym none)
-      ∙ ap (λ (o : Option Record). told ++ records_left o c.count) (sym next)
-      ∙ h.told_are;
-  line = λ x e. absurd (let f : None ≡ Some x = e in cc);
-}
-
 pub one_told : (c : Recorded) (s : SourceState) (text : List ℕ) (told : List Record) (r : Record) → c.next ≡ Some r → (c.count - 1 ≡ 0 → ⊥) → StepsSoFar c s text told
     → StepsSoFar (record c { count = c.count - 1 }) s text (told ++ r ∷ [])
 one_told c s text told r next some h = record {
