@@ -226,8 +226,8 @@ abbrev pub halts_next : List Task → Bool
 halts_next (halt ∷ tasks) = true
 halts_next _ = false
 
--- What is next does not go on while the machine is held, or slows down for that: a line that was taken whole is not
--- begun, a move has no room in a full plan, and the motion is waited for.
+-- A machine that is held, or slows down for that, keeps these from going on: a line that was taken whole is not begun, a move
+-- has no room in a full plan, and the motion is waited for.
 abbrev pub needs_motion : List Task → (whole full : Bool) → Bool
 needs_motion [] whole full = whole
 needs_motion (ask (a_move m) ∷ tasks) whole full = full
@@ -295,7 +295,7 @@ has_jog_to_start first h = waits_to_jog (motion_of first h) (has_jogged h) (has_
 abbrev pub is_due : Opening → Journal → Bool
 is_due first h = has_segment (motion_of first h) (plan_of h)
 
--- what is next does not go on while the machine is held, or slows down for that
+-- a machine that is held, or slows down for that, keeps what is next from going on
 abbrev pub is_held_up : Opening → Journal → Bool
 is_held_up first h = needs_motion (left_of first h) (whole_of h) (is_full first.blocks (plan_of h))
 
