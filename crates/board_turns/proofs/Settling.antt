@@ -32,7 +32,7 @@ use Rattle.board_turns.specs.declared.board.Board.{Board}
 use Rattle.board_machine.specs.declared.machine.Machine.{Machine}
 use Rattle.board_turns.specs.Boards.{Keeps, NoneWaits, changes_left}
 use Rattle.board_turns.specs.Turning.{NoneFits, StaysSo, IsCutNow, IsUncut, IsFoundStopped, ComesOf, HasSettled, replanned}
-use Rattle.board_turns.specs.Turning.ComesOf.{is_held, is_cut, is_locked, is_over}
+use Rattle.board_turns.specs.Turning.ComesOf.{is_held, is_cut, is_locked, is_idle}
 use Rattle.board_rules.proofs.Uncut.{none_asked, cut_off}
 use Rattle.board_turns.proofs.Steps.{hand_empty, other_flight}
 use Rattle.board_turns.proofs.PortSteps.{looked}
@@ -231,27 +231,27 @@ pub came_of : (first : Opening) (h next : Journal) (done : ℕ) → Conducted fi
 came_of first h next done c slowed (is_held slows is) = subst (CameOf first h) (sym is) (came_held first h done slows)
 came_of first h next done c slowed (is_locked slows is) = subst (CameOf first h) (sym is) (came_locked first h done slows)
 came_of first h next done c slowed (is_cut uncut k is) = subst (CameOf first h) (sym is) (came_cut first h done k (record { cancelled = uncut.cancelled; uncut = uncut.uncut }) slowed.empty)
-came_of first h next done c slowed (is_over cancelled was is) = subst (CameOf first h) (sym is) (came_over first h done c cancelled was)
+came_of first h next done c slowed (is_idle cancelled was is) = subst (CameOf first h) (sym is) (came_over first h done c cancelled was)
 
 -- the port has seen the look alone
 pub port_came : (first : Opening) (h next : Journal) → ComesOf first h next → port_log next ≡ port_log h
 port_came first h next (is_held slows is) = ap port_log is
 port_came first h next (is_locked slows is) = ap port_log is
 port_came first h next (is_cut uncut k is) = ap port_log is
-port_came first h next (is_over cancelled was is) = ap port_log is
+port_came first h next (is_idle cancelled was is) = ap port_log is
 
 -- and nothing was published, nor found done since
 pub published_came : (first : Opening) (h next : Journal) → ComesOf first h next → published_of next ≡ published_of h
 published_came first h next (is_held slows is) = ap published_of is
 published_came first h next (is_locked slows is) = ap published_of is
 published_came first h next (is_cut uncut k is) = ap published_of is
-published_came first h next (is_over cancelled was is) = ap published_of is
+published_came first h next (is_idle cancelled was is) = ap published_of is
 
 pub known_came : (first : Opening) (h next : Journal) → ComesOf first h next → known_of next ≡ known_of h
 known_came first h next (is_held slows is) = ap known_of is
 known_came first h next (is_locked slows is) = ap known_of is
 known_came first h next (is_cut uncut k is) = ap known_of is
-known_came first h next (is_over cancelled was is) = ap known_of is
+known_came first h next (is_idle cancelled was is) = ap known_of is
 
 -- ---- a word of changes of overrides
 

@@ -38,7 +38,7 @@ use Rattle.board_machine.specs.declared.machine.Machine.{Machine}
 use Rattle.board_machine.specs.Machines.{Runs}
 use Rattle.board_turns.specs.Boards.{Keeps}
 use Rattle.board_turns.specs.Turning.{IsFoundStopped, IsUncut, ComesOf}
-use Rattle.board_turns.specs.Turning.ComesOf.{is_held, is_cut, is_locked, is_over}
+use Rattle.board_turns.specs.Turning.ComesOf.{is_held, is_cut, is_locked, is_idle}
 use Rattle.board_turns.proofs.Known.{calm_now}
 use Rattle.board_rules.specs.Turns.{is_limited, is_locked as is_locked_now}
 use Rattle.board_rules.proofs.Alarms.{limited_alarmed}
@@ -309,7 +309,7 @@ comes_locked first c m h k found slows runs = (became on_stopped motions.Alarm �
 
 pub comes_over : {N : ℕ} (first : Opening) (c : Board N) (m : Machine N) (h : Journal) → Keeps first c h → IsFoundStopped first c.flight h → motion_of first h ≡ motions.Cancelling → c.cut ≡ true → Runs m (plan_of h) motions.Idle (hand_of h) (given_of h) → Comes first (record c { machine = m; cut = false }) h
 comes_over first c m h k found cancelled was runs =
-    let e = sym k.cut_is ∙ was in (became on_stopped motions.Idle ∷ h, cancel_over first c m h k cancelled e found runs, is_over cancelled e refl)
+    let e = sym k.cut_is ∙ was in (became on_stopped motions.Idle ∷ h, cancel_over first c m h k cancelled e found runs, is_idle cancelled e refl)
 
 pub is_uncut : {N : ℕ} (first : Opening) (c : Board N) (h : Journal) → Keeps first c h → motion_of first h ≡ motions.Cancelling → c.cut ≡ false → IsUncut first h
 is_uncut first c h k cancelled none = record { cancelled = cancelled; uncut = sym k.cut_is ∙ none }

@@ -291,7 +291,7 @@ pub data ComesOf (first : Opening) (h next : Journal) : Type 0 where
   is_held : motion_of first h ≡ Holding → next ≡ became on_stopped Held ∷ h → ComesOf first h next
   is_cut : IsUncut first h → (k : ℕ) → next ≡ cut k ∷ h → ComesOf first h next
   is_locked : motion_of first h ≡ Stopping → next ≡ became on_stopped Alarm ∷ h → ComesOf first h next
-  is_over : motion_of first h ≡ Cancelling → has_cut h ≡ true → next ≡ became on_stopped Idle ∷ h → ComesOf first h next
+  is_idle : motion_of first h ≡ Cancelling → has_cut h ≡ true → next ≡ became on_stopped Idle ∷ h → ComesOf first h next
 
 -- the tasks that are left, the hand and the plan are as they were
 pub record StaysSo (first : Opening) (h next : Journal) : Type 0 where

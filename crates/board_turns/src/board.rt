@@ -144,7 +144,7 @@ impl<const N: usize> Board<N> {
         ensures done { (result ≡ Done) ↔ BoardIsOver self.old }
         ensures still { BoardIsOver self.old → (self.new ≡ self.old) × (port.new ≡ port.old) }
     {
-        if self.is_over() {
+        if self.is_closed() {
             return Turn::Done;
         }
         let Flags::None = self.flags else {
@@ -158,7 +158,7 @@ impl<const N: usize> Board<N> {
 
     /// Whether the run is closed, and nothing is left to do.
     #[inline]
-    fn is_over(&self) -> bool
+    fn is_closed(&self) -> bool
         ensures { (result ≡ true) ↔ BoardIsOver self.now }
     {
         self.closing && self.lines.is_done()
@@ -249,7 +249,7 @@ impl<const N: usize> Board<N> {
         self.finish_task(port)
     }
 
-    /// Whether what is next does not go on while the machine is held, or slows down for that.
+    /// Whether a machine that is held, or slows down for that, keeps what is next from going on.
     #[inline]
     fn is_held_up(&self) -> bool
         ensures { result ≡ needs_motion self.now.lines.left self.now.input.whole (is_full (N - 1) self.now.machine.plan) }

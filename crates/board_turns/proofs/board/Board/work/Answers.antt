@@ -17,8 +17,8 @@ open_still s over is none left = by_closing s.closing refl
     by_closing true e = absurd (let x = sym none ∙ is.1 (record { closing = e; none = left }) in cc)
     by_closing false e = e
 
-pub returns-then-is_over-clause-goes_on : goal.returns-then-is_over-clause-goes_on
-returns-then-is_over-clause-goes_on g c = λ rest first h stands f between. (h, stands, over_worked first c.args.self.now h f between (c.is_over.ensures.0 c.if-is_over.true))
+pub returns-then-is_closed-clause-goes_on : goal.returns-then-is_closed-clause-goes_on
+returns-then-is_closed-clause-goes_on g c = λ rest first h stands f between. (h, stands, over_worked first c.args.self.now h f between (c.is_closed.ensures.0 c.if-is_closed.true))
 
 pub obey-requires : goal.obey-requires
 obey-requires g c = (
@@ -55,7 +55,7 @@ serve_lines-requires g c =
       (
         (r.0, first, n.0, n.1, n.2, n.3.ready),
         (
-          subst (λ (b : Board _). b.lines.left ≡ [] → b.closing ≡ false) (sym same) (open_still s c.is_over.result c.is_over.ensures c.if-is_over.false),
+          subst (λ (b : Board _). b.lines.left ≡ [] → b.closing ≡ false) (sym same) (open_still s c.is_closed.result c.is_closed.ensures c.if-is_closed.false),
           (
             c.publish_first.ensures.unpublished c.if-publish_first.false,
             (
