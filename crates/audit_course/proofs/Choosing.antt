@@ -1,6 +1,5 @@
 -- Which outcome a line has, by the first reply that is told of it.
-use Rattle.std.proofs.Common.{◌≡◌, ◌<◌, ℕ, ◌+◌, ◌⊎◌, inl, inr, Bool, true, false, cond, ◌&&◌, List, [], ◌∷◌, ◌++◌, length, nat_eq, nat_lt, refl, sym, ap, ◌∙◌, subst, arith}
-use Rattle.std.proofs.lemmas.Bool.Decides.{nat_tests}
+use Rattle.std.proofs.Common.{◌≡◌, ℕ, ◌+◌, ◌⊎◌, inl, inr, Bool, true, false, cond, ◌&&◌, List, [], ◌∷◌, ◌++◌, length, nat_eq, nat_lt, refl, sym, ap, ◌∙◌, subst, arith}
 use Rattle.flight.specs.Places.{origin}
 use Rattle.status_report.specs.declared.Reply.{Reply}
 use Rattle.status_report.specs.declared.Reply.TheVariants as replies
@@ -101,12 +100,6 @@ stands_alone j error kept free busy locked p knows o u found is r xs ys told fit
 
       still : Becomes false p.before kept u
       still = unless_refused p.before kept u (not_busy error refl fits) (not_locked error refl fits) (other p.locked _ _ unlocked is)
-
--- a line that is too long
-pub long_alone : (j : CourseJudge) (error : MotionError) (kept : List ℕ) → j.locked ≡ false → 79 < length kept → FindsAlone j error Stands kept
-long_alone j error kept free long p knows o u found is r xs ys told fits =
-    let many : nat_lt 79 (length kept) ≡ true = grind (arith, nat_tests, long) in
-    two (nat_lt most_kept (length kept)) _ _ _ _ (λ x y. y ∙ sym x) (λ short x y. absurd (let f : true ≡ false = sym many ∙ short in cc)) found (other p.locked _ _ (knows.locked ∙ free) is)
 
 -- a machine that is locked
 pub locked_alone : (j : CourseJudge) (error : MotionError) (kept : List ℕ) → j.locked ≡ true → FindsAlone j error Locked kept

@@ -25,7 +25,6 @@ use Rattle.run_texts.proofs.Determined.{line_answers}
 use Rattle.run_texts.proofs.Errors.{begun_one, told_one}
 use Rattle.run_texts.proofs.Quiet.{opens, Quiet, line_quiet}
 use Rattle.audit_rules.specs.Consoles.{IsOnConsole, TellsNext, GoesOnWith, GoesOnAnew, is_of_reset}
-use Rattle.audit_rules.specs.Onward.{TellsNext}
 use Rattle.audit_rules.specs.Standing.{MayWait}
 use Rattle.audit_rules.proofs.OneText.{ToldOn, first_byte, one_first, no_bye, one_sign, same_report, report_alone, same_ended, decimal_inside}
 use Rattle.audit_rules.proofs.OneWay.{sign_of, locked_begun, free_becomes}

@@ -193,10 +193,6 @@ step_passed : IsPassed (opening first) (kept_of one_step) step_made
 unfolding cut_within words_within first_word decimal_from front_number digits_say verdict words_refusal refusal_at word_refusal group_of code_in target targets line_refusal new_system_offset new_g92 offsets_after parser_moved parser_after items_of rounded_quotient events_of event_of steps_at count one_step_fits
 step_passed = one_step_fits.follows.0
 
-not_alarmed : behind_step.before.alarmed ≡ false
-unfolding cut_within words_within first_word decimal_from front_number digits_say verdict words_refusal refusal_at word_refusal group_of code_in target targets line_refusal new_system_offset new_g92 offsets_after parser_moved parser_after items_of rounded_quotient events_of event_of steps_at count one_step_fits
-not_alarmed = refl
-
 head_stands : StandsUpTo (sent_in one_step) accepted (records_of head_line) behind_step [] []
 unfolding cut_within words_within first_word decimal_from front_number digits_say verdict words_refusal refusal_at word_refusal group_of code_in target targets line_refusal new_system_offset new_g92 offsets_after parser_moved parser_after items_of rounded_quotient events_of event_of steps_at count one_step_fits reply_text
 head_stands = record {
