@@ -11,10 +11,10 @@ ghost use Rattle.pulse_engine.specs.Logs.{PieceLog};
 ghost use Rattle.list_ports.specs.Joining.{Joined};
 
 use crate::Lists;
+use host_journal::HostPort;
 use realtime_flags::{Flag, Raised, flag_of_byte};
 use serial_ring::Stored;
 use status_report::Reply;
-use stream_host::HostPort;
 
 impl<const RX: usize> HostPort for Lists<RX> {
     /// What the board and the pulse have done.
