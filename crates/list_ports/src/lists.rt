@@ -8,16 +8,12 @@ ghost use Rattle.list_ports.specs.Joining.{Joined, one_if_some};
 use bitflags::Flags;
 use circular_buffer::HeapCircularBuffer;
 use code_table::{Exec, Ovr};
+use motion_ring::PIECE_ROOM;
+use serial_ring::REPLY_ROOM;
 use status_report::Reply;
 use std::alloc::{AllocError, Global};
 use std::marker::Model;
 use step_line::Piece;
-
-/// How many replies may wait.
-const REPLY_ROOM: usize = 16;
-
-/// How many pieces have room.
-const PIECE_ROOM: usize = 6;
 
 /// How many pieces may be unfinished.
 pub(crate) const MOST_UNFINISHED: usize = 5;

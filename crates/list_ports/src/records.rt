@@ -9,14 +9,11 @@ ghost use Rattle.step_record.specs.Taking.Event.{took, none};
 ghost use Rattle.list_ports.specs.Passing.{record_room};
 
 use circular_buffer::HeapCircularBuffer;
-use pulse_engine::TickOut;
+use pulse_engine::{RECORD_ROOM, TickOut};
 use std::alloc::{AllocError, Global};
 use std::marker::Model;
 use step_line::Record;
 use step_record::RecordIn;
-
-/// How many records may wait.
-const RECORD_ROOM: usize = 1024;
 
 /// Records on their way from a pulse to a recorder, at most 1,024. What was put is what was taken and what waits, in
 /// order. All room is taken once, by `new`.

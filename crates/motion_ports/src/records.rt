@@ -5,14 +5,11 @@ ghost use Rattle.rtrb.specs.Ring.{sent, received, producer_capacity, IsPair};
 ghost use Rattle.step_line.specs.declared.Record.{Record};
 
 use outside::OutOfMemory;
-use pulse_engine::TickOut;
+use pulse_engine::{RECORD_ROOM, TickOut};
 use rtrb::{Consumer, Producer, Protocol, RingBuffer};
 use std::alloc::Global;
 use step_line::Record;
 use step_record::RecordIn;
-
-/// How many records may be untaken.
-const RECORD_ROOM: usize = 1024;
 
 /// What is asked of each record that is put, and so known of each that is taken: it has a line.
 #[derive(Clone, Copy)]

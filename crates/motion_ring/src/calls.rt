@@ -32,7 +32,8 @@ const HALTED: usize = 65;
 
 const WORDS: usize = 66;
 
-const SLOTS: usize = 6;
+/// How many pieces have a slot.
+pub const PIECE_ROOM: usize = 6;
 
 /// A ring with no piece in it, and its two ends.
 pub fn motion(alloc: Global) -> Result<(SegOut, SegIn), OutOfMemory>
@@ -40,7 +41,7 @@ pub fn motion(alloc: Global) -> Result<(SegOut, SegIn), OutOfMemory>
     ensures fresh { IfOk result (λ r. (sent_by r.0 ≡ none_sent) × (known_by r.0 ≡ 0) × (done_loads_of r.0 ≡ 0) × (halt_loads_of r.0 ≡ 0)) }
     ensures idle { IfOk result (λ r. (taken_by r.1 ≡ none_taken) × (head_loads_of r.1 ≡ 0) × (stop_loads_of r.1 ≡ 0) × (asked_by r.1 ≡ 0)) }
 {
-    let (table, mut seat): (Ring, Place) = Table::vacant(alloc, &[0; WORDS], SLOTS, &())?;
+    let (table, mut seat): (Ring, Place) = Table::vacant(alloc, &[0; WORDS], PIECE_ROOM, &())?;
     let far = table.shared.split_seat::<Sides>(&mut seat);
     let ring = Arc::new(alloc, table)?;
     let other = Arc::try_clone(&ring)?;
@@ -86,7 +87,7 @@ impl SegOut {
         shared.exchange(&mut self.seat, self.slot, Some(p));
         shared.store::<Publish>(&mut self.seat, HEAD, self.head + 1);
         self.head += 1;
-        self.slot = place_behind(self.slot, SLOTS);
+        self.slot = place_behind(self.slot, PIECE_ROOM);
         self.before = [self.ticks, self.before[0], self.before[1], self.before[2]];
         self.ticks += tick_count(&p) as u64;
         Ok(())
@@ -162,7 +163,7 @@ impl SegIn {
         }
         let piece = shared.exchange(&mut self.seat, self.slot, None).unwrap();
         self.taken += 1;
-        self.slot = place_behind(self.slot, SLOTS);
+        self.slot = place_behind(self.slot, PIECE_ROOM);
         self.left = tick_count(&piece) as u64;
         Some(piece)
     }
@@ -243,7 +244,7 @@ fn drop_pieces(shared: &Common, seat: &mut Place, first: usize, from: u64, stop:
     for piece in from..stop {
         let _ = piece;
         drop_piece(shared, seat, slot);
-        slot = place_behind(slot, SLOTS);
+        slot = place_behind(slot, PIECE_ROOM);
     }
     slot
 }

@@ -17,7 +17,7 @@ mod plays;
 mod tests;
 mod view;
 
-pub use calls::{join_motion, motion};
+pub use calls::{PIECE_ROOM, join_motion, motion};
 pub use ends::{SegIn, SegOut};
 pub use lists::{Halt, Passed, Sent, Taken};
 pub use view::{Motion, MotionSight};

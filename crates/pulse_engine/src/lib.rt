@@ -16,5 +16,5 @@ mod pulse;
 mod tests;
 
 pub use laws::{pieces_in_order, records_in_order};
-pub use ports::{PulsePort, TickOut};
+pub use ports::{PulsePort, RECORD_ROOM, TickOut};
 pub use pulse::Pulse;

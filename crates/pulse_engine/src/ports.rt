@@ -42,6 +42,9 @@ pub trait PulsePort {
         ensures { (rest : Rest) (h : PieceLog) → stands self.old rest h → HasTick h → stands self.new rest (ticked ∷ h) };
 }
 
+/// How many records may be untaken, where a pulse and a recorder run side by side.
+pub const RECORD_ROOM: usize = 1024;
+
 /// Where records go.
 pub trait TickOut {
     /// What this side does not change.

@@ -13,7 +13,7 @@ use std::alloc::Global;
 use std::sync::Arc;
 
 /// How many replies may be untaken.
-pub(crate) const REPLY_ROOM: usize = 16;
+pub const REPLY_ROOM: usize = 16;
 /// The host writes these three words and the cells, the board the two between. Each stands 128 bytes or more from the next, since
 /// what one side looks at each turn must not lie beside what the other writes each turn; and what the host writes stands 256
 /// from what the board writes.

@@ -19,7 +19,7 @@ mod plays;
 mod view;
 
 pub use ends::{BoardEnd, HostEnd};
-pub use joined::{join_link, link};
+pub use joined::{REPLY_ROOM, join_link, link};
 pub use marks::mark_is_read_back;
 pub use view::{ByteIn, Link, LinkSight, LinkStep, Stored};
 
