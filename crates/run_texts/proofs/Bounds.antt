@@ -73,7 +73,7 @@ beyond m from j more begins few =
     ap (λ (k : ℕ). moved_by from (take k (own ++ more))) parted ∙ ap (moved_by from) (take-append-add own more (j - events_of m.mv)) ∙ moved_on from own rest ∙ ap (λ (p : Steps3). moved_by p rest) there
 
 -- the first of these ticks lead to a place
-front_reaches : (asked : List Asked) (from to : Steps3) (j : ℕ) → MovesJoin from (moves_of asked) to → AllInReach asked → IsPlace from → IsPlace (moved_by from (take j (ticks_of_all asked)))
+pub front_reaches : (asked : List Asked) (from to : Steps3) (j : ℕ) → MovesJoin from (moves_of asked) to → AllInReach asked → IsPlace from → IsPlace (moved_by from (take j (ticks_of_all asked)))
 front_reaches [] from to j joins all here = subst (λ (rs : List Record). IsPlace (moved_by from rs)) (sym (taken_none j)) here
 front_reaches (a_rest ∷ asked) from to j joins all here = front_reaches asked from to j joins all.1 here
 front_reaches (a_mark m ∷ asked) from to zero joins all here = here
@@ -111,7 +111,7 @@ few_asks (t ∷ ts) =
     omega (arith, one, more, both)
 
 -- so many ticks has a line at most: 64 tasks, each of a move from one end of what can be reached to the other
-abbrev most_ticks : ℕ
+abbrev pub most_ticks : ℕ
 most_ticks = 12800000000
 
 line_ticks : (runs : Bool) (p : Point) (kept : List ℕ) (o : Outcome) → IsSteady p.before.state → BecomesAt runs p kept o → length (ticks_for o) ≤ most_ticks
@@ -123,14 +123,14 @@ line_ticks runs p kept o steady is =
 
 -- ---- the records of a part
 
-abbrev IsInside : Record → Type 0
+abbrev pub IsInside : Record → Type 0
 IsInside r = is_ending r ≡ false
 
-event_ticks : (bits : List Bits) → ticks_among (map kinds.Event bits) ≡ map kinds.Event bits
+pub event_ticks : (bits : List Bits) → ticks_among (map kinds.Event bits) ≡ map kinds.Event bits
 event_ticks [] = refl
 event_ticks (b ∷ bits) = ap (λ (rs : List Record). kinds.Event b ∷ rs) (event_ticks bits)
 
-events_inside : (bits : List Bits) → AllByRecursion IsInside (map kinds.Event bits)
+pub events_inside : (bits : List Bits) → AllByRecursion IsInside (map kinds.Event bits)
 events_inside [] = tt
 events_inside (b ∷ bits) = (refl, events_inside bits)
 
@@ -139,7 +139,7 @@ all_behind [] ys all = all
 all_behind (x ∷ xs) ys all = all_behind xs ys all.1
 
 -- a head has an event at least, so records are at most twice as many as their ticks
-twice : (told : List Told) → AllByRecursion IsToldRight told → AllByRecursion IsInside (flat_map told_records told) → length (flat_map told_records told) ≤ 2 * length (ticks_among (flat_map told_records told))
+pub twice : (told : List Told) → AllByRecursion IsToldRight told → AllByRecursion IsInside (flat_map told_records told) → length (flat_map told_records told) ≤ 2 * length (ticks_among (flat_map told_records told))
 twice [] right inside = omega arith
 twice (told_as.End ∷ told) right inside = absurd cc
 twice (told_as.Mark m ∷ told) right inside = let more = twice told right.1 inside.1 in omega (arith, more)
@@ -179,7 +179,7 @@ part_places place to p mine front behind is joins reach here e =
 -- ---- the records of parts
 
 -- wherever the first of these records lead is a place, and there are so many at most
-record IsBounded (place : Steps3) (records : List Record) (most : ℕ) : Type 0 where
+pub record IsBounded (place : Steps3) (records : List Record) (most : ℕ) : Type 0 where
   pub places : (front behind : List Record) → records ≡ front ++ behind → IsPlace (moved_by place front)
   pub few : length records ≤ most
 
@@ -214,10 +214,10 @@ module _ (place to : Steps3) (p : Part) (mine : List Record) (lines : List Outco
   in_part front behind e =
       part_places place to p mine front behind is (subst (λ (os : List Outcome). MovesJoin place (moves_for os) to) (sym counted) joins) (subst (λ (os : List Outcome). AllInReach (asked_in os)) (sym counted) reach) here e
 
-  part_ends : IsPlace (moved_by place mine)
+  pub part_ends : IsPlace (moved_by place mine)
   part_ends = in_part mine [] (sym (append-nil mine))
 
-  part_bounded : (rest : List Record) (most : ℕ) → IsBounded (moved_by place mine) rest most → IsBounded place (mine ++ ending_record p.ending ∷ rest) (2 * length (ticks_for_all lines) + 1 + most)
+  pub part_bounded : (rest : List Record) (most : ℕ) → IsBounded (moved_by place mine) rest most → IsBounded place (mine ++ ending_record p.ending ∷ rest) (2 * length (ticks_for_all lines) + 1 + most)
   part_bounded rest most behind_it = record {
     places = λ front behind e. by_cuts front behind (cuts front behind mine rest (ending_record p.ending) e);
     few =
@@ -237,7 +237,7 @@ none_bounded place here = record { places = λ front behind e. subst (λ (rs : L
 
 -- On the way of a course, of the part that is open: it began at a place, the moves of its answered lines lead to the position, and with
 -- those of the line that is begun to somewhere; all of them lead between places. Only of a line without its answer more is begun.
-record IsOnWay (p : Point) (since begun : List Outcome) (place : Steps3) : Type 0 where
+pub record IsOnWay (p : Point) (since begun : List Outcome) (place : Steps3) : Type 0 where
   pub steady : IsSteady p.before.state
   pub here : IsPlace place
   pub joins : MovesJoin place (moves_for since) (position p)
@@ -269,7 +269,7 @@ reach_more runs p kept o since steady is all =
     (all_on IsInReachAsked (asked_in since) (asks o.work) all (line_reaches runs p kept o steady is).asked)
 
 -- a line more is answered
-line_on_way : (p : Point) (kept : List ℕ) (o : Outcome) (since begun : List Outcome) (place : Steps3) → p.unanswered ≡ false → BecomesAt true p kept o → IsOnWay p since begun place
+pub line_on_way : (p : Point) (kept : List ℕ) (o : Outcome) (since begun : List Outcome) (place : Steps3) → p.unanswered ≡ false → BecomesAt true p kept o → IsOnWay p since begun place
     → IsOnWay (behind_line p kept o) (since ++ o ∷ []) begun place
 line_on_way p kept o since begun place answered is way =
     let none = none_begun p begun way.waits answered in
@@ -288,7 +288,7 @@ line_on_way p kept o since begun place answered is way =
     }
 
 -- a line more is begun
-broken_on_way : (p : Point) (kept : List ℕ) (o : Outcome) (since begun : List Outcome) (place : Steps3) → p.unanswered ≡ false → BecomesAt false p kept o → IsOnWay p since begun place
+pub broken_on_way : (p : Point) (kept : List ℕ) (o : Outcome) (since begun : List Outcome) (place : Steps3) → p.unanswered ≡ false → BecomesAt false p kept o → IsOnWay p since begun place
     → IsOnWay (behind_broken p o) since (begun ++ o ∷ []) place
 broken_on_way p kept o since begun place answered is way =
     let none = none_begun p begun way.waits answered in
@@ -305,7 +305,7 @@ broken_on_way p kept o since begun place answered is way =
     }
 
 -- a part begins where the one before it has ended
-part_on_way : (p : Point) (at place : Steps3) → IsSteady p.before.state → at ≡ place → position p ≡ at → IsPlace place → IsOnWay p [] [] place
+pub part_on_way : (p : Point) (at place : Steps3) → IsSteady p.before.state → at ≡ place → position p ≡ at → IsPlace place → IsOnWay p [] [] place
 part_on_way p at place steady stands same here = record {
   steady = steady;
   here = here;
@@ -318,34 +318,34 @@ part_on_way p at place steady stands same here = record {
 }
 
 -- how many ticks some lines ask for
-abbrev ticks_in : List Outcome → ℕ
+abbrev pub ticks_in : List Outcome → ℕ
 ticks_in lines = length (ticks_for_all lines)
 
-ticks_more : (runs : Bool) (p : Point) (kept : List ℕ) (o : Outcome) (lines : List Outcome) → IsSteady p.before.state → BecomesAt runs p kept o → ticks_in (lines ++ o ∷ []) ≤ ticks_in lines + most_ticks
+pub ticks_more : (runs : Bool) (p : Point) (kept : List ℕ) (o : Outcome) (lines : List Outcome) → IsSteady p.before.state → BecomesAt runs p kept o → ticks_in (lines ++ o ∷ []) ≤ ticks_in lines + most_ticks
 ticks_more runs p kept o lines steady is =
     let both : ticks_in (lines ++ o ∷ []) ≡ ticks_in lines + ticks_in (o ∷ []) = ap length (ticks_on lines (o ∷ [])) ∙ length-append (ticks_for_all lines) (ticks_for_all (o ∷ [])) in
     let one : ticks_in (o ∷ []) ≡ length (ticks_for o) = ap (λ (xs : List Asked). length (ticks_of_all xs)) (one_asks o) in
     let few = line_ticks runs p kept o steady is in
     omega (arith, both, one, few)
 
-ticks_whole : (since begun : List Outcome) → ticks_in (since ++ begun) ≡ ticks_in since + ticks_in begun
+pub ticks_whole : (since begun : List Outcome) → ticks_in (since ++ begun) ≡ ticks_in since + ticks_in begun
 ticks_whole since begun = ap length (ticks_on since begun) ∙ length-append (ticks_for_all since) (ticks_for_all begun)
 
 -- a reset takes something of what was sent
-fewer_sent : (sent : List Sent) → has_reset sent ≡ true → length (behind_reset sent) + 1 ≤ length sent
+pub fewer_sent : (sent : List Sent) → has_reset sent ≡ true → length (behind_reset sent) + 1 ≤ length sent
 fewer_sent [] some = absurd cc
 fewer_sent (a_stop ∷ sent) some = omega arith
 fewer_sent (a_text line ∷ sent) some = let more = fewer_sent sent some in omega (arith, more)
 
 -- So many records come at most of lines with these ticks, and of so much that is sent: each tick may have a head, each line a cut
 -- behind it, and each reset a mark.
-abbrev most_records : Bool → ℕ → ℕ → ℕ
+abbrev pub most_records : Bool → ℕ → ℕ → ℕ
 most_records has_line ticks sent = 2 * ticks + cond has_line 1 0 + sent * (2 * most_ticks + 1) + 1
 
-bounded_by : (place : Steps3) (records : List Record) (few many : ℕ) → few ≤ many → IsBounded place records few → IsBounded place records many
+pub bounded_by : (place : Steps3) (records : List Record) (few many : ℕ) → few ≤ many → IsBounded place records few → IsBounded place records many
 bounded_by place records few many le is = record { places = is.places; few = omega (arith, le, is.few) }
 
-counts_one : (b : Bool) → b ≡ true → 1 ≤ cond b 1 0
+pub counts_one : (b : Bool) → b ≡ true → 1 ≤ cond b 1 0
 counts_one true e = omega arith
 counts_one false e = absurd cc
 

@@ -24,3 +24,4 @@ pub mod Reaching
 pub mod Tasks
 pub mod Reach
 pub mod Bounds
+pub mod BoundsSoFar
