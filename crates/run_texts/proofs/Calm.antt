@@ -1,5 +1,5 @@
 -- Texts with no cut, no reset and no alarm have all ticks of their lines.
-use Rattle.std.proofs.Common.{◌≡◌, ℕ, ◌+◌, ◌≤◌, ◌⊎◌, inl, inr, List, [], ◌∷◌, ◌++◌, append-nil, true, false, Bool, ◌||◌, sym, refl, ap, ◌∙◌, subst, arith}
+use Rattle.std.proofs.Common.{◌≡◌, ◌≤◌, inl, inr, List, [], ◌∷◌, ◌++◌, append-nil, true, false, Bool, ◌||◌, sym, refl, ap, ◌∙◌, subst, arith}
 use Rattle.std.specs.List.{list_any, filter}
 use Rattle.units.specs.declared.Steps3.{Steps3}
 use Rattle.flight.specs.Places.{origin}

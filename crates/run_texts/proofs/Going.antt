@@ -1,5 +1,5 @@
 -- A course goes on at its end: by a line, by a cut, or by a reset.
-use Rattle.std.proofs.Common.{◌≡◌, ℕ, ◌+◌, ◌≤◌, ◌<◌, List, [], ◌∷◌, ◌++◌, map, length, true, false, Bool, ◌||◌, ◌&&◌, append-nil, sym, refl, ap, ◌∙◌, subst}
+use Rattle.std.proofs.Common.{◌≡◌, ℕ, List, [], ◌∷◌, ◌++◌, map, length, true, false, Bool, ◌&&◌, append-nil, sym, refl, ap, ◌∙◌, subst}
 use Rattle.units.specs.declared.Steps3.{Steps3}
 use Rattle.run_rules.specs.Outcomes.{Before, either}
 use Rattle.run_rules.specs.Outcomes.{Becomes, IsBegun, Passed as RulesPassed, Follows as RulesFollow}

@@ -1,5 +1,5 @@
 -- Worked texts that fit.
-use Rattle.std.proofs.Common.{◌≡◌, ℕ, zero, suc, ◌+◌, inl, inr, List, [], ◌∷◌, ◌++◌, map, replicate, drop, true, false, refl, sym, ap, codes, pos, arith, Ok, Err}
+use Rattle.std.proofs.Common.{◌≡◌, ℕ, zero, suc, inl, inr, List, [], ◌∷◌, ◌++◌, map, replicate, drop, true, false, refl, sym, ap, codes, pos, arith, Ok, Err}
 use Rattle.std.specs.declared.result.Result.{Result}
 use Rattle.units.specs.declared.Per3.{Per3}
 use Rattle.units.specs.declared.Steps3.{Steps3}
@@ -31,7 +31,6 @@ use Rattle.flight.specs.Places.{origin}
 use Rattle.step_line.specs.Asking.{moves_of}
 use Rattle.step_line.specs.declared.Bits.{Bits}
 use Rattle.step_line.specs.declared.Mark.TheVariants as marks
-use Rattle.step_line.specs.declared.Head.{Head}
 use Rattle.step_line.specs.declared.Record.TheVariants as kinds
 use Rattle.step_line.specs.declared.planned_move.PlannedMove.{PlannedMove}
 use Rattle.step_line.specs.Events.{event_of, steps_at}

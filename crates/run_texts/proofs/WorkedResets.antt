@@ -1,5 +1,5 @@
 -- Worked texts with resets that fit.
-use Rattle.std.proofs.Common.{◌≡◌, ℕ, ◌+◌, inl, inr, List, [], ◌∷◌, ◌++◌, drop, true, false, refl, codes, arith, Ok}
+use Rattle.std.proofs.Common.{inl, inr, List, [], ◌∷◌, ◌++◌, drop, true, false, refl, codes, arith}
 use Rattle.units.specs.declared.Steps3.{Steps3}
 use Rattle.units.specs.declared.Rate.TheVariants.{Rapid}
 use Rattle.units.specs.Counting.{count, events_of}
@@ -36,7 +36,7 @@ use Rattle.run_texts.specs.Parts.Ending.{by_cut, by_reset, by_end}
 use Rattle.run_texts.specs.Recorded.{IsRecorded, ticks_for_all}
 use Rattle.run_texts.specs.Rows.{right, left, steps_of, jog_right, far, first_two, DroppedFits, BrokenFits, UnlockedFits, WaitingFits, over, LongFits, LockedFits, LimitWaitsFits, LongBehindFits}
 use Rattle.run_texts.specs.Sent.{kept_of}
-use Rattle.run_texts.proofs.Worked.{each, first, opens, coded, at_x, along, told_head, inside_events, empty_at, behind_empty, nothing_made, limiting, behind_limits, jogging_at, coded_at, jog_1, behind_jog_1, jog_2, jog_along}
+use Rattle.run_texts.proofs.Worked.{first, opens, coded, at_x, along, told_head, inside_events, empty_at, behind_empty, nothing_made, limiting, behind_limits, jogging_at, coded_at, jog_1, behind_jog_1, jog_2, jog_along}
 
 -- ---- a reset in a move
 
