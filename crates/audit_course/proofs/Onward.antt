@@ -27,6 +27,7 @@ use Rattle.run_texts.specs.Points.{Point, IsPassed, IsBroken, behind_line, behin
 use Rattle.run_texts.specs.Recorded.{AreRecorded, IsRecorded, ticks_for_all}
 use Rattle.run_texts.specs.Sent.{Sent, waiting_in, has_reset, behind_reset}
 use Rattle.run_texts.specs.Sent.Sent.{a_text, a_stop}
+use Rattle.run_texts.specs.SoFar.{AreMadeSoFar}
 use Rattle.run_texts.specs.Told.{told_at_reset, told_in}
 use Rattle.run_texts.proofs.Determined.{line_answers}
 use Rattle.run_texts.proofs.Events.{ticks_on}
@@ -439,6 +440,21 @@ course_cuts (a_line o ∷ ps) = onto_cuts o (parts_of ps) ∙ course_cuts ps
 course_cuts (a_broken o ∷ ps) = begun_cuts o (parts_of ps) ∙ course_cuts ps
 course_cuts (a_cut k at ∷ ps) = let rest = course_cuts ps in omega (arith, rest)
 course_cuts (a_reset r ∷ ps) = let rest = course_cuts ps in omega (arith, rest)
+
+made_cuts : (ps : List Part) (place : Steps3) (rs : List Record) → AreMadeSoFar place ps rs → cuts_among rs ≤ cuts_of ps
+made_cuts [] place rs all = absurd all
+made_cuts (p ∷ []) place rs all = (let none = inside_none rs all.1.inside in omega (arith, none))
+made_cuts (p ∷ q ∷ ps) place rs all =
+    let split = ap cuts_among all.2 ∙ cuts_on all.0 (ending_record p.ending ∷ all.1) in
+    let first = cuts_on (ending_record p.ending ∷ []) all.1 in
+    let here = ending_cut p.ending in
+    let none = inside_none all.0 all.3.inside in
+    let rest = made_cuts (q ∷ ps) (moved_by place all.0) all.1 all.4 in
+    omega (arith, split, first, here, none, rest)
+
+-- The records of a course so far have no more cuts than it.
+pub cuts_made : (course : List Passed) (place : Steps3) (rs : List Record) → AreMadeSoFar place (parts_of course) rs → cuts_among rs ≤ cuts_in course
+cuts_made course place rs all = (let most = made_cuts (parts_of course) place rs all in let same = course_cuts course in omega (arith, most, same))
 
 -- No more cuts are recorded so far than may come.
 pub few_cuts : (p last : Point) (place : Steps3) (n : ℕ) (sent : List Sent) (replies : List Reply) (records rest : List Record)
