@@ -230,6 +230,7 @@ impl CourseJudge {
         ensures no { result ≡ false → self.old.work.left ≡ [] → self.old.work.number + 1 < 2 ^ 32 → RefusesLine self.old }
         ensures unheard { result ≡ false → self.old.work.left ≡ [] → self.old.work.number + 1 < 2 ^ 32 → HearsNoLine self.old }
         ensures halted { result ≡ false → self.old.work.left ≡ [] → self.old.work.number + 1 < 2 ^ 32 → self.old.unanswered ≡ false → self.old.line.halts ≡ true }
+        ensures same { result ≡ false → self.new ≡ self.old }
         ensures yes { IsTrue result → (kept : List ℕ) → IsKept line.now kept → AddsSent self.old self.new (a_text kept ∷ []) }
         ensures heard { IsTrue result → (kept : List ℕ) → IsKept line.now kept → HearsSent self.old self.new (a_text kept ∷ []) }
         ensures work { IsTrue result → (kept : List ℕ) → IsKept line.now kept → HasWorkOf self.old self.new false kept }
