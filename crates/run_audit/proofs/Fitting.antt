@@ -63,7 +63,53 @@ ends_job s source text sent last false number j alarmed is all = record {
 pub no_event : (records : List Record) → events_among (records ++ kinds.End ∷ []) ≡ events_among records
 no_event records = filter-append is_event records (kinds.End ∷ []) ∙ append-nil (events_among records)
 
--- texts that fit, by a course that ends where the judge stands
+-- a job, a console and records that fit, by a course that ends where the judge stands
+pub record TextsFound (job console : List ℕ) (all : List Record) (sent : List Sent) (line : ℕ) (halts : Bool) : Type 0 where
+  pub fit : TextsFit job console all
+  pub sent_are : fit.sent ≡ sent
+  pub alarmed : fit.fits.last.before.alarmed ≡ halts
+  pub number : fit.fits.last.before.number ≡ line
+
+pub texts_found : (k : CourseJudge) (s : Sending) (source : SourceState) (job console : List ℕ) (first : State) (sent : List Sent) (replies : List Reply) (records all : List Record)
+    → IsOpening first → IsOver k first sent replies records → JobSoFar s source job sent → IsAllRead s k.line.halts k.work.number → k.cuts ≤ s.cuts → IsWhole console replies → all ≡ records ++ kinds.End ∷ []
+    → TextsFound job console all sent k.work.number k.line.halts
+texts_found k s source job console first sent replies records all opens over j read few_told w are =
+    let e = ends_job s source job sent over.last k.line.halts k.work.number j over.alarmed over.number read in
+    let n = most_cuts job over.last - k.cuts in
+    let g = over.fits n in
+    let few = g.few in
+    let most = e.few in
+    let recorded : AreRecorded origin (parts_of g.course) all =
+    subst (λ (rs : List Record). AreRecorded origin (parts_of g.course) rs) (sym are) (subst (λ (ps : List Part). AreRecorded origin ps (records ++ kinds.End ∷ [])) (onto_none (parts_of g.course)) g.recorded) in
+    let fits : FitsTexts sent (most_cuts job over.last) (Banner ∷ w.behind) all = record {
+      first = first;
+      opens = opens;
+      course = g.course;
+      last = over.last;
+      follows = g.follows;
+      told = record { behind = w.behind; begins = refl; told = w.are ∙ g.told };
+      recorded = recorded;
+      few = omega (arith, few, most, few_told);
+    } in
+    record {
+      fit = record {
+        behind = w.behind;
+        text = w.text_is;
+        each = w.each;
+        sent = sent;
+        later = e.later;
+        split = e.split;
+        cancels = most_cuts job over.last;
+        fits = fits;
+        counted = refl;
+        over = e.over;
+      };
+      sent_are = refl;
+      alarmed = over.alarmed;
+      number = over.number;
+    }
+
+-- and steps with these records
 pub record FitFound (job console steps : List ℕ) (events line : ℕ) (halts : Bool) : Type 0 where
   pub fit : FitsWith job console steps events
   pub audited : AllAudited fit.fit.sent
@@ -74,42 +120,14 @@ pub fit_found : (k : CourseJudge) (s : Sending) (source : SourceState) (job cons
     → IsOpening first → IsOver k first sent replies records → JobSoFar s source job sent → IsAllRead s k.line.halts k.work.number → k.cuts ≤ s.cuts
     → IsWhole console replies → IsStepText steps lines → records_of lines ≡ records ++ kinds.End ∷ [] → events ≡ length (events_among records) → AllAudited sent → FitFound job console steps events k.work.number k.line.halts
 fit_found k s source job console steps first sent replies records lines events opens over j all few_told w steps_are are count audited =
-    let e = ends_job s source job sent over.last k.line.halts k.work.number j over.alarmed over.number all in
-    let n = most_cuts job over.last - k.cuts in
-    let g = over.fits n in
-    let few = g.few in
-    let most = e.few in
-    let recorded : AreRecorded origin (parts_of g.course) (records_of lines) =
-    subst (λ (rs : List Record). AreRecorded origin (parts_of g.course) rs) (sym are) (subst (λ (ps : List Part). AreRecorded origin ps (records ++ kinds.End ∷ [])) (onto_none (parts_of g.course)) g.recorded) in
-    let fits : FitsTexts sent (most_cuts job over.last) (Banner ∷ w.behind) (records_of lines) = record {
-      first = first;
-      opens = opens;
-      course = g.course;
-      last = over.last;
-      follows = g.follows;
-      told = record { behind = w.behind; begins = refl; told = w.are ∙ g.told };
-      recorded = recorded;
-      few = omega (arith, few, most, few_told);
-    } in
-    let fit : TextsFit job console (records_of lines) = record {
-      behind = w.behind;
-      text = w.text_is;
-      each = w.each;
-      sent = sent;
-      later = e.later;
-      split = e.split;
-      cancels = most_cuts job over.last;
-      fits = fits;
-      counted = refl;
-      over = e.over;
-    } in
+    let f = texts_found k s source job console first sent replies records (records_of lines) opens over j all few_told w are in
     let found : FitsWith job console steps events = record {
       lines = lines;
       steps_are = steps_are;
-      fit = fit;
+      fit = f.fit;
       count = count ∙ ap length (sym (no_event records)) ∙ ap (λ (rs : List Record). length (events_among rs)) (sym are);
     } in
-    record { fit = found; audited = audited; alarmed = over.alarmed; number = over.number }
+    record { fit = found; audited = subst AllAudited (sym f.sent_are) audited; alarmed = f.alarmed; number = f.number }
 
 -- ---- each line that is sent is audited
 

@@ -10,3 +10,28 @@ mod FewAlong
 mod NextAlong
 mod LinesAlong
 pub mod Ended
+pub mod SafeNow
+pub mod Bounded
+pub mod OneReading
+pub mod BreaksOff
+pub mod NextOnWay
+mod SafeCourses
+mod LineBegun
+pub mod LineWaits
+pub mod LineNone
+pub mod LineReplies
+pub mod StageOn
+pub mod NotHeard
+pub mod WaitsNow
+pub mod NoReset
+pub mod ResetMade
+pub mod ResetSteps
+pub mod MarkRefused
+pub mod LastAlarm
+pub mod EndHere
+pub mod EndRefused
+pub mod EndFound
+pub mod EndAlarm
+mod Entered
+pub mod NoneForeign
+pub mod LookedFor

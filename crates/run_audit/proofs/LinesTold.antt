@@ -12,11 +12,11 @@ use Rattle.audit_texts.specs.SoFar.{JobSoFar, stops_of, untold_of}
 use Rattle.audit_texts.specs.declared.sending.Sending.{Sending}
 use Rattle.audit_readers.proofs.Sizes.{scanned_few}
 
-no_text : (n : ℕ) (more : List Sent) → texts_among (replicate n a_stop ++ more) ≡ texts_among more
+pub no_text : (n : ℕ) (more : List Sent) → texts_among (replicate n a_stop ++ more) ≡ texts_among more
 no_text zero more = refl
 no_text (suc n) more = no_text n more
 
-texts_of : (lines : List (List ℕ)) (more : List Sent) → texts_among (flat_map sent_by lines ++ more) ≡ length lines + texts_among more
+pub texts_of : (lines : List (List ℕ)) (more : List Sent) → texts_among (flat_map sent_by lines ++ more) ≡ length lines + texts_among more
 texts_of [] more = omega arith
 texts_of (l ∷ ls) more =
     let first : texts_among (flat_map sent_by (l ∷ ls) ++ more) ≡ texts_among (flat_map sent_by ls ++ more) + 1 =

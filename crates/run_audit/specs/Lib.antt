@@ -3,3 +3,7 @@ pub mod Going
 pub mod UnderWay
 pub mod Along
 pub mod Ended
+pub mod Coming
+pub mod SafePoint
+pub mod OnWay
+pub mod Finding
