@@ -2,9 +2,11 @@
 use Rattle.std.proofs.Common.{◌≡◌, ◌↔◌, ℕ, ◌-◌, ◌<◌, ◌^◌, true, List, ap, refl, subst, arith, Some}
 use Rattle.std.specs.declared.option.Option.{Option}
 use Rattle.outside.specs.Causes.{Rose, SourceState, SinkState}
-use Rattle.audit_rules.specs.Findings.{exit_of}
+use Rattle.audit_rules.specs.Findings.{Finds, exit_of}
 use Rattle.audit_rules.specs.declared.Audit.{Audit}
 use Rattle.audit_rules.specs.declared.Audit.TheVariants.{Fits, Misfit, Usage, JobFault, ConsoleFault, StepsFault, OutFault, BadReplies, Foreign, TooLong}
+use Rattle.audit_rules.proofs.Finding.{one_audit}
+use Rattle.run_audit.proofs.NoneForeign.{none_foreign_of}
 use Rattle.run_audit.specs.Auditing.{FitAuditably, IsAnswered, RightOf, TellsRightly, is_found}
 
 not_risen : {A : Type 0} (before now : ℕ) → now ≡ before → before < 2 ^ 64 - 1 → Rose before now → A
@@ -40,6 +42,10 @@ told_to_fit job console steps (BadReplies n) right e = absurd cc
 told_to_fit job console steps (Foreign n) right e = absurd cc
 told_to_fit job console steps TooLong right e = absurd cc
 
+-- and texts that fit, and of which that can be said, have that answer
+fitting_told : (job console steps : List ℕ) (a : Audit) (fit : FitAuditably job console steps) → Finds job console steps a → a ≡ Fits fit.0
+fitting_told job console steps a fit found = one_audit job console steps a (Fits fit.0) found (fit.2.short, λ h. none_foreign_of job console steps fit.0 fit.1 fit.2 h, fit.1)
+
 pub tells : (job_text console_text steps_text : List ℕ) (job job_behind console console_behind steps steps_behind : SourceState) (out out_behind : SinkState) (a : Audit)
     → RightOf job.left console.left steps.left a → IsAnswered 3 job job_behind console console_behind steps steps_behind out out_behind a
     → job.left ≡ Some job_text → console.left ≡ Some console_text → steps.left ≡ Some steps_text
@@ -50,4 +56,4 @@ tells job_text console_text steps_text job job_behind console console_behind ste
     let some = found_some a (λ e. is.usage.0 e refl) (λ e. not_risen job.faults job_behind.faults j fj (is.job_fault e)) (λ e. not_risen console.faults console_behind.faults c fc (is.console_fault e))
     (λ e. not_risen steps.faults steps_behind.faults s fs (is.steps_fault e)) (λ e. not_risen out.faults out_behind.faults o fo (is.out_fault e)) in
     let tells = right_of job_text console_text steps_text job.left console.left steps.left a l m n right in
-    (told_to_fit job_text console_text steps_text a tells, λ fit. ap exit_of (tells.only_fits some fit.0 fit.1 fit.2))
+    (told_to_fit job_text console_text steps_text a tells, λ fit. ap exit_of (fitting_told job_text console_text steps_text a fit (tells.found some)))

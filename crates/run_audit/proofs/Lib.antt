@@ -5,11 +5,6 @@ pub mod Fitting
 pub mod LinesTold
 pub mod Telling
 pub mod Under
-mod Along
-mod FewAlong
-mod NextAlong
-mod LinesAlong
-pub mod Ended
 pub mod SafeNow
 pub mod Bounded
 pub mod OneReading
@@ -33,5 +28,6 @@ pub mod EndRefused
 pub mod EndFound
 pub mod EndAlarm
 mod Entered
+pub mod FoundTop
 pub mod NoneForeign
 pub mod LookedFor

@@ -4,11 +4,9 @@ use Rattle.std.specs.declared.option.Option.{Option}
 use Rattle.std.specs.Io.KnownBytes.{Appends}
 use Rattle.outside.specs.Causes.{Rose, SourceState, SinkState}
 use Rattle.audit_rules.specs.Findings.{Finds, FitsWith, IsTooLong, audit_text}
-use Rattle.audit_rules.specs.Scanned.{scanned}
-use Rattle.audit_rules.specs.Telling.{HasNoBanner}
 use Rattle.audit_rules.specs.declared.Audit.{Audit}
 use Rattle.audit_rules.specs.declared.Audit.TheVariants.{Fits, Misfit, Usage, JobFault, ConsoleFault, StepsFault, OutFault, BadReplies, Foreign, TooLong}
-use Rattle.audit_texts.specs.Audited.{AllAudited, IsFirstForeign}
+use Rattle.audit_texts.specs.Audited.{AllAudited}
 
 -- the answer speaks of the texts
 abbrev pub is_found : Audit → Bool
@@ -40,20 +38,11 @@ pub record IsAuditable (job console steps : List ℕ) (events : ℕ) (f : FitsWi
 abbrev pub FitAuditably : List ℕ → List ℕ → List ℕ → Type 0
 FitAuditably job console steps = (events : ℕ) × (f : FitsWith job console steps events) × IsAuditable job console steps events f
 
--- What is proved of an answer to texts that are read whole. If it says that they fit, that is found of them, and it can be said
--- of them; and if they fit and that can be said of them, it says so. It says that one is too long if one is, and only then. A
--- line of which it says that it is not audited is the first such line of those that a job sends if no alarm ends it. And of a
--- console that does not begin with the banner it says that the reply to line 1 is bad, and no other, if it says that of a reply,
--- and of no record that it breaks a rule.
+-- An answer to texts that are read whole is right: what it says of them is found of them, with its number; and if it says that they
+-- fit, neither is too long and each line that is sent is audited.
 pub record TellsRightly (job console steps : List ℕ) (a : Audit) : Type 0 where
-  pub fits : (events : ℕ) → a ≡ Fits events → Finds job console steps (Fits events)
+  pub found : is_found a ≡ true → Finds job console steps a
   pub auditable : (events : ℕ) → a ≡ Fits events → (f : FitsWith job console steps events) × IsAuditable job console steps events f
-  pub only_fits : is_found a ≡ true → (events : ℕ) (f : FitsWith job console steps events) → IsAuditable job console steps events f → a ≡ Fits events
-  pub too_long : a ≡ TooLong → IsTooLong console steps
-  pub only_too_long : is_found a ≡ true → IsTooLong console steps → a ≡ TooLong
-  pub foreign : (line : ℕ) → a ≡ Foreign line → IsFirstForeign (scanned job).lines line
-  pub replies : (line : ℕ) → a ≡ BadReplies line → HasNoBanner console → line ≡ 1
-  pub records : (at : ℕ) → a ≡ Misfit at → HasNoBanner console → ⊥
 
 -- It speaks of what the sources had left, if they tell it.
 abbrev pub RightOf : Option (List ℕ) → Option (List ℕ) → Option (List ℕ) → Audit → Type 0

@@ -1,9 +1,8 @@
 pub mod Auditing
 pub mod Going
 pub mod UnderWay
-pub mod Along
-pub mod Ended
 pub mod Coming
+pub mod Ended
 pub mod SafePoint
 pub mod OnWay
 pub mod Finding

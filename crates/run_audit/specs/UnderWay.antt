@@ -14,7 +14,6 @@ use Rattle.audit_rules.specs.Scanned.{scanned}
 use Rattle.audit_rules.specs.Telling.{HasNoBanner}
 use Rattle.audit_course.specs.SoFar.{HasJudged, EndsSoFar, MayBegin}
 use Rattle.audit_texts.specs.Audited.{AllAudited, IsFirstForeign}
-use Rattle.run_audit.specs.Auditing.{IsAuditable}
 use Rattle.run_audit.specs.declared.auditor.Auditor.{Auditor}
 use Rattle.run_audit.specs.declared.auditor.Finding.{Finding}
 use Rattle.run_audit.specs.declared.auditor.Finding.TheVariants.{Fits, Misfit, BadReplies, Foreign, TooLong}
@@ -56,6 +55,7 @@ pub record IsOpened (a : Auditor) (job console steps : SourceState) (job_text co
   pub begins : MayBegin a.course
   pub kept : a.course.lost ≡ false
   pub counts : a.broken ≡ None
+  pub answered : a.answered ≡ 0
   pub calm : a.sending.last ≡ None
 
 -- It is under way, and the judge was not told yet of this of the job.
@@ -90,10 +90,6 @@ IsShort console steps TooLong = Unit {0}
 pub record IsSaid (job console steps : List ℕ) (found : Finding) : Type 0 where
   pub right : IsRight job console steps found
   pub short : IsShort console steps found
-
--- of texts that fit, and of which an audit can say so, that is found
-pub record OnlyFits (job console steps : List ℕ) (found : Finding) : Type 0 where
-  pub says : (events : ℕ) (f : FitsWith job console steps events) → IsAuditable job console steps events f → found ≡ Fits events
 
 -- the three texts can be read on
 pub record CanBeRead (a : Auditor) (job console steps : SourceState) (job_text console_text steps_text : List ℕ) : Type 0 where

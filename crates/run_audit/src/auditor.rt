@@ -1,7 +1,8 @@
 //! The audit of three texts, in step.
 
-ghost use Rattle.std.specs.Prelude.{◌≡◌, ◌<◌, ◌&&◌, [], ℕ, List, Some, None, MatchResult, IfOk, IsTrue, false, true, not};
+ghost use Rattle.std.specs.Prelude.{◌≡◌, ◌<◌, ◌+◌, ◌-◌, ◌^◌, ◌&&◌, [], ℕ, List, Option, Some, None, MatchResult, IfOk, IsTrue, false, true, not};
 ghost use Rattle.outside.specs.Causes.{Rose, SourceState};
+ghost use Rattle.status_report.specs.Answering.{is_answer};
 ghost use Rattle.status_report.specs.declared.Reply.{Reply as AnyReply};
 ghost use Rattle.run_rules.specs.Work.Task.{tell};
 ghost use Rattle.line_interpreter.specs.Lefts.{IsNextOf};
@@ -10,11 +11,14 @@ ghost use Rattle.step_line.specs.declared.Record.TheVariants as kinds;
 ghost use Rattle.step_line.specs.declared.Record.{Record as AnyRecord};
 ghost use Rattle.run_texts.specs.Parts.{is_ending};
 ghost use Rattle.audit_course.specs.SoFar.{begins_epoch};
-ghost use Rattle.run_audit.specs.Along.{StaysAlong, StaysAlongIf, ReadsAlongIf, FindsAlong, RecordComes, IsUntaken, IsDone, IsResetTold, Owes, FitsError, LineComes};
+ghost use Rattle.run_audit.specs.Coming.{IsResetTold, Owes, FitsError};
 ghost use Rattle.audit_texts.specs.Reading.{KnowsJob, KnowsConsole, KnowsSteps, IsSame};
 ghost use Rattle.run_audit.specs.Going.{AllKnown, AllSame, IsCaused};
 ghost use Rattle.audit_texts.specs.SoFar.{StepsSoFar, IsItem, looked_for};
-ghost use Rattle.run_audit.specs.UnderWay.{IsOpened, IsNext, GoesOn, IsSaid, OnlyFits};
+ghost use Rattle.audit_rules.specs.Findings.{Finds};
+ghost use Rattle.run_audit.specs.OnWay.{IsErrorBy, IsLater, IsUnowed, TellsNoReset};
+ghost use Rattle.run_audit.specs.Finding.{LeadsOnIf, Looks, LooksAndHears, LooksOn, audit_of, is_greeting};
+ghost use Rattle.run_audit.specs.UnderWay.{IsOpened, IsNext, GoesOn, IsSaid};
 
 use audit_course::{CourseJudge, MotionError, Next};
 use audit_texts::{Item, Listening, Recorded, Sending};
@@ -69,15 +73,24 @@ pub(crate) fn is_ending(record: &Record) -> bool
 }
 
 /// Whether a reply is told at a reset, and belongs to no line.
-fn is_greeting(reply: &Reply) -> bool {
+fn is_greeting(reply: &Reply) -> bool
+    ensures { result ≡ is_greeting «reply».now }
+{
     matches!(
         reply,
         Reply::Banner | Reply::Alarm(3) | Reply::Message(Message::Locked)
     )
 }
 
+/// Whether a reply answers a line.
+fn is_answer(reply: &Reply) -> bool
+    ensures { result ≡ is_answer «reply».now }
+{
+    matches!(reply, Reply::Ok | Reply::Error(_))
+}
+
 /// Whether the reply that is known before it is told is told at a reset.
-#[tactic(auto, using(crate::proofs::NextAlong::reset_told_by, crate::proofs::NextAlong::no_reset_told))]
+#[tactic(auto, using(crate::proofs::LookedFor::reset_told_by, crate::proofs::LookedFor::no_reset_told))]
 fn tells_reset(known: Option<Reply>) -> bool
     ensures yes { IsTrue result → (told : List AnyReply) → known ≡ looked_for told → IsResetTold known told }
     ensures no { result ≡ false → (told : List AnyReply) → known ≡ looked_for told → begins_epoch told ≡ false }
@@ -120,6 +133,8 @@ impl Auditor {
         ensures listening { self.new.listening ≡ self.old.listening }
         ensures recorded { self.new.recorded ≡ self.old.recorded }
         ensures broken { self.new.broken ≡ None → ⊥ }
+        ensures at { self.old.broken ≡ None → self.new.broken ≡ Some self.old.recorded.at }
+        ensures others { (self.new.course ≡ self.old.course) × (self.new.answered ≡ self.old.answered) }
     {
         if self.broken.is_none() {
             self.broken = Some(self.recorded.at());
@@ -128,7 +143,8 @@ impl Auditor {
 
     /// What belongs to no line is bad behind the last line that was answered.
     pub(crate) fn bad_behind(&self) -> Finding
-        ensures { (line : ℕ) × (result ≡ Finding.BadReplies line) }
+        ensures bad { (line : ℕ) × (result ≡ Finding.BadReplies line) }
+        ensures line { self.now.answered < 2 ^ 32 - 1 → result ≡ Finding.BadReplies (self.now.answered + 1) }
     {
         Finding::BadReplies(self.answered.saturating_add(1))
     }
@@ -142,7 +158,7 @@ impl Auditor {
         ensures sending { self.new.sending.reader ≡ self.old.sending.reader }
         ensures next { IfOk result (λ found. IsNext self.new found) }
         ensures so_far { IfOk result (λ found. (job console : SourceState) → GoesOn self.old self.new job console (S.state steps.old) job console (S.state steps.new) None) }
-        ensures along { IfOk result (λ found. FindsAlong self.old self.new (S.state steps.old) (S.state steps.new) found) }
+        ensures stands { IfOk result (λ found. LooksOn self.old self.new (S.state steps.old) (S.state steps.new) found) }
     {
         if self.broken.is_some() {
             return Ok(None);
@@ -165,8 +181,8 @@ impl Auditor {
         ensures recorded { self.new.recorded.reader ≡ self.old.recorded.reader }
         ensures same { result ≡ false → self.new ≡ self.old }
         ensures leaves { result ≡ false → Owes self.old.course → is_ending «record».now ≡ true }
-        ensures along { IsTrue result → (job console steps : SourceState) → StaysAlongIf (λ point more told rest. RecordComes (Some «record».now) rest) self.old self.new job console steps job console steps None }
         ensures so_far { (job console steps : SourceState) → GoesOn self.old self.new job console steps job console steps None }
+        ensures stands { IsTrue result → (job console steps : SourceState) → LeadsOnIf (Looks self.old (Some «record».now)) self.old self.new job console steps job console steps None }
     {
         if !self.course.owes() || is_ending(record) {
             return false;
@@ -181,7 +197,9 @@ impl Auditor {
 
     /// Where this reply of a line, or of none, is told, there stands another one, or none.
     fn bad_reply(&self, reply: &Reply, line: u32) -> Finding
-        ensures { (at : ℕ) × (result ≡ Finding.BadReplies at) }
+        ensures bad { (at : ℕ) × (result ≡ Finding.BadReplies at) }
+        ensures line { is_greeting «reply».now ≡ false → result ≡ Finding.BadReplies line }
+        ensures behind { is_greeting «reply».now ≡ true → self.now.answered < 2 ^ 32 - 1 → result ≡ Finding.BadReplies (self.now.answered + 1) }
     {
         if is_greeting(reply) {
             return self.bad_behind();
@@ -199,7 +217,7 @@ impl Auditor {
         ensures recorded { self.new.recorded.reader ≡ self.old.recorded.reader }
         ensures sending { self.new.sending.reader ≡ self.old.sending.reader }
         ensures goes_on { IfOk result (λ found. (job steps : SourceState) → GoesOn self.old self.new job (C.state console.old) steps job (C.state console.new) steps found) }
-        ensures along { IfOk result (λ found. (job steps : SourceState) → StaysAlong self.old self.new job (C.state console.old) steps job (C.state console.new) steps found) }
+        ensures stands { IfOk result (λ found. (job steps : SourceState) → LeadsOnIf (λ jt ct st sent replies records. Unit {0}) self.old self.new job (C.state console.old) steps job (C.state console.new) steps found) }
     {
         let reply = self.course.reply();
         let line = self.course.number().saturating_sub(1);
@@ -207,7 +225,7 @@ impl Auditor {
             Err(_) => Err(Unread::Console),
             Ok(true) => {
                 self.course.told();
-                if matches!(reply, Reply::Ok | Reply::Error(_)) {
+                if is_answer(&reply) {
                     self.answered = line;
                 }
                 Ok(None)
@@ -228,7 +246,7 @@ impl Auditor {
         ensures known { MatchResult result (λ found. AllKnown self.new (J.state job.new) (C.state console.new) (S.state steps.new) × AllSame (J.state job.old) (C.state console.old) (S.state steps.old) (J.state job.new) (C.state console.new) (S.state steps.new))
             (λ e. IsCaused e (J.state job.old) (C.state console.old) (S.state steps.old) (J.state job.new) (C.state console.new) (S.state steps.new)) }
         ensures goes_on { IfOk result (λ found. GoesOn self.old self.new (J.state job.old) (C.state console.old) (S.state steps.old) (J.state job.new) (C.state console.new) (S.state steps.new) found) }
-        ensures along { IfOk result (λ found. StaysAlong self.old self.new (J.state job.old) (C.state console.old) (S.state steps.old) (J.state job.new) (C.state console.new) (S.state steps.new) found) }
+        ensures stands { IfOk result (λ found. LeadsOnIf (λ jt ct st sent replies records. Unit {0}) self.old self.new (J.state job.old) (C.state console.old) (S.state steps.old) (J.state job.new) (C.state console.new) (S.state steps.new) found) }
     {
         let record = self.look(steps)?;
         if self.takes_next(&record) {
@@ -244,9 +262,9 @@ impl Auditor {
         ensures listening { self.new.listening.reader ≡ self.old.listening.reader }
         ensures recorded { self.new.recorded.reader ≡ self.old.recorded.reader }
         ensures same { result ≡ false → self.new ≡ self.old }
-        ensures leaves { result ≡ false → (rest : List AnyRecord) → RecordComes «record».now rest → IsUntaken self.old.course «record».now rest }
-        ensures along { IsTrue result → (job console steps : SourceState) → StaysAlongIf (λ point more told rest. RecordComes «record».now rest) self.old self.new job console steps job console steps None }
         ensures so_far { (job console steps : SourceState) → GoesOn self.old self.new job console steps job console steps None }
+        ensures stands { IsTrue result → (job console steps : SourceState) → LeadsOnIf (Looks self.old «record».now) self.old self.new job console steps job console steps None }
+        ensures owes { result ≡ false → IsUnowed self.old.course «record».now }
     {
         match record {
             Some(record) => self.takes(record),
@@ -268,7 +286,7 @@ impl Auditor {
         ensures known { MatchResult result (λ found. AllKnown self.new (J.state job.new) (C.state console.new) (S.state steps.new) × AllSame (J.state job.old) (C.state console.old) (S.state steps.old) (J.state job.new) (C.state console.new) (S.state steps.new))
             (λ e. IsCaused e (J.state job.old) (C.state console.old) (S.state steps.old) (J.state job.new) (C.state console.new) (S.state steps.new)) }
         ensures goes_on { IfOk result (λ found. GoesOn self.old self.new (J.state job.old) (C.state console.old) (S.state steps.old) (J.state job.new) (C.state console.new) (S.state steps.new) found) }
-        ensures along { IfOk result (λ found. StaysAlongIf (λ point more told rest. IsUntaken self.old.course «record» rest) self.old self.new (J.state job.old) (C.state console.old) (S.state steps.old) (J.state job.new) (C.state console.new) (S.state steps.new) found) }
+        ensures stands { IsUnowed self.old.course «record» → IfOk result (λ found. LeadsOnIf (Looks self.old «record») self.old self.new (J.state job.old) (C.state console.old) (S.state steps.old) (J.state job.new) (C.state console.new) (S.state steps.new) found) }
     {
         match self.course.next() {
             Next::Tell => self.hear(console),
@@ -294,7 +312,7 @@ impl Auditor {
         ensures known { MatchResult result (λ found. AllKnown self.new (J.state job.new) (C.state console.new) (S.state steps.new) × AllSame (J.state job.old) (C.state console.old) (S.state steps.old) (J.state job.new) (C.state console.new) (S.state steps.new))
             (λ e. IsCaused e (J.state job.old) (C.state console.old) (S.state steps.old) (J.state job.new) (C.state console.new) (S.state steps.new)) }
         ensures goes_on { IfOk result (λ found. GoesOn self.old self.new (J.state job.old) (C.state console.old) (S.state steps.old) (J.state job.new) (C.state console.new) (S.state steps.new) found) }
-        ensures along { self.old.course.work.left ≡ [] → IfOk result (λ found. StaysAlongIf (λ point more told rest. IsUntaken self.old.course «record» rest) self.old self.new (J.state job.old) (C.state console.old) (S.state steps.old) (J.state job.new) (C.state console.new) (S.state steps.new) found) }
+        ensures stands { IsUnowed self.old.course «record» → self.old.course.work.left ≡ [] → IfOk result (λ found. LeadsOnIf (Looks self.old «record») self.old self.new (J.state job.old) (C.state console.old) (S.state steps.old) (J.state job.new) (C.state console.new) (S.state steps.new) found) }
     {
         let number = self.course.number();
         match record {
@@ -313,11 +331,11 @@ impl Auditor {
     /// The mark of a cut comes next.
     fn cut(&mut self, k: u32)
         requires next { self.old.recorded.next ≡ Some (kinds.Mark (CutMark k)) }
-        ensures along { self.old.course.work.left ≡ [] → (job console steps : SourceState) → StaysAlongIf (λ point more told rest. IsUntaken self.old.course (Some (kinds.Mark (CutMark k))) rest × (k < self.old.course.work.number)) self.old self.new job console steps job console steps None }
         ensures so_far { (job console steps : SourceState) → GoesOn self.old self.new job console steps job console steps None }
         ensures sending { self.new.sending.reader ≡ self.old.sending.reader }
         ensures listening { self.new.listening.reader ≡ self.old.listening.reader }
         ensures recorded { self.new.recorded.reader ≡ self.old.recorded.reader }
+        ensures stands { IsUnowed self.old.course (Some (kinds.Mark (CutMark k))) → self.old.course.work.left ≡ [] → k < self.old.course.work.number → (job console steps : SourceState) → LeadsOnIf (Looks self.old (Some (kinds.Mark (CutMark k)))) self.old self.new job console steps job console steps None }
     {
         if self.course.cut(k) {
             self.recorded.take();
@@ -340,7 +358,7 @@ impl Auditor {
         ensures known { MatchResult result (λ found. AllKnown self.new (J.state job.new) (C.state console.new) (S.state steps.new) × AllSame (J.state job.old) (C.state console.old) (S.state steps.old) (J.state job.new) (C.state console.new) (S.state steps.new))
             (λ e. IsCaused e (J.state job.old) (C.state console.old) (S.state steps.old) (J.state job.new) (C.state console.new) (S.state steps.new)) }
         ensures goes_on { IfOk result (λ found. GoesOn self.old self.new (J.state job.old) (C.state console.old) (S.state steps.old) (J.state job.new) (C.state console.new) (S.state steps.new) found) }
-        ensures along { IsDone self.old.course «record» → IfOk result (λ found. StaysAlongIf (λ point more told rest. IsUntaken self.old.course «record» rest) self.old self.new (J.state job.old) (C.state console.old) (S.state steps.old) (J.state job.new) (C.state console.new) (S.state steps.new) found) }
+        ensures stands { IsLater self.old.course «record» → IfOk result (λ found. LeadsOnIf (Looks self.old «record») self.old self.new (J.state job.old) (C.state console.old) (S.state steps.old) (J.state job.new) (C.state console.new) (S.state steps.new) found) }
     {
         if self.course.has_alarm() {
             return self.end_by_alarm(record, job, console, steps);
@@ -370,7 +388,7 @@ impl Auditor {
         ensures known { MatchResult result (λ found. AllKnown self.new (J.state job.new) (C.state console.new) (S.state steps.new) × AllSame (J.state job.old) (C.state console.old) (S.state steps.old) (J.state job.new) (C.state console.new) (S.state steps.new))
             (λ e. IsCaused e (J.state job.old) (C.state console.old) (S.state steps.old) (J.state job.new) (C.state console.new) (S.state steps.new)) }
         ensures goes_on { IfOk result (λ found. GoesOn self.old self.new (J.state job.old) (C.state console.old) (S.state steps.old) (J.state job.new) (C.state console.new) (S.state steps.new) found) }
-        ensures along { IsDone self.old.course «record» → (not self.old.course.unanswered && self.old.course.line.halts) ≡ false → IfOk result (λ found. StaysAlongIf (λ point more told rest. IsUntaken self.old.course «record» rest × FitsError error told) self.old self.new (J.state job.old) (C.state console.old) (S.state steps.old) (J.state job.new) (C.state console.new) (S.state steps.new) found) }
+        ensures stands { IsLater self.old.course «record» → (not self.old.course.unanswered && self.old.course.line.halts) ≡ false → TellsNoReset self.old.listening.known → IsErrorBy error self.old.listening.known → IfOk result (λ found. LeadsOnIf (LooksAndHears self.old «record» self.old.listening.known) self.old self.new (J.state job.old) (C.state console.old) (S.state steps.old) (J.state job.new) (C.state console.new) (S.state steps.new) found) }
     {
         match self.sending.look(job) {
             Err(_) => Err(Unread::Job),
@@ -394,7 +412,7 @@ impl Auditor {
         ensures known { MatchResult result (λ found. AllKnown self.new (J.state job.new) (C.state console.new) (S.state steps.new) × AllSame (J.state job.old) (C.state console.old) (S.state steps.old) (J.state job.new) (C.state console.new) (S.state steps.new))
             (λ e. IsCaused e (J.state job.old) (C.state console.old) (S.state steps.old) (J.state job.new) (C.state console.new) (S.state steps.new)) }
         ensures goes_on { IfOk result (λ found. GoesOn self.old self.new (J.state job.old) (C.state console.old) (S.state steps.old) (J.state job.new) (C.state console.new) (S.state steps.new) found) }
-        ensures along { IsDone self.old.course «record» → (not self.old.course.unanswered && self.old.course.line.halts) ≡ true → IfOk result (λ found. StaysAlongIf (λ point more told rest. IsUntaken self.old.course «record» rest) self.old self.new (J.state job.old) (C.state console.old) (S.state steps.old) (J.state job.new) (C.state console.new) (S.state steps.new) found) }
+        ensures stands { IsLater self.old.course «record» → (not self.old.course.unanswered && self.old.course.line.halts) ≡ true → IfOk result (λ found. LeadsOnIf (Looks self.old «record») self.old self.new (J.state job.old) (C.state console.old) (S.state steps.old) (J.state job.new) (C.state console.new) (S.state steps.new) found) }
     {
         self.read_ahead(job)?;
         self.finish(record, console, steps)
@@ -403,11 +421,11 @@ impl Auditor {
     /// The line that waits is begun.
     fn begin(&mut self, error: MotionError) -> Option<Finding>
         requires line { IsItem Item.Line self.old.sending }
-        ensures along { self.old.course.work.left ≡ [] → (job console steps : SourceState) → ReadsAlongIf [] (LineComes error) self.old self.new job console steps result }
         ensures goes_on { (job console steps : SourceState) → GoesOn self.old self.new job console steps job console steps result }
         ensures sending { self.new.sending.reader ≡ self.old.sending.reader }
         ensures listening { self.new.listening.reader ≡ self.old.listening.reader }
         ensures recorded { self.new.recorded.reader ≡ self.old.recorded.reader }
+        ensures stands { (next : Option AnyRecord) → IsLater self.old.course next → (not self.old.course.unanswered && self.old.course.line.halts) ≡ false → TellsNoReset self.old.listening.known → IsErrorBy error self.old.listening.known → (job console steps : SourceState) → LeadsOnIf (LooksAndHears self.old next self.old.listening.known) self.old self.new job console steps job console steps result }
     {
         let line = self.sending.kept();
         self.sending.take_line();
@@ -430,8 +448,7 @@ impl Auditor {
             (λ e. IsCaused e (J.state job.old) (C.state console.old) (S.state steps.old) (J.state job.new) (C.state console.new) (S.state steps.new)) }
         ensures right { IfOk result (λ found. (job_text console_text steps_text : List ℕ) → IsOpened self.old (J.state job.old) (C.state console.old) (S.state steps.old) job_text console_text steps_text →
             IsSaid job_text console_text steps_text found) }
-        ensures along { IfOk result (λ found. (job_text console_text steps_text : List ℕ) → IsOpened self.old (J.state job.old) (C.state console.old) (S.state steps.old) job_text console_text steps_text →
-            OnlyFits job_text console_text steps_text found) }
+        ensures finds { IfOk result (λ found. (job_text console_text steps_text : List ℕ) → IsOpened self.old (J.state job.old) (C.state console.old) (S.state steps.old) job_text console_text steps_text → Finds job_text console_text steps_text (audit_of found)) }
     {
         match self.listening.begins(console) {
             Err(_) => return Err(Unread::Console),

@@ -1,6 +1,6 @@
 //! How an audit ends.
 
-ghost use Rattle.std.specs.Prelude.{◌≡◌, ◌≤◌, ◌&&◌, [], ℕ, List, Some, None, true, false, not, MatchResult, IfOk, IsTrue};
+ghost use Rattle.std.specs.Prelude.{◌≡◌, ◌≤◌, ◌+◌, ◌&&◌, [], ℕ, List, length, Some, None, true, false, not, MatchResult, IfOk, IsTrue};
 ghost use Rattle.status_report.specs.declared.Reply.TheVariants.{Alarm};
 ghost use Rattle.run_rules.specs.Work.Task.{tell};
 ghost use Rattle.line_interpreter.specs.Lefts.{IsNextOf};
@@ -8,9 +8,10 @@ ghost use Rattle.step_line.specs.declared.Record.TheVariants as kinds;
 ghost use Rattle.outside.specs.Causes.{Rose, SourceState};
 ghost use Rattle.audit_texts.specs.Reading.{KnowsJob, KnowsConsole, KnowsSteps, IsSame};
 ghost use Rattle.run_audit.specs.Going.{AllKnown, AllSame, IsCaused, EndFails};
-ghost use Rattle.audit_rules.specs.Findings.{IsTooLong};
-ghost use Rattle.run_audit.specs.Along.{IsRightly};
-ghost use Rattle.run_audit.specs.Ended.{EndsAlong, EndsStepsAlong, EndStays, RefusesFit};
+ghost use Rattle.audit_rules.specs.Findings.{Finds, IsTooLong};
+ghost use Rattle.run_audit.specs.OnWay.{IsLater};
+ghost use Rattle.run_audit.specs.Finding.{EndsSteps, IsFound, Looks, ReadsOnIf, alarm_next, audit_of, has_told_alarm};
+ghost use Rattle.run_audit.specs.Ended.{EndStays, RefusesFit};
 ghost use Rattle.audit_texts.specs.SoFar.{Halts, IsAllRead, IsItem, IsRead, StaysSent};
 ghost use Rattle.run_audit.specs.declared.auditor.Finding.{Finding as AnyFinding};
 ghost use Rattle.run_audit.specs.UnderWay.{IsUnderWay, OthersStay, JudgeStays, Finishes, FinishesSteps, MayFit, IsNext, CanBeRead, IsRight, IsSaid};
@@ -33,6 +34,7 @@ impl Auditor {
             IsUnderWay self.old (J.state job.old) console steps job_text console_text steps_text → IsUnderWay self.new (J.state job.new) console steps job_text console_text steps_text) }
         ensures sent { IfOk result (λ done. StaysSent self.old.sending self.new.sending (J.state job.old) (J.state job.new)) }
         ensures halts { IfOk result (λ done. self.old.sending.over ≡ false → Halts self.old.sending self.new.sending) }
+        ensures answered { self.new.answered ≡ self.old.answered }
     {
         match self.sending.halt(job) {
             Ok(()) => Ok(()),
@@ -52,10 +54,11 @@ impl Auditor {
         requires steps { KnowsSteps self.old.recorded.reader (S.state steps.old) }
         requires next { IsNext self.old «record» }
         ensures found { IfOk result (λ found. (job : SourceState) → Finishes self.old self.new job (C.state console.old) (S.state steps.old) (C.state console.new) (S.state steps.new) found) }
-        ensures along { IfOk result (λ found. (job : SourceState) → EndsAlong self.old self.new job (C.state console.old) (S.state steps.old) found) }
         ensures read { MatchResult result (λ found. KnowsConsole self.new.listening.reader (C.state console.new) × KnowsSteps self.new.recorded.reader (S.state steps.new) × IsSame (C.state console.old) (C.state console.new) × IsSame (S.state steps.old) (S.state steps.new))
             (λ e. EndFails e (C.state console.old) (S.state steps.old) (C.state console.new) (S.state steps.new)) }
         ensures sending { self.new.sending.reader ≡ self.old.sending.reader }
+        ensures stands { IsLater self.old.course «record» → self.old.course.unanswered ≡ false → IsAllRead self.old.sending self.old.course.line.halts self.old.course.work.number → IfOk result (λ found. (job : SourceState) →
+            ReadsOnIf [] (Looks self.old «record») self.old self.new job (C.state console.old) (S.state steps.old) job (C.state console.new) (S.state steps.new) found) }
     {
         match self.listening.ends(console) {
             Err(_) => Err(Unread::Console),
@@ -77,7 +80,7 @@ impl Auditor {
         ensures sending { self.new.sending ≡ self.old.sending }
         ensures listening { self.new.listening ≡ self.old.listening }
         ensures found { IfOk result (λ found. FinishesSteps self.old self.new (S.state steps.old) (S.state steps.new) found) }
-        ensures along { IfOk result (λ found. EndsStepsAlong self.old self.new (S.state steps.old) found) }
+        ensures stands { IsLater self.old.course «record» → self.old.course.unanswered ≡ false → IsAllRead self.old.sending self.old.course.line.halts self.old.course.work.number → IfOk result (λ found. EndsSteps self.old self.new (S.state steps.old) «record» found) }
     {
         if let Some(at) = self.broken {
             return Ok(Some(Finding::Misfit(at)));
@@ -147,8 +150,10 @@ impl Auditor {
         ensures read_on { IfOk result (λ done. (console steps : SourceState) (job_text console_text steps_text : List ℕ) →
             CanBeRead self.old (J.state job.old) console steps job_text console_text steps_text → CanBeRead self.new (J.state job.new) console steps job_text console_text steps_text) }
         ensures over { IfOk result (λ done. self.old.sending.over ≡ true → IsItem Item.Nothing self.old.sending → self.new.sending ≡ self.old.sending) }
+        ensures ended { IfOk result (λ done. (console steps : SourceState) (job_text console_text steps_text : List ℕ) →
+            CanBeRead self.old (J.state job.old) console steps job_text console_text steps_text → self.new.sending.over ≡ true) }
     {
-        'rest: for _ in 0..33_554_432 {
+        'rest: for _ in 0..33_554_432_u32 {
             if !self.read_one(job)? {
                 return Ok(());
             }
@@ -165,6 +170,9 @@ impl Auditor {
         ensures reads { IfOk result (λ more. (console steps : SourceState) (job_text console_text steps_text : List ℕ) →
             CanBeRead self.old (J.state job.old) console steps job_text console_text steps_text → CanBeRead self.new (J.state job.new) console steps job_text console_text steps_text) }
         ensures over { IfOk result (λ more. self.old.sending.over ≡ true → IsItem Item.Nothing self.old.sending → self.new.sending ≡ self.old.sending) }
+        ensures ended { IfOk result (λ more. more ≡ false → self.new.sending.over ≡ true) }
+        ensures grows { IfOk result (λ more. more ≡ true → (console steps : SourceState) (job_text console_text steps_text : List ℕ) (r : CanBeRead self.old (J.state job.old) console steps job_text console_text steps_text) →
+            (s : CanBeRead self.new (J.state job.new) console steps job_text console_text steps_text) × (length s.sent ≡ length r.sent + 1)) }
     {
         match self.sending.look(job) {
             Err(_) => Err(Unread::Job),
@@ -194,8 +202,8 @@ impl Auditor {
             (λ e. IsCaused e (J.state job.old) (C.state console.old) (S.state steps.old) (J.state job.new) (C.state console.new) (S.state steps.new)) }
         ensures right { IfOk result (λ now. (job_text console_text steps_text : List ℕ) → CanBeRead self.old (J.state job.old) (C.state console.old) (S.state steps.old) job_text console_text steps_text →
             IsRight job_text console_text steps_text found → IsSaid job_text console_text steps_text now) }
-        ensures along { IfOk result (λ now. (job_text console_text steps_text : List ℕ) (events : ℕ) → CanBeRead self.old (J.state job.old) (C.state console.old) (S.state steps.old) job_text console_text steps_text →
-            (IsTooLong console_text steps_text → ⊥) → IsRightly self.old events found → now ≡ Finding.Fits events) }
+        ensures finds { IfOk result (λ now. (job_text console_text steps_text : List ℕ) → CanBeRead self.old (J.state job.old) (C.state console.old) (S.state steps.old) job_text console_text steps_text →
+            ((IsTooLong console_text steps_text → ⊥) → IsFound self.old job_text console_text steps_text found) → Finds job_text console_text steps_text (audit_of now)) }
     {
         self.read_job(job)?;
         self.read_texts(console, steps)?;
@@ -206,6 +214,7 @@ impl Auditor {
     fn tells_alarm(&self) -> bool
         ensures yes { (n : ℕ) → self.now.course.unanswered ≡ false → IsNextOf (tell (Alarm n)) self.now.course.work.left → result ≡ true }
         ensures no { self.now.course.work.left ≡ [] → result ≡ false }
+        ensures is { self.now.course.unanswered ≡ false → result ≡ alarm_next self.now.course.work.left }
     {
         match self.course.next() {
             Next::Tell => matches!(self.course.reply(), Reply::Alarm(_)),
@@ -217,6 +226,7 @@ impl Auditor {
     fn has_told_alarm(&self) -> bool
         ensures told { IsTrue result → (n : ℕ) → IsNextOf (tell (Alarm n)) self.now.course.work.left → ⊥ }
         ensures done { self.now.course.work.left ≡ [] → result ≡ (not self.now.course.unanswered && self.now.course.line.halts) }
+        ensures is { result ≡ has_told_alarm self.now.course }
     {
         self.course.has_alarm() && !self.tells_alarm()
     }
@@ -229,7 +239,11 @@ impl Auditor {
         ensures others { JudgeStays self.old self.new }
         ensures read_on { IfOk result (λ done. (console steps : SourceState) (job_text console_text steps_text : List ℕ) →
             CanBeRead self.old (J.state job.old) console steps job_text console_text steps_text → CanBeRead self.new (J.state job.new) console steps job_text console_text steps_text) }
-        ensures along { IfOk result (λ done. (events : ℕ) (found : AnyFinding) → IsRightly self.old events found → self.new.sending.foreign ≡ 0) }
+        ensures told { IfOk result (λ done. has_told_alarm self.old.course ≡ true → self.new.sending ≡ self.old.sending) }
+        ensures over { IfOk result (λ done. self.old.sending.over ≡ true → IsItem Item.Nothing self.old.sending → self.new.sending ≡ self.old.sending) }
+        ensures last { self.new.sending.last ≡ self.old.sending.last }
+        ensures ended { IfOk result (λ done. (console steps : SourceState) (job_text console_text steps_text : List ℕ) →
+            CanBeRead self.old (J.state job.old) console steps job_text console_text steps_text → has_told_alarm self.old.course ≡ false → self.new.sending.over ≡ true) }
     {
         if self.has_told_alarm() {
             return Ok(());
@@ -249,6 +263,7 @@ impl Auditor {
         ensures read { MatchResult result (λ done. KnowsConsole self.new.listening.reader (C.state console.new) × KnowsSteps self.new.recorded.reader (S.state steps.new) × IsSame (C.state console.old) (C.state console.new) × IsSame (S.state steps.old) (S.state steps.new))
             (λ e. EndFails e (C.state console.old) (S.state steps.old) (C.state console.new) (S.state steps.new)) }
         ensures sending { self.new.sending ≡ self.old.sending }
+        ensures course { self.new.course ≡ self.old.course }
         ensures over { IfOk result (λ done. IsRead self.new.listening.reader.window self.new.listening.reader.place × IsRead self.new.recorded.reader.window self.new.recorded.reader.place) }
         ensures read_on { IfOk result (λ done. (job : SourceState) (job_text console_text steps_text : List ℕ) →
             CanBeRead self.old job (C.state console.old) (S.state steps.old) job_text console_text steps_text → CanBeRead self.new job (C.state console.new) (S.state steps.new) job_text console_text steps_text) }
@@ -268,8 +283,10 @@ impl Auditor {
             KnowsConsole self.now.listening.reader console → KnowsSteps self.now.recorded.reader steps →
             IsRead self.now.listening.reader.window self.now.listening.reader.place → IsRead self.now.recorded.reader.window self.now.recorded.reader.place →
             IsRight job_text console_text steps_text found → IsSaid job_text console_text steps_text result }
-        ensures along { (job console steps : SourceState) (job_text console_text steps_text : List ℕ) → CanBeRead self.now job console steps job_text console_text steps_text →
-            (IsTooLong console_text steps_text → ⊥) → self.now.sending.foreign ≡ 0 → result ≡ found }
+        ensures finds { (job console steps : SourceState) (job_text console_text steps_text : List ℕ) → CanBeRead self.now job console steps job_text console_text steps_text →
+            KnowsConsole self.now.listening.reader console → KnowsSteps self.now.recorded.reader steps →
+            IsRead self.now.listening.reader.window self.now.listening.reader.place → IsRead self.now.recorded.reader.window self.now.recorded.reader.place →
+            (has_told_alarm self.now.course ≡ false → self.now.sending.over ≡ true) → ((IsTooLong console_text steps_text → ⊥) → IsFound self.now job_text console_text steps_text found) → Finds job_text console_text steps_text (audit_of result) }
     {
         if self.listening.is_too_long() {
             return Finding::TooLong;

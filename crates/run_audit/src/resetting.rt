@@ -1,6 +1,6 @@
 //! The resets of an audit, and the lines that they keep from their answers.
 
-ghost use Rattle.std.specs.Prelude.{◌≡◌, ◌↔◌, ◌+◌, ◌-◌, ◌∷◌, ◌++◌, ◌&&◌, ◌||◌, [], ℕ, List, Some, None, MatchResult, IfOk, IfSome, IsTrue, true, false, not, length, map};
+ghost use Rattle.std.specs.Prelude.{◌≡◌, ◌<◌, ◌^◌, ◌↔◌, ◌+◌, ◌-◌, ◌∷◌, ◌++◌, ◌&&◌, ◌||◌, [], ℕ, List, Option, Some, None, MatchResult, IfOk, IfSome, IsTrue, true, false, not, length, map};
 ghost use Rattle.outside.specs.Causes.{Rose, SourceState};
 ghost use Rattle.step_line.specs.declared.Mark.TheVariants.{Reset as ResetMark};
 ghost use Rattle.step_line.specs.declared.Record.TheVariants as kinds;
@@ -10,7 +10,10 @@ ghost use Rattle.audit_texts.specs.SoFar.{IsItem};
 ghost use Rattle.run_audit.specs.UnderWay.{IsUnderWay, IsDropping, IsNext, GoesOn, mark_of};
 ghost use Rattle.line_interpreter.specs.Lefts.{greeting};
 ghost use Rattle.audit_course.specs.SoFar.{has_moved, left_to_tell};
-ghost use Rattle.run_audit.specs.Along.{StaysAlongIf, ReadsAlongIf, IsUntaken, IsDone, IsResetTold, MayBeOfLine, BrokenComes, ResetComes, is_alarm};
+ghost use Rattle.step_line.specs.declared.Record.{Record as AnyRecord};
+ghost use Rattle.run_audit.specs.OnWay.{HasCause, IsLater, IsMarkBehind, MayBeOf, TellsReset, line_waiting};
+ghost use Rattle.run_audit.specs.Finding.{LeadsOnIf, LooksAndHears, ReadsOnIf};
+ghost use Rattle.run_audit.specs.Coming.{IsResetTold, MayBeOfLine, is_alarm};
 
 use crate::auditor::{Auditor, Finding, Unread, is_ending};
 use audit_texts::Item;
@@ -39,7 +42,7 @@ impl Auditor {
         ensures listening { self.new.listening.reader ≡ self.old.listening.reader }
         ensures recorded { self.new.recorded.reader ≡ self.old.recorded.reader }
         ensures goes_on { IfOk result (λ found. (console steps : SourceState) → GoesOn self.old self.new (J.state job.old) console steps (J.state job.new) console steps found) }
-        ensures along { IsDone self.old.course «record» → (not self.old.course.unanswered && self.old.course.line.halts) ≡ false → IfOk result (λ found. (console steps : SourceState) → StaysAlongIf (λ point more told rest. IsUntaken self.old.course «record» rest × IsResetTold self.old.listening.known told) self.old self.new (J.state job.old) console steps (J.state job.new) console steps found) }
+        ensures stands { IsLater self.old.course «record» → (not self.old.course.unanswered && self.old.course.line.halts) ≡ false → TellsReset self.old.listening.known → IfOk result (λ found. (console steps : SourceState) → LeadsOnIf (LooksAndHears self.old «record» self.old.listening.known) self.old self.new (J.state job.old) console steps (J.state job.new) console steps found) }
     {
         let Some(record) = record else {
             return self.reset_uncounted(job);
@@ -60,6 +63,7 @@ impl Auditor {
         ensures alarm { IsTrue result → is_alarm self.now.listening.known ≡ true }
         ensures none { IsTrue result → has_moved self.now.course ≡ false }
         ensures caused { result ≡ false → is_alarm self.now.listening.known ≡ true → self.now.course.unanswered ≡ false → has_moved self.now.course ≡ true }
+        ensures answered { IsTrue result → self.now.course.unanswered ≡ false }
     {
         is_alarm(self.listening.known()) && !self.course.is_unanswered() && !self.course.has_moved()
     }
@@ -73,6 +77,7 @@ impl Auditor {
         ensures listening { self.new.listening.reader ≡ self.old.listening.reader }
         ensures recorded { self.new.recorded.reader ≡ self.old.recorded.reader }
         ensures goes_on { IfOk result (λ found. (console steps : SourceState) → GoesOn self.old self.new (J.state job.old) console steps (J.state job.new) console steps found) }
+        ensures stands { IsLater self.old.course None → (not self.old.course.unanswered && self.old.course.line.halts) ≡ false → TellsReset self.old.listening.known → IfOk result (λ found. (console steps : SourceState) → LeadsOnIf (LooksAndHears self.old None self.old.listening.known) self.old self.new (J.state job.old) console steps (J.state job.new) console steps found) }
     {
         if self.lacks_cause() {
             return self.begin_cause(job);
@@ -88,6 +93,7 @@ impl Auditor {
         ensures listening { self.new.listening.reader ≡ self.old.listening.reader }
         ensures recorded { self.new.recorded.reader ≡ self.old.recorded.reader }
         ensures goes_on { IfOk result (λ found. (console steps : SourceState) → GoesOn self.old self.new (J.state job.old) console steps (J.state job.new) console steps found) }
+        ensures stands { IsLater self.old.course None → (not self.old.course.unanswered && self.old.course.line.halts) ≡ false → self.old.course.unanswered ≡ false → has_moved self.old.course ≡ false → is_alarm self.old.listening.known ≡ true → TellsReset self.old.listening.known → IfOk result (λ found. (console steps : SourceState) → LeadsOnIf (LooksAndHears self.old None self.old.listening.known) self.old self.new (J.state job.old) console steps (J.state job.new) console steps found) }
     {
         match self.sending.look(job) {
             Err(_) => Err(Unread::Job),
@@ -95,7 +101,8 @@ impl Auditor {
                 self.break_line();
                 Ok(None)
             }
-            Ok(Item::Stop | Item::Nothing) => Ok(Some(self.bad_behind())),
+            Ok(Item::Stop) => Ok(Some(self.bad_behind())),
+            Ok(Item::Nothing) => Ok(Some(self.bad_behind())),
         }
     }
 
@@ -108,7 +115,7 @@ impl Auditor {
         ensures listening { self.new.listening.reader ≡ self.old.listening.reader }
         ensures recorded { self.new.recorded.reader ≡ self.old.recorded.reader }
         ensures goes_on { IfOk result (λ found. (console steps : SourceState) → GoesOn self.old self.new (J.state job.old) console steps (J.state job.new) console steps found) }
-        ensures along { self.old.course.work.left ≡ [] → IfOk result (λ found. (console steps : SourceState) → StaysAlongIf (λ point more told rest. (lines : List (List ℕ)) × ResetComes (Some k) lines (is_alarm self.old.listening.known) point more told rest) self.old self.new (J.state job.old) console steps (J.state job.new) console steps found) }
+        ensures stands { IsLater self.old.course (mark_of (Some k)) → k + 1 ≡ self.old.course.work.number → (not self.old.course.unanswered && self.old.course.line.halts) ≡ false → TellsReset self.old.listening.known → IfOk result (λ found. (console steps : SourceState) → LeadsOnIf (LooksAndHears self.old (mark_of (Some k)) self.old.listening.known) self.old self.new (J.state job.old) console steps (J.state job.new) console steps found) }
     {
         if self.lacks_cause() {
             self.break_off();
@@ -137,7 +144,7 @@ impl Auditor {
         ensures listening { self.new.listening.reader ≡ self.old.listening.reader }
         ensures recorded { self.new.recorded.reader ≡ self.old.recorded.reader }
         ensures goes_on { IfOk result (λ found. (console steps : SourceState) → GoesOn self.old self.new (J.state job.old) console steps (J.state job.new) console steps found) }
-        ensures along { self.old.course.work.left ≡ [] → IfOk result (λ found. (console steps : SourceState) → StaysAlongIf BrokenComes self.old self.new (J.state job.old) console steps (J.state job.new) console steps found) }
+        ensures stands { (next : AnyRecord) → IsLater self.old.course (Some next) → MayBeOfLine self.old.course.work.number next → (not self.old.course.unanswered && self.old.course.line.halts) ≡ false → TellsReset self.old.listening.known → IfOk result (λ found. (console steps : SourceState) → LeadsOnIf (LooksAndHears self.old (Some next) self.old.listening.known) self.old self.new (J.state job.old) console steps (J.state job.new) console steps found) }
     {
         match self.sending.look(job) {
             Err(_) => Err(Unread::Job),
@@ -151,11 +158,11 @@ impl Auditor {
     /// The line that waits is begun, and not answered, if one does.
     fn begin_unanswered(&mut self, item: Item)
         requires item { IsItem item self.old.sending }
-        ensures along { item ≡ Item.Line → self.old.course.work.left ≡ [] → (job console steps : SourceState) → ReadsAlongIf [] BrokenComes self.old self.new job console steps None }
         ensures so_far { (job console steps : SourceState) → GoesOn self.old self.new job console steps job console steps None }
         ensures sending { self.new.sending.reader ≡ self.old.sending.reader }
         ensures listening { self.new.listening.reader ≡ self.old.listening.reader }
         ensures recorded { self.new.recorded.reader ≡ self.old.recorded.reader }
+        ensures stands { (next : AnyRecord) → IsLater self.old.course (Some next) → MayBeOfLine self.old.course.work.number next → (not self.old.course.unanswered && self.old.course.line.halts) ≡ false → TellsReset self.old.listening.known → (item ≡ Item.Nothing → self.old.sending.over ≡ true) → (job console steps : SourceState) → LeadsOnIf (LooksAndHears self.old (Some next) self.old.listening.known) self.old self.new job console steps job console steps None }
     {
         match item {
             Item::Line => self.break_line(),
@@ -166,11 +173,11 @@ impl Auditor {
     /// The line that waits is begun, and not answered.
     fn break_line(&mut self)
         requires line { IsItem Item.Line self.old.sending }
-        ensures along { self.old.course.work.left ≡ [] → (job console steps : SourceState) → ReadsAlongIf [] BrokenComes self.old self.new job console steps None }
         ensures so_far { (job console steps : SourceState) → GoesOn self.old self.new job console steps job console steps None }
         ensures sending { self.new.sending.reader ≡ self.old.sending.reader }
         ensures listening { self.new.listening.reader ≡ self.old.listening.reader }
         ensures recorded { self.new.recorded.reader ≡ self.old.recorded.reader }
+        ensures stands { (next : Option AnyRecord) → IsLater self.old.course next → MayBeOf self.old.course.work.number next → (next ≡ None → self.old.course.unanswered ≡ false) → (not self.old.course.unanswered && self.old.course.line.halts) ≡ false → TellsReset self.old.listening.known → (job console steps : SourceState) → LeadsOnIf (LooksAndHears self.old next self.old.listening.known) self.old self.new job console steps job console steps None }
     {
         let line = self.sending.kept();
         if self.course.begin_unanswered(&line) {
@@ -203,7 +210,7 @@ impl Auditor {
         ensures listening { self.new.listening.reader ≡ self.old.listening.reader }
         ensures recorded { self.new.recorded.reader ≡ self.old.recorded.reader }
         ensures goes_on { IfOk result (λ found. (console steps : SourceState) → GoesOn self.old self.new (J.state job.old) console steps (J.state job.new) console steps found) }
-        ensures along { self.old.course.work.left ≡ [] → IfOk result (λ found. (console steps : SourceState) → StaysAlongIf (λ point more told rest. (lines : List (List ℕ)) × ResetComes mark lines (is_alarm self.old.listening.known) point more told rest) self.old self.new (J.state job.old) console steps (J.state job.new) console steps found) }
+        ensures stands { IsLater self.old.course (mark_of mark) → IsMarkBehind mark self.old.course.work.number → HasCause self.old.course self.old.listening.known → (not self.old.course.unanswered && self.old.course.line.halts) ≡ false → TellsReset self.old.listening.known → IfOk result (λ found. (console steps : SourceState) → LeadsOnIf (LooksAndHears self.old (mark_of mark) self.old.listening.known) self.old self.new (J.state job.old) console steps (J.state job.new) console steps found) }
     {
         let alarm = is_alarm(self.listening.known());
         let mut dropped: u32 = 0;
@@ -231,6 +238,7 @@ impl Auditor {
     fn none_comes(&self, waiting: u32) -> Finding
         ensures bad { (line : ℕ) × (result ≡ Finding.BadReplies line) }
         ensures begun { self.now.course.unanswered ≡ true → result ≡ Finding.BadReplies (self.now.course.work.number - 1) }
+        ensures line { self.now.course.work.number < 2 ^ 32 - 1 → self.now.answered < 2 ^ 32 - 1 → result ≡ Finding.BadReplies (line_waiting self.now.course waiting self.now.answered) }
     {
         if self.course.is_unanswered() {
             return Finding::BadReplies(self.course.number().saturating_sub(1));
@@ -245,12 +253,12 @@ impl Auditor {
     fn make_reset(&mut self, mark: Option<u32>, dropped: u32, alarm: bool) -> Option<Finding>
         requires next { IsNext self.old (mark_of mark) }
         ensures bad { IfSome result (λ found. (line : ℕ) × (found ≡ Finding.BadReplies line)) }
-        ensures along { self.old.course.work.left ≡ [] → (lines : List (List ℕ)) → dropped ≡ length lines → (job console steps : SourceState) → ReadsAlongIf (map a_text lines ++ a_stop ∷ []) (ResetComes mark lines alarm) self.old self.new job console steps result }
         ensures so_far { (lines : List (List ℕ)) → dropped ≡ length lines → (job console steps : SourceState) (job_text console_text steps_text : List ℕ) →
             IsDropping self.old job console steps job_text console_text steps_text (map a_text lines ++ a_stop ∷ []) → IsUnderWay self.new job console steps job_text console_text steps_text }
         ensures sending { self.new.sending.reader ≡ self.old.sending.reader }
         ensures listening { self.new.listening.reader ≡ self.old.listening.reader }
         ensures recorded { self.new.recorded.reader ≡ self.old.recorded.reader }
+        ensures stands { IsLater self.old.course (mark_of mark) → IsMarkBehind mark self.old.course.work.number → (not self.old.course.unanswered && self.old.course.line.halts) ≡ false → HasCause self.old.course self.old.listening.known → TellsReset self.old.listening.known → alarm ≡ is_alarm self.old.listening.known → (lines : List (List ℕ)) → dropped ≡ length lines → self.old.sending.last ≡ None → (job console steps : SourceState) → ReadsOnIf (map a_text lines ++ a_stop ∷ []) (LooksAndHears self.old (mark_of mark) self.old.listening.known) self.old self.new job console steps job console steps result }
     {
         match mark {
             Some(k) => self.take_reset(k, dropped, alarm),
@@ -262,12 +270,12 @@ impl Auditor {
     fn take_reset(&mut self, k: u32, dropped: u32, alarm: bool) -> Option<Finding>
         requires next { IsNext self.old (mark_of (Some k)) }
         ensures bad { IfSome result (λ found. (line : ℕ) × (found ≡ Finding.BadReplies line)) }
-        ensures along { self.old.course.work.left ≡ [] → (lines : List (List ℕ)) → dropped ≡ length lines → (job console steps : SourceState) → ReadsAlongIf (map a_text lines ++ a_stop ∷ []) (ResetComes (Some k) lines alarm) self.old self.new job console steps result }
         ensures so_far { (lines : List (List ℕ)) → dropped ≡ length lines → (job console steps : SourceState) (job_text console_text steps_text : List ℕ) →
             IsDropping self.old job console steps job_text console_text steps_text (map a_text lines ++ a_stop ∷ []) → IsUnderWay self.new job console steps job_text console_text steps_text }
         ensures sending { self.new.sending.reader ≡ self.old.sending.reader }
         ensures listening { self.new.listening.reader ≡ self.old.listening.reader }
         ensures recorded { self.new.recorded.reader ≡ self.old.recorded.reader }
+        ensures stands { IsLater self.old.course (mark_of (Some k)) → IsMarkBehind (Some k) self.old.course.work.number → (not self.old.course.unanswered && self.old.course.line.halts) ≡ false → HasCause self.old.course self.old.listening.known → TellsReset self.old.listening.known → alarm ≡ is_alarm self.old.listening.known → (lines : List (List ℕ)) → dropped ≡ length lines → self.old.sending.last ≡ None → (job console steps : SourceState) → ReadsOnIf (map a_text lines ++ a_stop ∷ []) (LooksAndHears self.old (mark_of (Some k)) self.old.listening.known) self.old self.new job console steps job console steps result }
     {
         if self.course.reset(k, dropped, alarm) {
             self.recorded.take();
@@ -286,6 +294,7 @@ impl Auditor {
         ensures listening { self.new.listening ≡ self.old.listening }
         ensures recorded { self.new.recorded ≡ self.old.recorded }
         ensures broken { self.new.broken ≡ None → ⊥ }
+        ensures stands { IsLater self.old.course None → (not self.old.course.unanswered && self.old.course.line.halts) ≡ false → HasCause self.old.course self.old.listening.known → TellsReset self.old.listening.known → alarm ≡ is_alarm self.old.listening.known → (lines : List (List ℕ)) → dropped ≡ length lines → self.old.sending.last ≡ None → (job console steps : SourceState) → ReadsOnIf (map a_text lines ++ a_stop ∷ []) (LooksAndHears self.old None self.old.listening.known) self.old self.new job console steps job console steps result }
     {
         if self.course.reset_unrecorded(dropped, alarm) {
             return None;

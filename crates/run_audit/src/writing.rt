@@ -3,10 +3,11 @@
 ghost use Rattle.std.specs.Prelude.{◌≡◌, ◌≢◌, ℕ, List, Some, MatchResult, IfOk, not, is_ok, length, true};
 ghost use Rattle.outside.specs.Causes.{Rose};
 ghost use Rattle.outside.specs.Writing.{Took};
-ghost use Rattle.audit_rules.specs.Findings.{audit_text};
+ghost use Rattle.audit_rules.specs.Findings.{Finds, audit_text};
 ghost use Rattle.run_audit.specs.Going.{AllSame, IsCaused};
 ghost use Rattle.run_audit.specs.Auditing.{IsAnswered, IsOfTexts, RightOf, TellsRightly, is_found};
-ghost use Rattle.run_audit.specs.UnderWay.{IsSaid, OnlyFits};
+ghost use Rattle.run_audit.specs.Finding.{audit_of};
+ghost use Rattle.run_audit.specs.UnderWay.{IsSaid};
 
 use crate::auditor::{Auditor, Finding, Unread};
 use audit_readers::put_audit;
@@ -25,10 +26,11 @@ fn tell<O: Sink>(audit: &Audit, out: &mut O) -> Result<(), Failed>
 }
 
 /// The answer where something was found.
-#[tactic(auto, using(crate::proofs::Telling::fits_told, crate::proofs::Telling::misfit_told, crate::proofs::Telling::replies_told, crate::proofs::Telling::foreign_told, crate::proofs::Telling::too_long_told))]
+#[tactic(auto, using(crate::proofs::Telling::told_rightly))]
 fn answer_of(found: Finding) -> Audit
     ensures found { is_found result ≡ true }
-    ensures right { (job console steps : List ℕ) → IsSaid job console steps found → OnlyFits job console steps found → TellsRightly job console steps result }
+    ensures is { result ≡ audit_of found }
+    ensures right { (job console steps : List ℕ) → IsSaid job console steps found → Finds job console steps (audit_of found) → TellsRightly job console steps result }
 {
     match found {
         Finding::Fits(events) => Audit::Fits { events },
@@ -47,8 +49,8 @@ fn audit<J: Source, C: Source, S: Source>(
 ) -> Result<Finding, Unread>
     ensures right { IfOk result (λ found. (job_text console_text steps_text : List ℕ) → (J.state job.old).left ≡ Some job_text → (C.state console.old).left ≡ Some console_text → (S.state steps.old).left ≡ Some steps_text →
         IsSaid job_text console_text steps_text found) }
-    ensures along { IfOk result (λ found. (job_text console_text steps_text : List ℕ) → (J.state job.old).left ≡ Some job_text → (C.state console.old).left ≡ Some console_text → (S.state steps.old).left ≡ Some steps_text →
-        OnlyFits job_text console_text steps_text found) }
+    ensures finds { IfOk result (λ found. (job_text console_text steps_text : List ℕ) → (J.state job.old).left ≡ Some job_text → (C.state console.old).left ≡ Some console_text → (S.state steps.old).left ≡ Some steps_text →
+        Finds job_text console_text steps_text (audit_of found)) }
     ensures known { MatchResult result (λ found. AllSame (J.state job.old) (C.state console.old) (S.state steps.old) (J.state job.new) (C.state console.new) (S.state steps.new))
         (λ e. IsCaused e (J.state job.old) (C.state console.old) (S.state steps.old) (J.state job.new) (C.state console.new) (S.state steps.new)) }
 {

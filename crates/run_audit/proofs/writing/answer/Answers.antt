@@ -6,7 +6,7 @@ use Rattle.run_audit.proofs.writing.answer.Goals as goal
 pub returns-in-Ok-clause-right : goal.returns-in-Ok-clause-right
 returns-in-Ok-clause-right g c =
     all_right (g.J.Source.state c.args.job.now).left (g.C.Source.state c.args.console.now).left (g.S.Source.state c.args.steps.now).left c.answer_of.result
-    (λ j k s e f h. c.answer_of.ensures.right j k s (c.in-Ok.ensures.right j k s e f h) (c.in-Ok.ensures.along j k s e f h))
+    (λ j k s e f h. c.answer_of.ensures.right j k s (c.in-Ok.ensures.right j k s e f h) (c.in-Ok.ensures.finds j k s e f h))
 
 pub returns-in-Err-Job-clause-right : goal.returns-in-Err-Job-clause-right
 returns-in-Err-Job-clause-right g c = none_right (g.J.Source.state c.args.job.now).left (g.C.Source.state c.args.console.now).left (g.S.Source.state c.args.steps.now).left JobFault refl

@@ -20,9 +20,9 @@ returns-in-Ok-clause-right g c =
     let steps = g.S.Source.state c.open.new.source in
     goes_on_by c.run.result (λ found f jt ct st j k s. f jt ct st (c.new.ensures.opens job console steps jt ct st j k (c.in-Ok.ensures.opens st s))) c.run.ensures.right
 
-pub returns-in-Ok-clause-along : goal.returns-in-Ok-clause-along
-returns-in-Ok-clause-along g c =
+pub returns-in-Ok-clause-finds : goal.returns-in-Ok-clause-finds
+returns-in-Ok-clause-finds g c =
     let job = g.J.Source.state c.args.job.now in
     let console = g.C.Source.state c.args.console.now in
     let steps = g.S.Source.state c.open.new.source in
-    goes_on_by c.run.result (λ found f jt ct st j k s. f jt ct st (c.new.ensures.opens job console steps jt ct st j k (c.in-Ok.ensures.opens st s))) c.run.ensures.along
+    goes_on_by c.run.result (λ found f jt ct st j k s. f jt ct st (c.new.ensures.opens job console steps jt ct st j k (c.in-Ok.ensures.opens st s))) c.run.ensures.finds

@@ -1,7 +1,8 @@
-use Rattle.std.proofs.Common.{refl}
+use Rattle.std.proofs.Common.{◌∙◌, ap, arith, not, refl, sym, Bool, ◌&&◌}
+use Rattle.audit_rules.proofs.OneWay.{both}
 use Rattle.run_audit.proofs.Under.{line_told, bad_found, taken_read, can_read}
-use Rattle.run_audit.proofs.FewAlong.{next_counted}
-use Rattle.run_audit.proofs.LinesAlong.{line_along}
+use Rattle.run_audit.proofs.LineBegun.{line_begun, none_waits}
+use Rattle.run_audit.proofs.Bounded.{line_on_way}
 use Rattle.run_audit.proofs.auditor.Auditor.begin.Goals as goal
 
 pub returns-then-begin-clause-goes_on : goal.returns-then-begin-clause-goes_on
@@ -15,17 +16,29 @@ pub returns-clause-goes_on : goal.returns-clause-goes_on
 returns-clause-goes_on c = λ job console steps.
     let a = c.args.self.now in
     let kept = a.sending.reader.line.kept in
-    bad_found a _ job console steps job console steps c.bad_behind.result c.bad_behind.ensures
+    bad_found a _ job console steps job console steps c.bad_behind.result c.bad_behind.ensures.bad
     (λ jt ct st u. taken_read a _ job console steps _ jt ct st (λ t told h. c.take_line.ensures.told c.requires.line.0 c.requires.line.1 job t told h) refl refl (can_read a job console steps jt ct st u))
 
-pub returns-then-begin-clause-along : goal.returns-then-begin-clause-along
-returns-then-begin-clause-along c = λ done job console steps jt ct st events f may u n.
+pub returns-then-begin-clause-stands : goal.returns-then-begin-clause-stands
+returns-then-begin-clause-stands c = λ next later calm none fits job console steps jt ct st short u p n few.
     let kept = c.args.self.now.sending.reader.line.kept in
     let yes = c.if-begin.true in
-    line_along u c.args.error n c.begin.new.self c.take_line.new.self done c.requires.line (c.begin.ensures.yes yes kept c.kept-line.ensures) (c.begin.ensures.alone yes kept c.kept-line.ensures)
-    (c.take_line.ensures.told c.requires.line.0 c.requires.line.1) (c.take_line.ensures.untold c.requires.line.0) c.take_line.ensures.over c.take_line.ensures.last
-    (c.begin.ensures.unanswered yes) (c.begin.ensures.in_hand yes) (c.begin.ensures.lost yes) (c.begin.ensures.work yes kept c.kept-line.ensures)
+    line_begun u short next p.0 later calm none c.args.error fits p.1 c.begin.new.self c.take_line.new.self kept
+    (record {
+      adds = c.begin.ensures.yes yes kept c.kept-line.ensures;
+      hears = c.begin.ensures.heard yes kept c.kept-line.ensures;
+      line = c.begin.ensures.hears_line yes kept c.kept-line.ensures;
+      unanswered = c.begin.ensures.unanswered yes;
+      number = c.begin.ensures.number yes;
+      lost = c.begin.ensures.lost yes;
+      short = c.begin.ensures.short yes kept c.kept-line.ensures;
+    })
+    (c.take_line.ensures.told c.requires.line.0 c.requires.line.1 job jt u.sent u.are_read.job_so_far) (c.take_line.ensures.untold c.requires.line.0)
+    (c.take_line.ensures.over ∙ u.are_read.job_so_far.waiting u.calm c.requires.line.1) (c.take_line.ensures.last ∙ u.calm) n few
 
-pub returns-clause-along : goal.returns-clause-along
-returns-clause-along c = λ done job console steps jt ct st events f may u n.
-    absurd ((c.begin.ensures.no c.if-begin.false done (next_counted u.along n.kept n.behind n.sent) f.fit.fits.first u.along.sent u.along.replies u.along.records u.along.judged n.kept n.outcome).0 n.is)
+pub returns-clause-stands : goal.returns-clause-stands
+returns-clause-stands c = λ next later calm none fits job console steps jt ct st short u p n few.
+    let counted = line_on_way u c.requires.line in
+    let answered = none_waits u later.done none p.1 in
+    let halts = c.begin.ensures.halted c.if-begin.false later.done (omega (arith, counted)) answered in
+    both c.args.self.now.course.line.halts halts (ap (λ (b : Bool). not b && c.args.self.now.course.line.halts) (sym answered) ∙ calm)

@@ -1,11 +1,9 @@
-use Rattle.std.proofs.Common.{refl, arith}
+use Rattle.std.proofs.Common.{refl}
 use Rattle.step_line.specs.declared.Mark.TheVariants.{Cut as CutMark}
 use Rattle.step_line.specs.declared.Record.TheVariants as kinds
 use Rattle.run_audit.specs.declared.auditor.Auditor.{Auditor}
 use Rattle.run_audit.proofs.Under.{record_told, broken_by}
-use Rattle.run_audit.proofs.Along.{cut_along, record_never}
-use Rattle.run_audit.proofs.FewAlong.{cuts_along, place_along}
-use Rattle.run_audit.proofs.NextAlong.{cut_comes_along}
+use Rattle.run_audit.proofs.NextOnWay.{cut_refused, cut_taken}
 use Rattle.run_audit.proofs.auditor.Auditor.cut.Goals as goal
 
 pub returns-then-cut-clause-so_far : goal.returns-then-cut-clause-so_far
@@ -18,13 +16,14 @@ pub returns-clause-so_far : goal.returns-clause-so_far
 returns-clause-so_far c = λ job console steps.
     broken_by c.args.self.now c.break_off.new.self job console steps c.break_off.ensures.sending c.break_off.ensures.listening c.break_off.ensures.recorded c.break_off.ensures.broken
 
-pub returns-then-cut-clause-along : goal.returns-then-cut-clause-along
-returns-then-cut-clause-along c = λ done job console steps jt ct st events f may u is.
-    let mark = kinds.Mark (CutMark c.args.k) in
-    let n = cut_comes_along u c.args.k is.0 done is.1 in
-    cut_along u c.cut.new.self c.take.new.self c.args.k is.0.comes n.1 (λ t told h. c.take.ensures.told mark c.requires.next steps t told h) (c.cut.ensures.yes c.if-cut.true)
-    c.cut.ensures.work (c.cut.ensures.unanswered c.if-cut.true) (c.cut.ensures.begins c.if-cut.true)
+pub returns-then-cut-clause-stands : goal.returns-then-cut-clause-stands
+returns-then-cut-clause-stands c = λ unowed done before job console steps jt ct st short u looked n few.
+    cut_taken u c.args.k looked.0 looked.1 done before c.cut.new.self c.cut.ensures.work c.cut.ensures.number c.take.new.self (λ t told h. c.take.ensures.told (kinds.Mark (CutMark c.args.k)) c.requires.next steps t told h)
+    (c.cut.ensures.yes c.if-cut.true) (c.cut.ensures.point c.if-cut.true) (c.cut.ensures.unanswered c.if-cut.true) (c.cut.ensures.begins c.if-cut.true) n few
 
-pub returns-clause-along : goal.returns-clause-along
-returns-clause-along c = λ done job console steps jt ct st events f may u is.
-    absurd (record_never u (kinds.Mark (CutMark c.args.k)) is.0.comes (c.cut.ensures.no c.if-cut.false done (let early = is.1 in omega (arith, early)) (place_along u) (cuts_along u)))
+pub returns-clause-stands : goal.returns-clause-stands
+returns-clause-stands c = λ unowed done before job console steps jt ct st short u looked n few.
+    let b = c.break_off in
+    cut_refused u c.args.k looked.0 looked.1 done before c.cut.new.self c.cut.ensures.work c.cut.ensures.number (c.cut.ensures.heard c.if-cut.false) c.cut.ensures.halts b.new.self
+    (record { sending = b.ensures.sending; listening = b.ensures.listening; recorded = b.ensures.recorded; course = b.ensures.others.0; answered = b.ensures.others.1; broken = b.ensures.at looked.0 })
+    (c.cut.ensures.here c.if-cut.false) n few

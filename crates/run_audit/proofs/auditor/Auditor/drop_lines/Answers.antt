@@ -1,17 +1,16 @@
-use Rattle.std.proofs.Common.{◌≡◌, ◌+◌, ◌∙◌, ◌∷◌, ◌++◌, [], map, ℕ, Bool, ap, refl, sym, subst, arith}
+use Rattle.std.proofs.Common.{◌≡◌, ◌+◌, ◌∙◌, ◌∷◌, ◌++◌, [], append-nil, map, Some, ap, refl, sym, subst, arith}
 use Rattle.std.proofs.lemmas.List.{length_push}
 use Rattle.audit_readers.specs.Jobs.{JobRead}
 use Rattle.run_texts.specs.Sent.Sent.{a_text, a_stop}
-use Rattle.run_audit.specs.Along.{is_alarm}
+use Rattle.run_audit.specs.Coming.{is_alarm}
 use Rattle.audit_texts.specs.Reading.{KnowsJob}
-use Rattle.audit_texts.specs.SoFar.{IsItem}
+use Rattle.audit_texts.specs.SoFar.{IsItem, JobSoFar}
 use Rattle.run_audit.specs.UnderWay.{mark_of}
 use Rattle.audit_texts.specs.declared.sending.Item.{Item}
 use Rattle.run_audit.specs.declared.auditor.Auditor.{Auditor}
 use Rattle.run_audit.proofs.Under.{drops_none, drops_on, drops_more, line_dropped, dropping_read, bad_found, next_stays, on_or_bad}
-use Rattle.run_audit.proofs.LinesAlong.{line_drops, never_nothing, none_dropped, not_so_many, stop_comes}
-use Rattle.audit_course.specs.declared.judge.CourseJudge.{CourseJudge}
-use Rattle.run_audit.specs.Along.{LeadsAlong, ResetComes}
+use Rattle.run_audit.specs.Finding.{LeadsOnIf, LooksAndHears}
+use Rattle.run_audit.proofs.ResetSteps.{FindsWaiting, MakesReset, line_more, lines_looked, none_found, not_so_many_lines, same_but_sending, stop_made, stop_more}
 use Rattle.run_audit.proofs.auditor.Auditor.drop_lines.Goals as goal
 
 pub lines-init : goal.lines-init
@@ -19,9 +18,10 @@ lines-init g c = record {
   known = c.requires.known;
   same = refl;
   others = record { course = refl; listening = refl; recorded = refl; broken = refl; last = refl };
+  answered = refl;
   few = omega arith;
+  reads = λ jt sent h. ([], refl, subst (JobSoFar c.args.self.now.sending (g.J.Source.state c.args.job.now) jt) (sym (append-nil sent)) h);
   dropping = λ console steps jt ct st u. ([], refl, drops_none c.args.self.now (g.J.Source.state c.args.job.now) console steps jt ct st u);
-  along = λ console steps jt ct st events f u lines n. none_dropped u c.args.mark lines (is_alarm c.args.self.now.listening.known) n;
 }
 
 pub lines-preserved : goal.lines-preserved
@@ -43,7 +43,9 @@ lines-preserved g c =
       known = subst (λ (r : JobRead). KnowsJob r after) (sym c.take_line.ensures.reader) look.known.0;
       same = look.known.1 ∙ i.same;
       others = record { course = i.others.course; listening = i.others.listening; recorded = i.others.recorded; broken = i.others.broken; last = c.take_line.ensures.last ∙ look.last ∙ i.others.last };
+      answered = i.answered;
       few = omega (arith, one, few);
+      reads = line_more c.args.self.now.sending a.sending c.look.new.self c.take_line.new.self (g.J.Source.state c.args.job.now) before after c.lines.dropped c.saturating_add-dropped.result kept one i.reads look.so_far (c.take_line.ensures.told item.0 item.1 after);
       dropping = λ console steps jt ct st u.
           let d = i.dropping console steps jt ct st u in
           let count = d.1 in
@@ -52,8 +54,6 @@ lines-preserved g c =
             omega (arith, one, count, push),
             line_dropped a b e before after console steps kept jt ct st d.0 look.so_far (λ t told h. h) (λ t told h. h) refl refl (λ t told h. c.take_line.ensures.told item.0 item.1 after t told h) refl refl refl refl d.2,
           );
-      along = λ console steps jt ct st events f u lines n.
-          line_drops (i.along console steps jt ct st events f u lines n) c.look.new.self c.take_line.new.self after c.saturating_add-dropped.result look.so_far look.last item (c.take_line.ensures.told item.0 item.1 after) c.take_line.ensures.last one;
     }
 
 pub make_reset-requires : goal.make_reset-requires
@@ -91,29 +91,40 @@ pub returns-clause-goes_on : goal.returns-clause-goes_on
 returns-clause-goes_on g c = λ console steps.
     let i = c.lines.invariant in
     let after = g.J.Source.state c.lines.job in
-    bad_found c.args.self.now c.lines.self (g.J.Source.state c.args.job.now) console steps after console steps c.bad_behind.result c.bad_behind.ensures
+    bad_found c.args.self.now c.lines.self (g.J.Source.state c.args.job.now) console steps after console steps c.bad_behind.result c.bad_behind.ensures.bad
     (λ jt ct st u. let d = i.dropping console steps jt ct st u in dropping_read c.lines.self after console steps jt ct st (map a_text d.0) d.2)
 
-pub returns-in-Ok-Stop-clause-along : goal.returns-in-Ok-Stop-clause-along
-returns-in-Ok-Stop-clause-along g c = λ done console steps jt ct st events f may u n.
-    let d = c.lines.invariant.along console steps jt ct st events f u n.0 n.1 in
-    let after = g.J.Source.state c.look.new.source in
+pub returns-in-Ok-Stop-clause-stands : goal.returns-in-Ok-Stop-clause-stands
+returns-in-Ok-Stop-clause-stands g c = λ later behind cause calm resets.
+    let i = c.lines.invariant in
+    let a = c.args.self.now in
+    let now = c.take_stop.new.self in
     let look = c.in-Ok-Stop.ensures in
     let item = subst (λ (x : Item). IsItem x c.look.new.self) c.in-Ok-Stop.field-0-is look.item in
-    let w = stop_comes d c.look.new.self c.take_stop.new.self after look.so_far look.last item (c.take_stop.ensures.told item after) c.take_stop.ensures.last in
-    let same = c.lines.invariant.others.course in
-    let v = c.make_reset.ensures.along (ap (λ (k : CourseJudge). k.work.left) same ∙ done) n.0 w.0 after console steps jt ct st events f may w.1.0 (subst (λ (b : Bool). ResetComes c.args.mark n.0 b w.1.0.along.judged.point w.1.0.along.more w.1.0.along.told w.1.0.along.rest) (sym (c.is_alarm-alarm.ensures ∙ ap is_alarm c.known.ensures)) w.1.1) in
-    subst (λ (m : ℕ). LeadsAlong c.make_reset.new.self after console steps jt ct st events f m c.make_reset.result) w.1.2 v
+    let after = g.J.Source.state c.look.new.source in
+    stop_made a c.make_reset.new.self c.args.mark c.lines.dropped c.is_alarm-alarm.result c.make_reset.result now (g.J.Source.state c.args.job.now) after
+    (subst (λ (x : Auditor). MakesReset (record x { sending = now }) c.make_reset.new.self c.args.mark c.lines.dropped c.is_alarm-alarm.result c.make_reset.result) (same_but_sending a c.lines.self i.others i.answered) c.make_reset.ensures.stands)
+    later behind cause calm resets (c.is_alarm-alarm.ensures ∙ ap is_alarm c.known.ensures) (c.take_stop.ensures.last ∙ look.last ∙ i.others.last)
+    (stop_more a.sending c.lines.self.sending c.look.new.self now (g.J.Source.state c.args.job.now) (g.J.Source.state c.lines.job) after c.lines.dropped i.reads look.so_far (c.take_stop.ensures.told item after))
 
-pub returns-in-Ok-Nothing-clause-along : goal.returns-in-Ok-Nothing-clause-along
-returns-in-Ok-Nothing-clause-along g c = λ done console steps jt ct st events f may u n.
+pub returns-in-Ok-Nothing-clause-stands : goal.returns-in-Ok-Nothing-clause-stands
+returns-in-Ok-Nothing-clause-stands g c = λ later behind cause calm resets console steps.
+    let i = c.lines.invariant in
+    let a = c.args.self.now in
+    let now = c.look.new.self in
     let look = c.in-Ok-Nothing.ensures in
-    never_nothing (c.lines.invariant.along console steps jt ct st events f u n.0 n.1) c.look.new.self (g.J.Source.state c.look.new.source) look.so_far look.last
-    (subst (λ (x : Item). IsItem x c.look.new.self) c.in-Ok-Nothing.field-0-is look.item) (look.over c.in-Ok-Nothing.field-0-is)
+    let item = subst (λ (x : Item). IsItem x c.look.new.self) c.in-Ok-Nothing.field-0-is look.item in
+    let before = g.J.Source.state c.args.job.now in
+    let after = g.J.Source.state c.look.new.source in
+    let same = same_but_sending a c.lines.self i.others i.answered in
+    subst (λ (x : Auditor). LeadsOnIf (LooksAndHears a (mark_of c.args.mark) a.listening.known) a (record x { sending = now }) before console steps after console steps (Some c.none_comes.result)) (sym same)
+    (none_found a (mark_of c.args.mark) c.lines.dropped c.none_comes.result now before after later calm resets (look.last ∙ i.others.last) (look.over c.in-Ok-Nothing.field-0-is) item
+    (subst (λ (x : Auditor). FindsWaiting x c.lines.dropped c.none_comes.result) same c.none_comes.ensures.line)
+    (lines_looked a.sending c.lines.self.sending now before (g.J.Source.state c.lines.job) after c.lines.dropped i.reads look.so_far) console steps)
 
-pub returns-clause-along : goal.returns-clause-along
-returns-clause-along g c = λ done console steps jt ct st events f may u n.
+pub returns-clause-stands : goal.returns-clause-stands
+returns-clause-stands g c = λ later behind cause calm resets console steps.
     let few = c.lines.invariant.few in
     let over = c.lines-test.false in
     let end = c.lines.auto.counter-end in
-    not_so_many (c.lines.invariant.along console steps jt ct st events f u n.0 n.1) (grind (arith, few, over, end))
+    not_so_many_lines c.args.self.now c.lines.self (mark_of c.args.mark) c.lines.dropped c.bad_behind.result c.lines.self.sending (g.J.Source.state c.args.job.now) (g.J.Source.state c.lines.job) (grind (arith, few, over, end)) c.lines.invariant.reads console steps

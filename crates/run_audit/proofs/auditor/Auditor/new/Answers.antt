@@ -14,5 +14,6 @@ returns-clause-opens c = λ job console steps jt ct st known told so_far.
       begins = c.new.ensures.begins;
       kept = c.new.ensures.kept;
       counts = refl;
+      answered = refl;
       calm = c.new-2.ensures.last;
     }

@@ -1,4 +1,4 @@
-use Rattle.std.proofs.Common.{◌≡◌, List, ℕ, true}
+use Rattle.std.proofs.Common.{◌≡◌, ◌≤◌, List, ℕ, length, true}
 use Rattle.outside.specs.Causes.{SourceState}
 use Rattle.audit_texts.specs.Reading.{KnowsJob, IsSame}
 use Rattle.audit_texts.specs.SoFar.{IsItem}
@@ -13,5 +13,7 @@ invariant-rest g l = record {
   others : OthersStay l.fn.self l.self;
   can_be_read : (console steps : SourceState) (job_text console_text steps_text : List ℕ) → CanBeRead l.fn.self (g.J.Source.state l.fn.job) console steps job_text console_text steps_text
       → CanBeRead l.self (g.J.Source.state l.job) console steps job_text console_text steps_text;
+  grows : (console steps : SourceState) (job_text console_text steps_text : List ℕ) → CanBeRead l.fn.self (g.J.Source.state l.fn.job) console steps job_text console_text steps_text
+      → (r : CanBeRead l.self (g.J.Source.state l.job) console steps job_text console_text steps_text) × (l.counter ≤ length r.sent);
   over : l.fn.self.sending.over ≡ true → IsItem Nothing l.fn.self.sending → l.self.sending ≡ l.fn.self.sending;
 }

@@ -1,13 +1,12 @@
-use Rattle.std.proofs.Common.{◌≡◌, ◌∷◌, ◌++◌, [], ℕ, List, Some, refl, ◌∙◌, subst, arith}
+use Rattle.std.proofs.Common.{ap, refl, sym, ◌∙◌, subst}
 use Rattle.step_line.specs.declared.Mark.TheVariants.{Reset as ResetMark}
-use Rattle.step_line.specs.declared.Record.{Record}
 use Rattle.step_line.specs.declared.Record.TheVariants as kinds
-use Rattle.audit_course.specs.SoFar.{AddsReset, RefusesReset}
-use Rattle.audit_texts.specs.SoFar.{StepsSoFar}
 use Rattle.run_audit.specs.declared.auditor.Auditor.{Auditor}
 use Rattle.run_audit.proofs.Under.{reset_told, reset_untold}
-use Rattle.run_audit.proofs.FewAlong.{few_dropped, place_along}
-use Rattle.run_audit.proofs.LinesAlong.{never_reset, reset_along}
+use Rattle.line_interpreter.specs.declared.interpreter.Interpreter.{Interpreter}
+use Rattle.run_audit.proofs.BreaksOff.{HeardAs, off}
+use Rattle.run_audit.proofs.MarkRefused.{PassesReset, mark_refused}
+use Rattle.run_audit.proofs.ResetSteps.{mark_taken}
 use Rattle.run_audit.proofs.auditor.Auditor.take_reset.Goals as goal
 
 pub returns-then-reset-clause-so_far : goal.returns-then-reset-clause-so_far
@@ -23,21 +22,26 @@ returns-clause-so_far c = λ lines few job console steps jt ct st u.
     let b = c.pass_reset.new.self in
     reset_untold a b _ job console steps jt ct st (c.pass_reset.ensures.sending ∙ c.break_off.ensures.sending) (c.pass_reset.ensures.listening ∙ c.break_off.ensures.listening) (c.pass_reset.ensures.recorded ∙ c.break_off.ensures.recorded) c.pass_reset.ensures.broken u
 
-pub returns-then-reset-clause-along : goal.returns-then-reset-clause-along
-returns-then-reset-clause-along c = λ done lines count job console steps jt ct st events f may u n.
+pub returns-then-reset-clause-stands : goal.returns-then-reset-clause-stands
+returns-then-reset-clause-stands c = λ later behind calm cause resets same lines count last job console steps.
+    let a = c.args.self.now in
     let yes = c.if-reset.true in
-    let same : c.args.k ≡ n.k = (let e = n.mark_is in cc) in
     let e = c.reset.ensures in
-    reset_along (Some c.args.k) lines c.args.alarm c.args.dropped u n c.reset.new.self c.take.new.self done count (subst (λ (k : ℕ). AddsReset c.args.self.now.course c.reset.new.self k c.args.dropped) same (e.yes yes)) (e.greets yes)
-    (subst (λ (k : ℕ). (text : List ℕ) (told : List Record) → StepsSoFar c.args.self.now.recorded steps text told → StepsSoFar c.take.new.self steps text (told ++ kinds.Mark (ResetMark k) ∷ [])) same
-    (λ t told h. c.take.ensures.told (kinds.Mark (ResetMark c.args.k)) c.requires.next steps t told h))
-    (e.answered yes) (e.begins yes) (e.short yes)
+    mark_taken a lines c.args.dropped count c.args.alarm a.listening.known resets same calm last c.reset.new.self c.take.new.self c.args.k later (e.yes yes) (e.greets yes) (e.answered yes) (e.calm yes) (e.quiet yes) (e.short yes) (e.no_line yes) (e.begins yes).kept job console steps
+    (c.take.ensures.told (kinds.Mark (ResetMark c.args.k)) c.requires.next steps)
 
-pub returns-clause-along : goal.returns-clause-along
-returns-clause-along c = λ done lines count job console steps jt ct st events f may u n.
-    let same : c.args.k ≡ n.k = (let e = n.mark_is in cc) in
-    let number = n.number in
-    let point = u.along.judged.number in
-    let few = few_dropped u.along lines n.behind n.sent in
-    let refuses = c.reset.ensures.no c.if-reset.false done (omega (arith, same, number, point)) (place_along u.along) (omega (arith, few, count)) in
-    absurd (never_reset u.along (Some c.args.k) lines c.args.alarm c.args.dropped n count (subst (λ (k : ℕ). RefusesReset c.args.self.now.course k c.args.dropped c.args.alarm) same refuses))
+pub returns-clause-stands : goal.returns-clause-stands
+returns-clause-stands c = λ later behind calm cause resets same lines count last job console steps.
+    let a = c.args.self.now in
+    let k = c.reset.new.self in
+    let no = c.if-reset.false in
+    let e = c.reset.ensures in
+    let o = c.break_off.ensures in
+    let work = e.work no in
+    let h : HeardAs a.course k = record { heard = e.heard no; unanswered = e.unanswered no; left = ap (λ (w : Interpreter). w.left) work; number = ap (λ (w : Interpreter). w.number) work; halts = e.halts no } in
+    mark_refused a c.pass_reset.new.self k h c.args.k c.args.dropped c.args.alarm c.pass_reset.result
+    (λ counts.
+    subst (λ (x : Auditor). PassesReset x c.pass_reset.new.self c.args.dropped c.args.alarm c.pass_reset.result)
+    (sym (off (record a { course = k }) c.break_off.new.self (record { sending = o.sending; listening = o.listening; recorded = o.recorded; course = o.others.0; answered = o.others.1; broken = o.at counts })))
+    c.pass_reset.ensures.stands)
+    (e.here no) later (behind c.args.k refl) calm cause resets same lines count last job console steps

@@ -1,8 +1,7 @@
 use Rattle.std.proofs.Common.{refl, sym, ◌∙◌}
 use Rattle.run_audit.specs.declared.auditor.Auditor.{Auditor}
 use Rattle.run_audit.proofs.Under.{record_told, broken_by}
-use Rattle.run_audit.proofs.Along.{record_along, record_never}
-use Rattle.run_audit.proofs.FewAlong.{events_along, place_along}
+use Rattle.run_audit.proofs.StageOn.{record_leads, refused_leads}
 use Rattle.run_audit.proofs.auditor.Auditor.takes.Goals as goal
 
 pub returns-then-not-owes-clause-so_far : goal.returns-then-not-owes-clause-so_far
@@ -18,11 +17,21 @@ pub returns-else-take-clause-so_far : goal.returns-else-take-clause-so_far
 returns-else-take-clause-so_far c = λ job console steps.
     broken_by c.args.self.now c.break_off.new.self job console steps c.break_off.ensures.sending c.break_off.ensures.listening c.break_off.ensures.recorded c.break_off.ensures.broken
 
-pub returns-then-take-clause-along : goal.returns-then-take-clause-along
-returns-then-take-clause-along c = λ yes job console steps jt ct st events f may u comes.
-    record_along u c.take.new.self c.take-then-take.new.self c.args.record.now comes (sym c.is_ending.ensures ∙ c.if-is_ending.false) (λ t told h. c.take-then-take.ensures.told c.args.record.now c.requires.next steps t told h) (c.take.ensures.yes c.if-take.true)
-    c.take.ensures.work c.take.ensures.line
+pub returns-then-take-clause-stands : goal.returns-then-take-clause-stands
+returns-then-take-clause-stands c = λ yes job console steps jt ct st short u looked.
+    record_leads u c.take.new.self c.take-then-take.new.self c.args.record.now looked (sym c.is_ending.ensures ∙ c.if-is_ending.false) (λ t told h. c.take-then-take.ensures.told c.args.record.now c.requires.next steps t told h)
+    (c.take.ensures.yes c.if-take.true) c.take.ensures.heard c.take.ensures.work c.take.ensures.line
 
-pub returns-else-take-clause-along : goal.returns-else-take-clause-along
-returns-else-take-clause-along c = λ yes job console steps jt ct st events f may u comes.
-    absurd (record_never u c.args.record.now comes (c.take.ensures.no c.if-take.false (c.owes.ensures.owes.0 c.if-not-owes.false) (sym c.is_ending.ensures ∙ c.if-is_ending.false) (place_along u) (events_along u)))
+pub returns-else-take-clause-stands : goal.returns-else-take-clause-stands
+returns-else-take-clause-stands c = λ yes job console steps jt ct st short u looked.
+    refused_leads u c.take.new.self c.break_off.new.self c.args.record.now looked (sym c.is_ending.ensures ∙ c.if-is_ending.false)
+    (c.take.ensures.here c.if-take.false (c.owes.ensures.owes.0 c.if-not-owes.false) (sym c.is_ending.ensures ∙ c.if-is_ending.false))
+    c.take.ensures.heard c.take.ensures.work c.take.ensures.line
+    (record {
+      sending = c.break_off.ensures.sending;
+      listening = c.break_off.ensures.listening;
+      recorded = c.break_off.ensures.recorded;
+      course = c.break_off.ensures.others.0;
+      answered = c.break_off.ensures.others.1;
+      broken = c.break_off.ensures.at looked.0;
+    })

@@ -1,7 +1,7 @@
+use Rattle.std.proofs.Common.{refl}
 use Rattle.run_audit.specs.declared.auditor.Auditor.{Auditor}
 use Rattle.run_audit.proofs.Under.{reads_on, goes_on_by}
-use Rattle.run_audit.proofs.Along.{work_along}
-use Rattle.std.proofs.Common.{refl}
+use Rattle.run_audit.proofs.StageOn.{task_leads}
 use Rattle.run_audit.proofs.auditor.Auditor.work.Goals as goal
 
 pub returns-in-Work-clause-goes_on : goal.returns-in-Work-clause-goes_on
@@ -16,10 +16,15 @@ returns-in-Work-clause-goes_on g c =
 pub returns-in-Tell-clause-goes_on : goal.returns-in-Tell-clause-goes_on
 returns-in-Tell-clause-goes_on g c = goes_on_by c.hear.result (λ found f. f (g.J.Source.state c.args.job.now) (g.S.Source.state c.args.steps.now)) c.hear.ensures.goes_on
 
-pub returns-in-Work-clause-along : goal.returns-in-Work-clause-along
-returns-in-Work-clause-along g c = λ jt ct st events f may u is.
+pub returns-in-Work-clause-stands : goal.returns-in-Work-clause-stands
+returns-in-Work-clause-stands g c = λ unowed jt ct st short u looked.
     let w = c.work_on.ensures in
-    work_along u c.work_on.new.self c.args.record is w.stays w.left w.work (c.in-Work.ensures.work refl).0 w.unanswered w.in_hand w.lost w.halts
+    let some = c.in-Work.ensures.work refl in
+    task_leads u c.work_on.new.self c.args.record looked unowed w.stays w.heard w.work some.0 some.1 w.number w.unanswered w.halting w.lost
 
-pub returns-in-Tell-clause-along : goal.returns-in-Tell-clause-along
-returns-in-Tell-clause-along g c = goes_on_by c.hear.result (λ found h jt ct st events f may u is. h (g.J.Source.state c.args.job.now) (g.S.Source.state c.args.steps.now) jt ct st events f may u tt) c.hear.ensures.along
+pub returns-in-Tell-clause-stands : goal.returns-in-Tell-clause-stands
+returns-in-Tell-clause-stands g c = λ unowed.
+    goes_on_by c.hear.result (λ found h jt ct st short u looked. h (g.J.Source.state c.args.job.now) (g.S.Source.state c.args.steps.now) jt ct st short u tt) c.hear.ensures.stands
+
+pub returns-in-Nothing-clause-stands : goal.returns-in-Nothing-clause-stands
+returns-in-Nothing-clause-stands g c = λ unowed. c.go_on.ensures.stands unowed (c.in-Nothing.ensures.nothing refl)
