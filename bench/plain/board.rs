@@ -222,7 +222,7 @@ impl Board {
     }
 
     /// Goes on with the lines. Every other time a piece comes first, where there is one.
-    fn go_on(&mut self, link: &mut Link) -> Turn {
+    fn serve_lines(&mut self, link: &mut Link) -> Turn {
         if !self.published && self.has_piece() {
             if self.publish(link) {
                 self.fill();
@@ -256,7 +256,7 @@ impl Board {
                 Turn::Did
             }
             Flags::None => {
-                let turn = self.go_on(link);
+                let turn = self.serve_lines(link);
                 if turn == Turn::Wait && self.greeted {
                     self.flags = Flags::Both;
                 }

@@ -294,13 +294,13 @@ impl Auditor {
                 self.course.work_on();
                 Ok(None)
             }
-            Next::Nothing => self.go_on(record, job, console, steps),
+            Next::Nothing => self.next_item(record, job, console, steps),
         }
     }
 
-    /// The line at hand is done.
+    /// The line at hand is done: a cut comes, or the mark of an earlier reset, which breaks a rule; else what comes next is entered.
     #[tactic(auto, using(crate::proofs::Known::rose_on, crate::proofs::Known::all_same_on, crate::proofs::Known::caused_on))]
-    fn go_on<J: Source, C: Source, S: Source>(
+    fn next_item<J: Source, C: Source, S: Source>(
         &mut self,
         record: Option<Record>,
         job: &mut J,

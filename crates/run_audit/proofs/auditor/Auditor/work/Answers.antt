@@ -27,4 +27,4 @@ returns-in-Tell-clause-stands g c = λ unowed.
     goes_on_by c.hear.result (λ found h jt ct st short u looked. h (g.J.Source.state c.args.job.now) (g.S.Source.state c.args.steps.now) jt ct st short u tt) c.hear.ensures.stands
 
 pub returns-in-Nothing-clause-stands : goal.returns-in-Nothing-clause-stands
-returns-in-Nothing-clause-stands g c = λ unowed. c.go_on.ensures.stands unowed (c.in-Nothing.ensures.nothing refl)
+returns-in-Nothing-clause-stands g c = λ unowed. c.next_item.ensures.stands unowed (c.in-Nothing.ensures.nothing refl)

@@ -6,7 +6,7 @@ use Rattle.step_line.specs.declared.Record.{Record}
 use Rattle.step_line.specs.declared.Record.TheVariants as kinds
 use Rattle.run_audit.specs.OnWay.{IsLooked, IsUnowed}
 use Rattle.run_audit.proofs.NextOnWay.{later_next, reset_early}
-use Rattle.run_audit.proofs.auditor.Auditor.go_on.Goals as goal
+use Rattle.run_audit.proofs.auditor.Auditor.next_item.Goals as goal
 
 pub returns-in-Some-Mark-Cut-clause-goes_on : goal.returns-in-Some-Mark-Cut-clause-goes_on
 returns-in-Some-Mark-Cut-clause-goes_on g c = c.cut.ensures.so_far (g.J.Source.state c.args.job.now) (g.C.Source.state c.args.console.now) (g.S.Source.state c.args.steps.now)
