@@ -44,7 +44,7 @@ told_to_fit job console steps TooLong right e = absurd cc
 
 -- and texts that fit, and of which that can be said, have that answer
 fitting_told : (job console steps : List ℕ) (a : Audit) (fit : FitAuditably job console steps) → Finds job console steps a → a ≡ Fits fit.0
-fitting_told job console steps a fit found = one_audit job console steps a (Fits fit.0) found (fit.2.short, λ h. none_foreign_of job console steps fit.0 fit.1 fit.2 h, fit.1)
+fitting_told job console steps a fit found = one_audit job console steps a (Fits fit.0) found (fit.2.short, λ h. none_foreign_of job console steps fit.0 fit.1 fit.2.audited h, fit.1)
 
 pub tells : (job_text console_text steps_text : List ℕ) (job job_behind console console_behind steps steps_behind : SourceState) (out out_behind : SinkState) (a : Audit)
     → RightOf job.left console.left steps.left a → IsAnswered 3 job job_behind console console_behind steps steps_behind out out_behind a

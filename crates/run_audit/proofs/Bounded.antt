@@ -123,7 +123,8 @@ lines_counted p q [] left (a_broken o ∷ ps) f = absurd f
 lines_counted p q (a_stop ∷ sent) left (a_broken o ∷ ps) f = absurd f
 lines_counted p q (a_text line ∷ sent) left (a_broken o ∷ ps) f = (let more = lines_counted (behind_broken p o) q sent left ps f.1 in omega (arith, more))
 
-numbered : {a : Auditor} {j c s : SourceState} {jt ct st : List ℕ} (u : IsOnWay a j c s jt ct st) → a.course.work.number ≡ texts_among u.sent + 1
+-- the next line comes behind all that was sent
+pub numbered : {a : Auditor} {j c s : SourceState} {jt ct st : List ℕ} (u : IsOnWay a j c s jt ct st) → a.course.work.number ≡ texts_among u.sent + 1
 numbered {a} {jt = jt} {ct = ct} {st = st} u = by u.phase where
   by : Phase a u.first jt ct st u.sent u.replies u.records → a.course.work.number ≡ texts_among u.sent + 1
   by (counting d) = d.judged.numbered

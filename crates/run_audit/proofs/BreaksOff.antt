@@ -1,5 +1,5 @@
 -- The record that comes next breaks a rule: steps stand no further, and break a rule there.
-use Rattle.std.proofs.Common.{◌≡◌, ◌≤◌, ℕ, ◌+◌, Bool, true, false, cond, ◌||◌, List, [], ◌∷◌, ◌++◌, append_assoc, append-nil, length, Some, None, refl, sym, ap, ◌∙◌, subst, arith}
+use Rattle.std.proofs.Common.{◌≡◌, ◌≤◌, ℕ, ◌+◌, true, false, List, [], ◌∷◌, ◌++◌, append_assoc, append-nil, length, Some, None, refl, sym, ap, ◌∙◌, subst, arith}
 use Rattle.std.specs.declared.option.Option.{Option}
 use Rattle.std.proofs.lemmas.List.{append_cancel_left}
 use Rattle.std.proofs.lemmas.List.Concat.{flat_map-append}
@@ -12,7 +12,7 @@ use Rattle.step_record.specs.Forms.{records_of as records_by}
 use Rattle.step_record.specs.declared.forms.Line.{Line}
 use Rattle.step_record.specs.declared.forms.Line.TheVariants as line_kinds
 use Rattle.run_rules.specs.declared.State.{State}
-use Rattle.run_rules.specs.Work.{Outcome, Task, tells}
+use Rattle.run_rules.specs.Work.{Outcome}
 use Rattle.run_texts.specs.Courses.{Passed}
 use Rattle.run_texts.specs.Courses.Passed.{a_line, a_broken, a_cut, a_reset}
 use Rattle.run_texts.specs.Points.{Point}
@@ -29,115 +29,16 @@ use Rattle.audit_rules.proofs.Come.{stand as come_stands}
 use Rattle.audit_rules.proofs.Lines.{one_line_here}
 use Rattle.audit_rules.proofs.Replies.{all_second}
 use Rattle.audit_course.specs.Heard.{StaysHeard}
-use Rattle.audit_course.specs.Progressing.{has_halt}
 use Rattle.audit_course.specs.SoFar.{HasJudged, left_to_tell}
 use Rattle.audit_course.specs.declared.judge.CourseJudge.{CourseJudge}
 use Rattle.audit_course.proofs.Heard.{heard_from_here}
 use Rattle.audit_texts.specs.SoFar.{RecordStands, StandsIn, StandsNoLine}
-use Rattle.audit_texts.specs.declared.listening.Listening.{Listening}
-use Rattle.audit_texts.specs.declared.recorded.Recorded.{Recorded}
 use Rattle.run_audit.specs.Finding.{Leads}
 use Rattle.run_audit.specs.OnWay.{BreaksThere, Broken, Counting, IsOnWay, IsToldTo, done_by, extra_of}
 use Rattle.run_audit.specs.OnWay.Phase.{broken}
-use Rattle.run_audit.specs.SafePoint.{SafePoint, Since, Stage}
-use Rattle.run_audit.specs.SafePoint.Since.{by_line, by_reset, by_wait}
-use Rattle.run_audit.specs.SafePoint.Stage.{at_safe, behind_safe}
 use Rattle.run_audit.specs.declared.auditor.Auditor.{Auditor}
 use Rattle.run_audit.proofs.SafeNow.{come_now}
-
--- ---- the line at hand stays
-
--- a judge goes on with the line that was at hand, and what it hears stays
-pub record HeardAs (j k : CourseJudge) : Type 0 where
-  pub heard : StaysHeard j k
-  pub unanswered : k.unanswered ≡ j.unanswered
-  pub left : k.work.left ≡ j.work.left
-  pub number : k.work.number ≡ j.work.number
-  pub halts : k.line.halts ≡ j.line.halts
-
-pub same_judge : (j : CourseJudge) → HeardAs j j
-same_judge j = record { heard = λ p before sent replies h. h; unanswered = refl; left = refl; number = refl; halts = refl }
-
--- what is left to tell of it stays
-pub tells_same : (j k : CourseJudge) → k.unanswered ≡ j.unanswered → k.work.left ≡ j.work.left → left_to_tell k ≡ left_to_tell j
-tells_same j k unanswered left = ap (λ (b : Bool). cond b [] (tells k.work.left)) unanswered ∙ ap (λ (ts : List Task). cond j.unanswered [] (tells ts)) left
-
--- it has the stage that it had
-module _ (a : Auditor) (k : CourseJudge) (l : Listening) (q : Recorded) (o : Option ℕ) (h : HeardAs a.course k) (first : State) (job console steps : List ℕ) where
-  since_as : (front : List Sent) (told : List Reply) (last : ℕ) (s : SafePoint first job console steps front told last) (later : List Sent) (heard : List Reply) → Since a first job console steps front told last s later heard
-      → Since (record a { course = k; listening = l; recorded = q; broken = o }) first job console steps front told last s later heard
-  since_as front told last s later heard (by_line x) = by_line (record {
-    kept = x.kept;
-    more = x.more;
-    waiting_is = x.waiting_is;
-    later_is = x.later_is;
-    not_anew = x.not_anew;
-    outcome = x.outcome;
-    becomes = x.becomes;
-    done = x.done;
-    work = x.work ∙ ap (λ (ts : List Task). x.done ++ ts) (sym h.left);
-    heard_is = x.heard_is;
-    unanswered = h.unanswered ∙ x.unanswered;
-    halts = ap (λ (b : Bool). b || has_halt k.work.left) h.halts ∙ ap (λ (ts : List Task). a.course.line.halts || has_halt ts) h.left ∙ x.halts;
-    number = h.number ∙ x.number;
-    untold = x.untold;
-    read_on = x.read_on;
-    answered = x.answered;
-  })
-  since_as front told last s later heard (by_wait x) = by_wait (record {
-    kept = x.kept;
-    more = x.more;
-    waiting_is = x.waiting_is;
-    later_is = x.later_is;
-    none = x.none;
-    unanswered = h.unanswered ∙ x.unanswered;
-    outcome = x.outcome;
-    broken = x.broken;
-    now = x.now;
-    stands = h.heard x.now [] [] [] x.stands;
-    resets = x.resets;
-    locked = x.locked;
-    reply = x.reply;
-    anew = x.anew;
-    number = h.number ∙ x.number;
-    answered = x.answered;
-  })
-  since_as front told last s later heard (by_reset x) = by_reset (record {
-    lines = x.lines;
-    more = x.more;
-    waiting_is = x.waiting_is;
-    later_is = x.later_is;
-    reply = x.reply;
-    anew = x.anew;
-    greets = x.greets ∙ ap (λ (rs : List Reply). heard ++ rs) (sym (tells_same a.course k h.unanswered h.left));
-    unanswered = h.unanswered ∙ x.unanswered;
-    calm = h.halts ∙ x.calm;
-    quiet = ap has_halt h.left ∙ x.quiet;
-    answered = x.answered;
-  })
-
-  pub stage_as : (sent : List Sent) (replies : List Reply) → Stage a first job console steps sent replies → Stage (record a { course = k; listening = l; recorded = q; broken = o }) first job console steps sent replies
-  stage_as sent replies (at_safe x calm) = at_safe (record {
-    done = h.left ∙ x.done;
-    unanswered = h.unanswered ∙ x.unanswered;
-    point = x.point;
-    answered = x.answered;
-    course = x.course;
-    leads = x.leads;
-    tells = x.tells;
-    last_is = x.last_is;
-  }) (h.halts ∙ calm)
-  stage_as sent replies (behind_safe x) = behind_safe (record {
-    front = x.front;
-    later = x.later;
-    sent_is = x.sent_is;
-    told = x.told;
-    heard = x.heard;
-    replies_is = x.replies_is;
-    last = x.last;
-    safe = x.safe;
-    since = since_as x.front x.told x.last x.safe x.later x.heard x.since;
-  })
+use Rattle.run_audit.proofs.StageOn.{HeardAs, stage_as}
 
 -- ---- where steps break a rule
 

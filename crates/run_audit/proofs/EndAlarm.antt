@@ -1,30 +1,24 @@
 -- An audit ends behind a line that has raised an alarm.
-use Rattle.std.proofs.Common.{◌≡◌, ◌≤◌, ℕ, ◌+◌, Bool, true, false, not, ◌&&◌, List, [], ◌∷◌, ◌++◌, append-nil, length, IfOk, Ok, Err, refl, sym, ap, ◌∙◌, subst, arith}
+use Rattle.std.proofs.Common.{◌≡◌, ◌≤◌, ℕ, ◌+◌, Bool, true, false, not, ◌&&◌, List, [], ◌++◌, append-nil, length, IfOk, Ok, Err, refl, sym, ap, ◌∙◌, subst}
 use Rattle.std.specs.declared.option.Option.{Option}
 use Rattle.std.specs.declared.result.Result.{Result}
 use Rattle.outside.specs.Causes.{SourceState}
 use Rattle.step_line.specs.declared.Record.{Record}
-use Rattle.run_texts.specs.Courses.{Passed, behind_cut, behind_the_reset}
-use Rattle.run_texts.specs.Courses.Passed.{a_line, a_broken, a_cut, a_reset}
-use Rattle.run_texts.specs.Points.{Point, behind_broken, behind_line, opening}
-use Rattle.run_texts.specs.Sent.{Sent, behind_reset, has_reset, waiting_in}
-use Rattle.run_texts.specs.Sent.Sent.{a_text, a_stop}
-use Rattle.run_texts.specs.SoFar.{LeadsTo}
+use Rattle.run_texts.specs.Sent.{Sent}
 use Rattle.audit_course.specs.SoFar.{texts_among}
 use Rattle.audit_course.specs.declared.judge.CourseJudge.{CourseJudge}
-use Rattle.audit_course.proofs.Counting.{texts_on}
 use Rattle.audit_texts.specs.SoFar.{Halts, IsAllRead, JobSoFar, StaysSent, untold_of}
 use Rattle.audit_texts.specs.declared.listening.Listening.{Listening}
 use Rattle.audit_texts.specs.declared.recorded.Recorded.{Recorded}
 use Rattle.run_audit.specs.Finding.{Leads, LeadsOnIf, Looks, ReadsOnIf}
-use Rattle.run_audit.specs.OnWay.{IsLooked, IsOnWay, Phase, done_by}
-use Rattle.run_audit.specs.OnWay.Phase.{counting, broken}
+use Rattle.run_audit.specs.OnWay.{IsLooked, IsOnWay, done_by}
 use Rattle.run_audit.specs.SafePoint.{IsSince, Since, Stage}
 use Rattle.run_audit.specs.SafePoint.Since.{by_line, by_reset, by_wait}
 use Rattle.run_audit.specs.SafePoint.Stage.{at_safe, behind_safe}
 use Rattle.run_audit.specs.UnderWay.{JudgeStays}
 use Rattle.run_audit.specs.declared.auditor.Auditor.{Auditor}
 use Rattle.run_audit.specs.declared.auditor.Finding.{Finding}
+use Rattle.run_audit.proofs.Bounded.{numbered}
 use Rattle.run_audit.proofs.LinesTold.{lines_are}
 
 -- ---- what was read
@@ -40,42 +34,6 @@ read_to_alarm {a} {j} {c} {s} {jt} {ct} {st} u raised = by u.stage where
   by : Stage a u.first jt ct st u.sent u.replies → (untold_of a.sending ≡ []) × (a.sending.over ≡ false)
   by (at_safe h calm) = absurd (let e : false ≡ true = sym (ap (λ (x : Bool). not x && a.course.line.halts) h.unanswered ∙ calm) ∙ raised in cc)
   by (behind_safe b) = by_since b b.since
-
-texts_behind : (sent : List Sent) → has_reset sent ≡ true → texts_among sent ≡ length (waiting_in sent) + texts_among (behind_reset sent)
-texts_behind [] e = absurd (let f : false ≡ true = e in cc)
-texts_behind (a_text line ∷ sent) e = (let on = texts_behind sent e in omega (arith, on))
-texts_behind (a_stop ∷ sent) e = omega arith
-
--- a course counts the lines that it passes or drops
-texts_by : (p q : Point) (sent rest : List Sent) (ps : List Passed) → LeadsTo p sent ps q rest → q.before.number + texts_among rest ≡ p.before.number + texts_among sent
-texts_by p q sent rest [] f = (
-    let number = ap (λ (x : Point). x.before.number) f.0 in
-    let texts = ap texts_among f.1 in
-    omega (arith, number, texts)
-    )
-texts_by p q sent rest (a_cut k at ∷ ps) f = texts_by (behind_cut at p) q sent rest ps f.1
-texts_by p q sent rest (a_reset r ∷ ps) f =
-    let on = texts_by (behind_the_reset r p) q (behind_reset sent) rest ps f.1 in
-    let number = f.0.number in
-    let dropped = f.0.dropped in
-    let split = texts_behind sent f.0.comes in
-    omega (arith, on, number, dropped, split)
-texts_by p q [] rest (a_line o ∷ ps) f = absurd f
-texts_by p q (a_stop ∷ sent) rest (a_line o ∷ ps) f = absurd f
-texts_by p q (a_text line ∷ sent) rest (a_line o ∷ ps) f = (let on = texts_by (behind_line p line o) q sent rest ps f.1 in omega (arith, on))
-texts_by p q [] rest (a_broken o ∷ ps) f = absurd f
-texts_by p q (a_stop ∷ sent) rest (a_broken o ∷ ps) f = absurd f
-texts_by p q (a_text line ∷ sent) rest (a_broken o ∷ ps) f = (let on = texts_by (behind_broken p o) q sent rest ps f.1 in omega (arith, on))
-
-number_by : {a : Auditor} {j c s : SourceState} {jt ct st : List ℕ} (u : IsOnWay a j c s jt ct st) → a.course.work.number ≡ texts_among u.sent + 1
-number_by {a} {j} {c} {s} {jt} {ct} {st} u = by u.phase where
-  by : Phase a u.first jt ct st u.sent u.replies u.records → a.course.work.number ≡ texts_among u.sent + 1
-  by (counting d) = d.judged.numbered
-  by (broken b) =
-      let numbered = b.heard.numbered in
-      let here = texts_by (opening u.first) b.point b.front [] b.reached.course b.reached.leads in
-      let two = ap texts_among b.sent_is ∙ texts_on b.front b.later in
-      omega (arith, numbered, here, two)
 
 raised_by : (w h : Bool) → (not w && h) ≡ true → h ≡ true
 raised_by true h e = absurd (let f : false ≡ true = e in cc)
@@ -99,7 +57,7 @@ ends_behind_alarm a b d next j k c s l m found same same_answered sent halt rais
     let h = halt t.1 in
     let count : texts_among (u.sent ++ untold_of a.sending) ≡ a.sending.lines = lines_are a.sending j jt u.sent u.are_read.job_so_far in
     let lines : texts_among u.sent ≡ a.sending.lines = ap texts_among (sym (append-nil u.sent) ∙ ap (λ (ss : List Sent). u.sent ++ ss) (sym t.0)) ∙ count in
-    let number : a.course.work.number ≡ a.sending.lines + 1 = number_by u ∙ ap (λ (x : ℕ). x + 1) lines in
+    let number : a.course.work.number ≡ a.sending.lines + 1 = numbered u ∙ ap (λ (x : ℕ). x + 1) lines in
     let course = same.course in
     let all : IsAllRead b.sending b.course.line.halts b.course.work.number =
     subst (λ (x : CourseJudge). IsAllRead b.sending x.line.halts x.work.number) (sym course) (subst (λ (x : Bool). IsAllRead b.sending x a.course.work.number) (sym (raised_by a.course.unanswered a.course.line.halts raised)) (a.sending.lines, h.last, number)) in

@@ -56,11 +56,11 @@ use Rattle.run_audit.specs.UnderWay.{IsUnderWay}
 use Rattle.run_audit.specs.declared.auditor.Auditor.{Auditor}
 use Rattle.run_audit.specs.declared.auditor.Finding.{Finding}
 use Rattle.run_audit.specs.declared.auditor.Finding.TheVariants.{BadReplies, Fits, Misfit}
-use Rattle.run_audit.proofs.EndHere.{JobLeft, UpToHere, breaks_here, counted_up_to, job_left, over_here, up_to_here}
+use Rattle.run_audit.proofs.EndHere.{JobLeft, UpToHere, job_left, over_here, up_to_here}
 use Rattle.run_audit.proofs.EndRefused.{few_bytes, never_ends}
 use Rattle.run_audit.proofs.Fitting.{texts_found}
 use Rattle.run_audit.proofs.LastAlarm.{last_alarm}
-use Rattle.run_audit.proofs.SafeNow.{here_by}
+use Rattle.run_audit.proofs.SafeNow.{breaks_here, counted_up_to, here_by}
 use Rattle.run_audit.proofs.Under.{fits}
 
 -- ---- the alarm of the last line
@@ -287,7 +287,7 @@ module _ {a : Auditor} {j c s : SourceState} {jt ct st : List ℕ} (u : IsOnWay 
     by : Phase a u.first jt ct st u.sent u.replies u.records → BreaksAt jt ct st at
     by (counting d) = absurd (let e : None ≡ Some at = sym d.counts ∙ is in cc)
     by (broken d) =
-        let y = breaks_here u later.done answered read_job.left read_job.whole [] stands d in
+        let y = breaks_here d u.opens later.done answered read_job.left read_job.whole [] stands in
         let same_at : d.at ≡ at = (let e : Some d.at ≡ Some at = sym d.broken ∙ is in cc) in
         subst (λ (n : ℕ). BreaksAt jt ct st n) same_at (y.breaks.place y.comes.steps_stand y.comes.are)
 
@@ -301,7 +301,7 @@ module _ {a : Auditor} {j c s : SourceState} {jt ct st : List ℕ} (u : IsOnWay 
     over_r = over_here d.judged.point read_job.left a.course.line.halts (d.judged.unanswered ∙ answered) (point_halts a.course d.judged.point d.judged.hand d.judged.line later.done answered) read_job.none
 
     abbrev comes_r : ComesUpTo (sent_in jt) ct st (in_line.before ++ in_line.last ∷ []) u.records (r ∷ in_line.later) d.judged.point read_job.left [] d.judged.reached.course
-    comes_r = counted_up_to u later.done answered read_job.left read_job.whole [] stands d r in_line later_r (over_tells_nothing d.judged.point read_job.left over_r)
+    comes_r = counted_up_to d u.opens read_job.left read_job.whole [] stands (Some r) later_r answered r refl in_line (over_tells_nothing d.judged.point read_job.left over_r)
 
     abbrev z : StandTo (sent_in jt) ct st
     z = comes_r.steps_stand

@@ -51,7 +51,8 @@ use Rattle.audit_texts.proofs.JobRead.{cuts_are}
 use Rattle.audit_texts.specs.declared.sending.Sending.{Sending}
 use Rattle.run_audit.specs.OnWay.{Counting, IsOnWay}
 use Rattle.run_audit.specs.declared.auditor.Auditor.{Auditor}
-use Rattle.run_audit.proofs.EndHere.{all_told, come}
+use Rattle.run_audit.proofs.EndHere.{come}
+use Rattle.run_audit.proofs.SafeNow.{all_told}
 
 -- nothing is told of what is left of a console at its end
 told_at_end : (told : List Reply) (later : List ℕ) → TellsNext [] told later → told ≡ []
@@ -150,7 +151,7 @@ module _ {a : Auditor} {j c s : SourceState} {jt ct st : List ℕ} (u : IsOnWay 
       (told_further ct [] [] (told_in here) (told_in there) tells_here tells_there) (λ waits. both d.judged.point.unanswered waits is_answered) (λ waits. both f.fits.last.unanswered waits on.is.answered)
 
   same_told : told_in there ≡ u.replies
-  same_told = by compared ∙ d.judged.reached.tells ∙ all_told u done answered left whole_job [] stands where
+  same_told = by compared ∙ d.judged.reached.tells ∙ all_told a.course u.replies done where
     by : Compared here there d.judged.point [] → told_in there ≡ told_in here
     by (further os split) =
         let two : told_in there ≡ told_in here ++ told_in os = ap told_in split ∙ flat_map-append told_of here os in

@@ -4,17 +4,13 @@ use Rattle.std.specs.declared.option.Option.{Option}
 use Rattle.outside.specs.Causes.{SourceState}
 use Rattle.status_report.specs.declared.Reply.{Reply}
 use Rattle.step_line.specs.declared.Record.{Record}
-use Rattle.run_rules.specs.declared.State.{State}
 use Rattle.run_texts.specs.Sent.{Sent}
 use Rattle.run_texts.specs.Sent.Sent.{a_text, a_stop}
 use Rattle.audit_rules.specs.Consoles.{GoesOnAnew}
 use Rattle.audit_rules.specs.Faults.{FailsAt}
 use Rattle.audit_rules.specs.Findings.{IsTooLong}
-use Rattle.audit_rules.specs.Onward.{TellsNoAlarm}
 use Rattle.audit_rules.specs.Scanned.{sent_in}
-use Rattle.audit_rules.specs.Telling.{HasAlarm, HasBadReply, IsLineAtFault, last_answered}
-use Rattle.audit_rules.proofs.NoAlarm.{no_alarm}
-use Rattle.audit_rules.proofs.NoFurther.{bad_reply}
+use Rattle.audit_rules.specs.Telling.{HasAlarm, HasBadReply}
 use Rattle.audit_rules.proofs.ResetShort.{stop_fails}
 use Rattle.audit_course.specs.SoFar.{begins_epoch}
 use Rattle.audit_course.specs.declared.MotionError.{MotionError}
@@ -24,80 +20,20 @@ use Rattle.audit_texts.specs.declared.sending.Item.TheVariants.{Stop}
 use Rattle.audit_texts.specs.declared.sending.Sending.{Sending}
 use Rattle.audit_texts.proofs.JobTold.{next_sent}
 use Rattle.run_audit.specs.Coming.{FitsError, IsResetTold}
-use Rattle.run_audit.specs.Finding.{IsFound, KnowsAlarm, LeadsOnIf, Looks, LooksAndHears, alarm_next}
-use Rattle.run_audit.specs.OnWay.{HearsNext, IsErrorBy, IsLater, IsLooked, IsOnWay, Phase, TellsNoReset, TellsReset}
-use Rattle.run_audit.specs.OnWay.Phase.{counting, broken}
-use Rattle.run_audit.specs.SafePoint.{SafePoint}
-use Rattle.run_audit.specs.SafePoint.Stage.{at_safe}
+use Rattle.run_audit.specs.Finding.{IsFound, LeadsOnIf, Looks, LooksAndHears}
+use Rattle.run_audit.specs.OnWay.{HearsNext, IsErrorBy, IsLater, IsLooked, IsOnWay, TellsNoReset, TellsReset}
 use Rattle.run_audit.specs.declared.auditor.Auditor.{Auditor}
 use Rattle.run_audit.specs.declared.auditor.Finding.{Finding}
 use Rattle.run_audit.specs.declared.auditor.Finding.TheVariants.{BadReplies}
-use Rattle.run_audit.proofs.BreaksOff.{same_judge, stage_as}
 use Rattle.run_audit.proofs.LineBegun.{none_anew, none_waits}
-use Rattle.run_audit.proofs.SafeNow.{SafeHere, here_by, none_halts, safe_by}
+use Rattle.run_audit.proofs.NoReset.{bad_is_found, fails_there}
+use Rattle.run_audit.proofs.ReadOn.{console_on_way}
+use Rattle.run_audit.proofs.SafeNow.{SafeHere, safe_by}
 
 -- what a call answers goes on, if this holds there
 pub goes_on_given : {A : Type 0} {E : Type 0} {F : A → Type 0} {G : A → Type 0} {Q : Type 0} (r : Result A E) → (Q → IfOk r F) → ((x : A) → (Q → F x) → G x) → IfOk r G
 goes_on_given (Ok x) f on = on x f
 goes_on_given (Err e) f on = tt
-
--- ---- texts are read on
-
--- of a phase nothing else is known of the job and the console than what was told
-pub phase_read : (a : Auditor) (q : Sending) (l : Listening) (first : State) (job console steps : List ℕ) (sent : List Sent) (replies : List Reply) (records : List Record) → Phase a first job console steps sent replies records
-    → Phase (record a { sending = q; listening = l }) first job console steps sent replies records
-phase_read a q l first job console steps sent replies records (counting d) = counting (record { counts = d.counts; judged = d.judged; early = d.early; stops = d.stops })
-phase_read a q l first job console steps sent replies records (broken d) = broken (record {
-  at = d.at;
-  broken = d.broken;
-  front = d.front;
-  later = d.later;
-  sent_is = d.sent_is;
-  told = d.told;
-  point = d.point;
-  since = d.since;
-  begun = d.begun;
-  none_begun = d.none_begun;
-  place = d.place;
-  made = d.made;
-  reached = d.reached;
-  making = d.making;
-  is_made = d.is_made;
-  breaks = d.breaks;
-  heard = d.heard;
-})
-
--- the console is
-abbrev pub console_read : {a : Auditor} {j c d s : SourceState} {jt ct st : List ℕ} (u : IsOnWay a j c s jt ct st) (l : Listening) → StaysTold a.listening l c d → IsOnWay (record a { listening = l }) j d s jt ct st
-console_read {a} {j} {c} {d} {s} {jt} {ct} {st} u l stays = record {
-  first = u.first;
-  opens = u.opens;
-  sent = u.sent;
-  replies = u.replies;
-  records = u.records;
-  are_read = record { job_so_far = u.are_read.job_so_far; console_so_far = stays ct u.replies u.are_read.console_so_far; steps_so_far = u.are_read.steps_so_far };
-  phase = phase_read a a.sending l u.first jt ct st u.sent u.replies u.records u.phase;
-  stage = stage_as a a.course l a.recorded a.broken (same_judge a.course) u.first jt ct st u.sent u.replies u.stage;
-  calm = u.calm;
-}
-
--- the job is, where the line at hand is done and answered
-abbrev pub job_read : {a : Auditor} {j c s : SourceState} {jt ct st : List ℕ} (u : IsOnWay a j c s jt ct st) → a.course.work.left ≡ [] → a.course.unanswered ≡ false → (not a.course.unanswered && a.course.line.halts) ≡ false → (q : Sending) (k : SourceState) → JobSoFar q k jt u.sent → q.last ≡ a.sending.last
-    → IsOnWay (record a { sending = q }) k c s jt ct st
-job_read {a} {j} {c} {s} {jt} {ct} {st} u done answered calm q k read last = record {
-  first = u.first;
-  opens = u.opens;
-  sent = u.sent;
-  replies = u.replies;
-  records = u.records;
-  are_read = record { job_so_far = read; console_so_far = u.are_read.console_so_far; steps_so_far = u.are_read.steps_so_far };
-  phase = phase_read a q a.listening u.first jt ct st u.sent u.replies u.records u.phase;
-  stage = at_safe (
-      let h = here_by u done answered in
-      record { done = h.done; unanswered = h.unanswered; point = h.point; answered = h.answered; course = h.course; leads = h.leads; tells = h.tells; last_is = h.last_is }
-      ) (none_halts a.course answered calm);
-  calm = last ∙ u.calm;
-}
 
 -- ---- what comes next of the console
 
@@ -119,25 +55,11 @@ no_reset_of (Some r) early none = λ reply is.
 
 -- ---- what is found
 
--- Where nothing is told at a safe point that may come there, the line at fault has the bad reply, and no line raises an alarm.
-pub fails_there : {first : State} {job console steps : List ℕ} {front : List Sent} {told : List Reply} {last : ℕ} (s : SafePoint first job console steps front told last) (line : ℕ) → FailsAt s.point s.waiting s.rest last line
-    → TellsNoAlarm s.point s.waiting s.rest → HasBadReply (sent_in job) console steps line × ((k : ℕ) → HasAlarm (sent_in job) console steps k → ⊥)
-fails_there {first} {job} {console} {steps} s line f none =
-    let b = s.comes f.nothing in
-    let at = s.last_is ∙ ap (last_answered 1 0) (sym b.up_to.is) in (
-      bad_reply (sent_in job) console steps b.up_to.steps_stand s.point s.waiting s.rest b.up_to.stands f.nothing f.some line (subst (λ (n : ℕ). IsLineAtFault s.point s.waiting s.rest n line) at f.is),
-      no_alarm (sent_in job) console steps b.up_to.steps_stand s.point s.waiting s.rest b.up_to.stands f.nothing s.free none,
-    )
-
 -- a reset is next of the job, and the console does not go on anew
 pub stop_found : {a : Auditor} {j c s : SourceState} {jt ct st : List ℕ} (u : IsOnWay a j c s jt ct st) → (IsTooLong ct st → ⊥) → (next : Option Record) → IsLooked a st u.records next → IsLater a.course next
     → (not a.course.unanswered && a.course.line.halts) ≡ false → TellsNoReset a.listening.known → HearsNext a.listening.known ct u.replies → (q : Sending) (k : SourceState) → JobSoFar q k jt u.sent → q.last ≡ a.sending.last → IsItem Stop q
     → IsFound (record a { sending = q }) jt ct st (BadReplies (a.answered + 1))
-stop_found {a} {j} {c} {s} {jt} {ct} {st} u short next looked later calm none hears q k read last item = record {
-  finds = inl found.0;
-  alarm = subst (λ (told : Bool). KnowsAlarm (record a { sending = q }) jt ct st told) (sym (ap (λ (b : Bool). b && not (alarm_next a.course.work.left)) calm)) found.1;
-  calm = λ told. last ∙ u.calm;
-} where
+stop_found {a} {j} {c} {s} {jt} {ct} {st} u short next looked later calm none hears q k read last item = bad_is_found (record a { sending = q }) jt ct st (a.answered + 1) calm (last ∙ u.calm) found where
   here : SafeHere a u.first jt ct st u.sent u.replies hears.0
   here = safe_by u short next looked later (none_waits u later.done none hears) calm a.listening.known hears
 
@@ -165,7 +87,7 @@ module _ (a b : Auditor) (l : Listening) (j c d s k : SourceState) (next : Optio
       → IfOk result (λ found. LeadsOnIf (Looks a next) a b j c s k d s found)
   reset_entered told leads =
       goes_on_given {F = λ found. (console steps : SourceState) → LeadsOnIf (LooksAndHears heard_now next l.known) heard_now b j console steps k console steps found} {Q = TellsReset l.known} result leads (λ found on jt ct st short u looked n few.
-      let v = console_read u l stays in
+      let v = console_on_way u l stays in
       on (reset_of l.known v.are_read.console_so_far.early (subst (λ (o : Option Reply). (us : List Reply) → o ≡ looked_for us → IsResetTold o us) known told)) d s jt ct st short v (looked, hears_next u short l.known heard known stands) n few)
 
   -- or none
@@ -175,5 +97,5 @@ module _ (a b : Auditor) (l : Listening) (j c d s k : SourceState) (next : Optio
   line_entered m n error plain fits leads =
       goes_on_given {F = λ found. LeadsOnIf (LooksAndHears heard_now next l.known) heard_now b j d s k m n found} {Q = TellsNoReset l.known} result (λ none. leads none (λ told is. fits told (known ∙ is) (plain told (known ∙ is))))
       (λ found on jt ct st short u looked done few.
-      let v = console_read u l stays in
+      let v = console_on_way u l stays in
       on (no_reset_of l.known v.are_read.console_so_far.early (λ told is. plain told (known ∙ is))) jt ct st short v (looked, hears_next u short l.known heard known stands) done few)

@@ -1,9 +1,6 @@
 -- Texts that are read whole, and that the judge found to fit.
-use Rattle.std.proofs.Common.{◌≡◌, ◌≤◌, ◌<◌, ◌-◌, ℕ, zero, suc, nat_lt, Bool, true, false, List, [], ◌∷◌, ◌++◌, append-nil, length, take, IfSome, sym, refl, ap, ◌∙◌, subst, arith}
-use Rattle.std.specs.declared.option.Option.{Option}
-use Rattle.std.proofs.lemmas.Bool.Decides.{nat_tests}
+use Rattle.std.proofs.Common.{◌≡◌, ◌≤◌, ◌-◌, ℕ, Bool, true, false, List, [], ◌∷◌, ◌++◌, append-nil, length, sym, refl, ap, ◌∙◌, subst, arith}
 use Rattle.std.proofs.lemmas.List.Elements.{filter-append}
-use Rattle.std.proofs.Math.Seq.{take-append_seam}
 use Rattle.flight.specs.Places.{origin}
 use Rattle.outside.specs.Causes.{SourceState}
 use Rattle.legal_heads.specs.Whole.{events_among, is_event}
@@ -19,18 +16,16 @@ use Rattle.run_texts.specs.Fits.{FitsTexts}
 use Rattle.run_texts.specs.Parts.{Part, parts_of}
 use Rattle.run_texts.specs.Points.{Point}
 use Rattle.run_texts.specs.Recorded.{AreRecorded}
-use Rattle.run_texts.specs.Sent.{Sent, kept_of}
+use Rattle.run_texts.specs.Sent.{Sent}
 use Rattle.run_texts.proofs.Leading.{onto_none}
-use Rattle.audit_rules.specs.Findings.{TextsFit, FitsWith, HasForeign, is_foreign, foreign_in}
+use Rattle.audit_rules.specs.Findings.{TextsFit, FitsWith}
 use Rattle.audit_rules.specs.Scanned.{sent_in, most_cuts}
 use Rattle.audit_rules.specs.StepTexts.{IsStepText, records_of}
 use Rattle.audit_course.specs.SoFar.{IsOver}
 use Rattle.audit_course.specs.declared.judge.CourseJudge.{CourseJudge}
-use Rattle.audit_rules.proofs.Alarmed.{alarm_of}
 use Rattle.audit_texts.specs.Audited.{AllAudited}
 use Rattle.audit_texts.specs.SoFar.{JobSoFar, IsWhole, IsAllRead, untold_of}
-use Rattle.audit_texts.proofs.JobRead.{all_sent, front_sent, cuts_are, lines_whole}
-use Rattle.audit_texts.proofs.JobTold.{differ, not_among, or_first, or_second}
+use Rattle.audit_texts.proofs.JobRead.{all_sent, front_sent, cuts_are}
 use Rattle.audit_texts.specs.declared.sending.Sending.{Sending}
 
 -- what is told of the job is all of it, or what comes up to the line that raises an alarm
@@ -64,15 +59,13 @@ pub no_event : (records : List Record) → events_among (records ++ kinds.End �
 no_event records = filter-append is_event records (kinds.End ∷ []) ∙ append-nil (events_among records)
 
 -- a job, a console and records that fit, by a course that ends where the judge stands
-pub record TextsFound (job console : List ℕ) (all : List Record) (sent : List Sent) (line : ℕ) (halts : Bool) : Type 0 where
+pub record TextsFound (job console : List ℕ) (all : List Record) (sent : List Sent) : Type 0 where
   pub fit : TextsFit job console all
   pub sent_are : fit.sent ≡ sent
-  pub alarmed : fit.fits.last.before.alarmed ≡ halts
-  pub number : fit.fits.last.before.number ≡ line
 
 pub texts_found : (k : CourseJudge) (s : Sending) (source : SourceState) (job console : List ℕ) (first : State) (sent : List Sent) (replies : List Reply) (records all : List Record)
     → IsOpening first → IsOver k first sent replies records → JobSoFar s source job sent → IsAllRead s k.line.halts k.work.number → k.cuts ≤ s.cuts → IsWhole console replies → all ≡ records ++ kinds.End ∷ []
-    → TextsFound job console all sent k.work.number k.line.halts
+    → TextsFound job console all sent
 texts_found k s source job console first sent replies records all opens over j read few_told w are =
     let e = ends_job s source job sent over.last k.line.halts k.work.number j over.alarmed over.number read in
     let n = most_cuts job over.last - k.cuts in
@@ -105,20 +98,16 @@ texts_found k s source job console first sent replies records all opens over j r
         over = e.over;
       };
       sent_are = refl;
-      alarmed = over.alarmed;
-      number = over.number;
     }
 
 -- and steps with these records
-pub record FitFound (job console steps : List ℕ) (events line : ℕ) (halts : Bool) : Type 0 where
+pub record FitFound (job console steps : List ℕ) (events : ℕ) : Type 0 where
   pub fit : FitsWith job console steps events
   pub audited : AllAudited fit.fit.sent
-  pub alarmed : fit.fit.fits.last.before.alarmed ≡ halts
-  pub number : fit.fit.fits.last.before.number ≡ line
 
 pub fit_found : (k : CourseJudge) (s : Sending) (source : SourceState) (job console steps : List ℕ) (first : State) (sent : List Sent) (replies : List Reply) (records : List Record) (lines : List Line) (events : ℕ)
     → IsOpening first → IsOver k first sent replies records → JobSoFar s source job sent → IsAllRead s k.line.halts k.work.number → k.cuts ≤ s.cuts
-    → IsWhole console replies → IsStepText steps lines → records_of lines ≡ records ++ kinds.End ∷ [] → events ≡ length (events_among records) → AllAudited sent → FitFound job console steps events k.work.number k.line.halts
+    → IsWhole console replies → IsStepText steps lines → records_of lines ≡ records ++ kinds.End ∷ [] → events ≡ length (events_among records) → AllAudited sent → FitFound job console steps events
 fit_found k s source job console steps first sent replies records lines events opens over j all few_told w steps_are are count audited =
     let f = texts_found k s source job console first sent replies records (records_of lines) opens over j all few_told w are in
     let found : FitsWith job console steps events = record {
@@ -127,32 +116,4 @@ fit_found k s source job console steps first sent replies records lines events o
       fit = f.fit;
       count = count ∙ ap length (sym (no_event records)) ∙ ap (λ (rs : List Record). length (events_among rs)) (sym are);
     } in
-    record { fit = found; audited = subst AllAudited (sym f.sent_are) audited; alarmed = f.alarmed; number = f.number }
-
--- ---- each line that is sent is audited
-
--- a line is not among the first of some that are audited, if it is not
-not_in_front : {A : Type 0} (xs : List (List ℕ)) (y : List ℕ) (zs : List (List ℕ)) (k : ℕ) → length xs < k → foreign_in (take k (xs ++ y ∷ zs)) ≡ false → is_foreign (kept_of y) ≡ true → A
-not_in_front xs y zs zero few none is = absurd (omega (arith, few))
-not_in_front [] y zs (suc k) few none is = differ (is_foreign (kept_of y)) is (or_first (is_foreign (kept_of y)) (foreign_in (take k zs)) none)
-not_in_front (x ∷ xs) y zs (suc k) few none is = not_in_front xs y zs k (omega (arith, few)) (or_second (is_foreign (kept_of x)) (foreign_in (take k (xs ++ y ∷ zs))) none) is
-
--- of texts that fit no line is sent that is not audited, if none was read
-pub none_foreign : {A : Type 0} (s : Sending) (source : SourceState) (job console steps : List ℕ) (told : List Sent) (events number : ℕ) (halts : Bool) → s.foreign ≡ 0 → JobSoFar s source job told → IsAllRead s halts number
-    → FitFound job console steps events number halts → HasForeign job console steps → A
-none_foreign s source job console steps told events number false clean j all f h =
-    let lines : h.1.before ++ h.1.here ∷ h.1.behind ≡ j.lines = sym h.1.split ∙ lines_whole s source job told j all.0 all.1 in
-    not_among h.1.before h.1.here h.1.behind (ap foreign_in lines ∙ j.foreign.none clean) h.1.is
-none_foreign s source job console steps told events number true clean j all f h = by_place (nat_lt (length h.1.before) all.0) refl where
-  at : all.0 ≡ length j.lines
-  at = subst (λ (o : Option ℕ). IfSome o (λ n. n ≡ length j.lines)) all.1 j.alarm
-
-  first : take all.0 (h.1.before ++ h.1.here ∷ h.1.behind) ≡ j.lines
-  first = ap (take all.0) (sym h.1.split ∙ j.split) ∙ ap (λ (n : ℕ). take n (j.lines ++ j.left.lines)) at ∙ take-append_seam j.lines j.left.lines
-
-  by_place : {A : Type 0} (b : Bool) → nat_lt (length h.1.before) all.0 ≡ b → A
-  by_place true e = not_in_front h.1.before h.1.here h.1.behind all.0 (grind (arith, nat_tests, e)) (ap foreign_in first ∙ j.foreign.none clean) h.1.is
-  by_place false e =
-      let later : all.0 ≤ length h.1.before = grind (arith, nat_tests, e) in
-      let number_is = h.1.number in
-      absurd (h.1.sent all.0 (omega (arith, later, number_is)) (alarm_of job console steps events f.fit f.alarmed all.0 (f.number ∙ all.2)))
+    record { fit = found; audited = subst AllAudited (sym f.sent_are) audited }

@@ -8,14 +8,16 @@ pub mod Under
 pub mod SafeNow
 pub mod Bounded
 pub mod OneReading
+pub mod StageOn
 pub mod BreaksOff
+pub mod ReadOn
 pub mod NextOnWay
 mod SafeCourses
 mod LineBegun
 pub mod LineWaits
 pub mod LineNone
 pub mod LineReplies
-pub mod StageOn
+pub mod LeadsOn
 pub mod NotHeard
 pub mod WaitsNow
 pub mod NoReset

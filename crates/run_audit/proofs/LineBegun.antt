@@ -18,7 +18,7 @@ use Rattle.run_rules.proofs.Answering.{begun_no_bye}
 use Rattle.run_texts.specs.Courses.{Passed}
 use Rattle.run_texts.specs.Courses.Passed.{a_line, a_broken, a_cut, a_reset}
 use Rattle.run_texts.specs.Parts.{is_ending}
-use Rattle.run_texts.specs.Points.{Point, BecomesAt, IsPassed, behind_line, behind_broken}
+use Rattle.run_texts.specs.Points.{Point, BecomesAt, IsBroken, IsPassed, behind_line, behind_broken}
 use Rattle.run_texts.specs.Sent.{Sent}
 use Rattle.run_texts.specs.Sent.Sent.{a_text}
 use Rattle.run_texts.specs.SoFar.{LeadsTo, RebasesNothing}
@@ -70,7 +70,7 @@ looked_first None rest reply later early next some text = by (is_looked_for repl
   by true e = absurd (next reply e later text)
   by false e = refl
 
-anew_looked_for : (r : Reply) → is_of_reset r ≡ true → is_looked_for r ≡ true
+pub anew_looked_for : (r : Reply) → is_of_reset r ≡ true → is_looked_for r ≡ true
 anew_looked_for Banner e = e
 anew_looked_for (Alarm n) e = e
 anew_looked_for Ok e = absurd cc
@@ -82,7 +82,7 @@ anew_looked_for (Modes m) e = absurd cc
 anew_looked_for (Offset row at) e = absurd cc
 anew_looked_for Bye e = absurd cc
 
-same_anew : (r : Reply) → tells_anew r ≡ is_of_reset r
+pub same_anew : (r : Reply) → tells_anew r ≡ is_of_reset r
 same_anew Banner = refl
 same_anew (Alarm n) = refl
 same_anew _ = refl
@@ -118,11 +118,11 @@ module _ (known : Option Reply) (rest : List ℕ) (early : IfSome known (λ k. i
   begins_fitting error fits reply later some text = (fits (reply ∷ []) (looked_first known rest reply later early next some text)).1
 
 -- two rests behind what a console tells are one, if no report comes first
-no_report_first : (rest later : List ℕ) (rs : List Reply) → BeginsWithNoReport rest → rest ≡ replies_text rs ++ later → AllByRecursion IsOnConsole rs → AllByRecursion (λ r. is_report r ≡ true) rs → rest ≡ later
+pub no_report_first : (rest later : List ℕ) (rs : List Reply) → BeginsWithNoReport rest → rest ≡ replies_text rs ++ later → AllByRecursion IsOnConsole rs → AllByRecursion (λ r. is_report r ≡ true) rs → rest ≡ later
 no_report_first rest later [] none text each are = text
 no_report_first rest later (r ∷ rs) none text each are = absurd (none r (replies_text rs ++ later) are.0 each.0 (text ∙ append_assoc (reply_text r) (replies_text rs) later))
 
-one_rest : (console : List ℕ) (told : List Reply) (x y : List ℕ) → StandsAt console told x → StandsAt console told y → x ≡ y
+pub one_rest : (console : List ℕ) (told : List Reply) (x y : List ℕ) → StandsAt console told x → StandsAt console told y → x ≡ y
 one_rest console told x y s t =
     let d : BothTold told (told ++ []) x y = subst (λ (rs : List Reply). BothTold told rs x y) (sym (append-nil told)) (told_further console x y told told s.tells t.tells) in
     let o = onward told [] x y d in
@@ -230,17 +230,18 @@ module _ {a : Auditor} {j c s : SourceState} {jt ct st : List ℕ} (u : IsOnWay 
 -- ---- the line
 
 -- of one line: it is answered, or it waits
-data ByOneLine (p q : Point) (kept : List ℕ) (told : List Reply) : Type 0 where
+pub data ByOneLine (p q : Point) (kept : List ℕ) (told : List Reply) : Type 0 where
   is_answered : (o : Outcome) → IsPassed p kept o → q ≡ behind_line p kept o → told ≡ tells o.work → ByOneLine p q kept told
-  is_waiting : q.unanswered ≡ true → ByOneLine p q kept told
+  is_waiting : (o : Outcome) → IsBroken p kept o → q ≡ behind_broken p o → told ≡ [] → ByOneLine p q kept told
 
-by_one_line : (p q : Point) (kept : List ℕ) (course : List Passed) → LeadsTo p (a_text kept ∷ []) course q [] → RebasesNothing p (a_text kept ∷ []) course → ByOneLine p q kept (told_in course)
+pub by_one_line : (p q : Point) (kept : List ℕ) (course : List Passed) → LeadsTo p (a_text kept ∷ []) course q [] → RebasesNothing p (a_text kept ∷ []) course → ByOneLine p q kept (told_in course)
 by_one_line p q kept [] f r = absurd (let e : ◌≡◌ {A = List Sent} [] (a_text kept ∷ []) = f.1 in cc)
 by_one_line p q kept (a_cut k at ∷ ps) f r = absurd r
 by_one_line p q kept (a_reset u ∷ ps) f r = absurd (let e : false ≡ true = f.0.comes in cc)
 by_one_line p q kept (a_line o ∷ ps) f r =
     let s = stays_there (behind_line p kept o) q ps f.1 r in is_answered o f.0 s.0 (ap (λ (qs : List Passed). tells o.work ++ told_in qs) s.1 ∙ append-nil (tells o.work))
-by_one_line p q kept (a_broken o ∷ ps) f r = is_waiting (ap (λ (x : Point). x.unanswered) (stays_there (behind_broken p o) q ps f.1 r).0)
+by_one_line p q kept (a_broken o ∷ ps) f r =
+    let s = stays_there (behind_broken p o) q ps f.1 r in is_waiting o f.0 s.0 (ap told_in s.1)
 
 -- what a judge says of a line that it has begun
 pub record BeginsLine (j k : CourseJudge) (error : MotionError) (kept : List ℕ) : Type 0 where
@@ -282,7 +283,7 @@ module _ (j k : CourseJudge) (error : MotionError) (kept : List ℕ) (p : Point)
     by (is_answered o is at tells_it) =
         let all : tells o.work ++ [] ≡ tells found.0.work ++ [] = ap (λ (rs : List Reply). rs ++ []) (sym tells_it ∙ told) in
         sym alarmed ∙ ap (λ (q : Point). q.before.alarmed) at ∙ (same_line p p kept o found.0 [] [] is.becomes becomes_there all).raises
-    by (is_waiting waits) = both heard.point.unanswered waits (heard.unanswered ∙ begins.unanswered)
+    by (is_waiting o is at none) = both heard.point.unanswered (ap (λ (x : Point). x.unanswered) at) (heard.unanswered ∙ begins.unanswered)
 
 module _ {a : Auditor} {j c s : SourceState} {jt ct st : List ℕ} (u : IsOnWay a j c s jt ct st) (short : IsTooLong ct st → ⊥) (next : Option Record) (looked : IsLooked a st u.records next) (later : IsLater a.course next)
     (calm : (not a.course.unanswered && a.course.line.halts) ≡ false) (none : TellsNoReset a.listening.known) (error : MotionError) (fits : IsErrorBy error a.listening.known) (hears : HearsNext a.listening.known ct u.replies)

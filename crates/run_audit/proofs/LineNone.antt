@@ -1,42 +1,36 @@
 -- What a reset tells comes next, and no line is begun: the next record breaks a rule, or the console has a bad reply.
-use Rattle.std.proofs.Common.{◌≡◌, ◌≤◌, ◌<◌, ◌-◌, ◌^◌, ℕ, ◌+◌, Bool, true, false, not, ◌&&◌, ◌||◌, List, [], ◌∷◌, ◌++◌, append-nil, length, Some, None, inl, refl, sym, ap, ◌∙◌, subst, arith}
+use Rattle.std.proofs.Common.{◌≡◌, ◌≤◌, ◌<◌, ◌-◌, ◌^◌, ℕ, ◌+◌, Bool, true, false, not, ◌&&◌, ◌||◌, List, [], ◌∷◌, ◌++◌, length, Some, None, refl, sym, ap, ◌∙◌, subst, arith}
 use Rattle.std.specs.declared.option.Option.{Option}
 use Rattle.outside.specs.Causes.{SourceState}
 use Rattle.status_report.specs.Answering.{is_banner}
 use Rattle.status_report.specs.declared.Reply.{Reply}
-use Rattle.status_report.specs.declared.Reply.TheVariants as replies
 use Rattle.step_line.specs.declared.Mark.TheVariants as marks
 use Rattle.step_line.specs.declared.Record.{Record}
 use Rattle.step_line.specs.declared.Record.TheVariants as kinds
 use Rattle.step_record.specs.declared.forms.Line.{Line}
 use Rattle.run_rules.specs.Work.{Outcome}
-use Rattle.run_texts.specs.Courses.{Passed}
 use Rattle.run_texts.specs.Points.{Point}
 use Rattle.run_texts.specs.Sent.{Sent}
 use Rattle.run_texts.specs.Sent.Sent.{a_text, a_stop}
-use Rattle.audit_rules.specs.Consoles.{GoesOnAnew, GoesOnWith, Tells, is_of_reset as tells_anew}
-use Rattle.audit_rules.specs.Faults.{ComesUpTo, FailsAt}
+use Rattle.audit_rules.specs.Consoles.{GoesOnAnew}
 use Rattle.audit_rules.specs.Findings.{IsTooLong, MayEnd}
 use Rattle.audit_rules.specs.Onward.{HasCome}
 use Rattle.audit_rules.specs.Scanned.{sent_in}
 use Rattle.audit_rules.specs.Standing.{Stand}
 use Rattle.audit_rules.specs.StepTexts.{records_of}
-use Rattle.audit_rules.specs.Telling.{IsAwaited, IsLineAtFault, last_answered}
+use Rattle.audit_rules.specs.Telling.{HasAlarm, HasBadReply, IsAwaited}
 use Rattle.audit_rules.specs.Telling.IsLineAtFault.{at_none}
 use Rattle.audit_rules.proofs.Fitting.{no_end}
 use Rattle.audit_rules.proofs.NextRefused.{no_later_cut, no_later_reset, resets_not}
-use Rattle.audit_rules.proofs.NoAlarm.{no_alarm}
 use Rattle.audit_rules.proofs.NoEndAnew.{no_end_anew}
-use Rattle.audit_rules.proofs.NoFurther.{bad_reply}
 use Rattle.audit_rules.proofs.OneWay.{both}
 use Rattle.audit_rules.proofs.OtherMarks.{no_later_mark_anew}
-use Rattle.audit_rules.proofs.ResetShort.{anew_fails, none_may}
+use Rattle.audit_rules.proofs.ResetShort.{none_may}
 use Rattle.audit_rules.proofs.Stands.{goes_on_anew}
-use Rattle.audit_course.specs.SoFar.{has_moved, is_of_reset, left_to_tell}
-use Rattle.audit_course.proofs.Ending.{to_tell}
+use Rattle.audit_course.specs.SoFar.{has_moved, left_to_tell}
 use Rattle.audit_course.proofs.Parting.{moved_here}
 use Rattle.run_audit.specs.Coming.{MayBeOfLine, is_alarm}
-use Rattle.run_audit.specs.Finding.{IsFound, KnowsAlarm, Leads, alarm_next}
+use Rattle.run_audit.specs.Finding.{IsFound, Leads}
 use Rattle.run_audit.specs.OnWay.{Counting, HearsNext, IsLater, IsLooked, IsOnWay, IsToldTo, TellsReset, done_by}
 use Rattle.run_audit.specs.SafePoint.{BeginsAnew}
 use Rattle.run_audit.specs.declared.auditor.Auditor.{Auditor}
@@ -44,27 +38,12 @@ use Rattle.run_audit.specs.declared.auditor.Finding.{Finding}
 use Rattle.run_audit.specs.declared.auditor.Finding.TheVariants.{BadReplies}
 use Rattle.run_audit.proofs.Bounded.{answered_on_way, number_on_way}
 use Rattle.run_audit.proofs.BreaksOff.{stays_there}
-use Rattle.run_audit.proofs.LineWaits.{StopsHere, begins_anew, broken_next, none_behind}
-use Rattle.run_audit.proofs.SafeNow.{SafeHere, come_now, safe_by}
+use Rattle.run_audit.proofs.LineWaits.{StopsHere, broken_next, none_behind}
+use Rattle.run_audit.proofs.NoReset.{bad_is_found, bad_there}
+use Rattle.run_audit.proofs.SafeNow.{SafeHere, come_here, come_now, safe_by}
+use Rattle.run_audit.proofs.WaitsNow.{alarm_first, also_anew, begins_anew, goes_anew, goes_on_with}
 
 -- ---- the console goes on anew
-
-pub also_anew : (r : Reply) → is_of_reset r ≡ true → tells_anew r ≡ true
-also_anew replies.Banner e = e
-also_anew (replies.Alarm n) e = e
-also_anew _ e = e
-
-pub goes_on_with : {reply : Reply} {rest : List ℕ} → BeginsAnew reply rest → GoesOnWith rest reply
-goes_on_with x = record { reports = []; later = x.later; text = x.text; each = tt; are = tt }
-
-pub goes_anew : {reply : Reply} {rest : List ℕ} → BeginsAnew reply rest → GoesOnAnew rest
-goes_anew {reply} x = (reply, also_anew reply x.of_reset, goes_on_with x)
-
--- an alarm is no banner
-pub no_banner : (r : Reply) → is_alarm (Some r) ≡ true → not (is_banner r) ≡ true
-no_banner (replies.Alarm n) e = refl
-no_banner replies.Banner e = absurd cc
-no_banner _ e = absurd cc
 
 -- where records end, the end may not stand
 end_anew : {job console : List ℕ} {records made : List Record} {since begun : List Outcome} (c : HasCome (sent_in job) console records since begun made) → GoesOnAnew c.rest → (done : List Line) → records ≡ records_of done → MayEnd job console done → ⊥
@@ -75,22 +54,14 @@ end_anew {job} {console} {records} {made} {since} {begun} c anew done are may =
 
 module _ {a : Auditor} {j c s : SourceState} {jt ct st : List ℕ} (u : IsOnWay a j c s jt ct st) (b : Auditor) (off : StopsHere a b) (n : ℕ) (done : n + length a.course.work.left ≤ done_by a u.sent u.records)
     (r : Record) (later : IsLater a.course (Some r)) (looked : IsLooked a st u.records (Some r)) (known : Option Reply) (resets : TellsReset known) (heard : HearsNext known ct u.replies) where
-  -- where each line is answered, all is told up to what was heard
-  told_here : (d : Counting a u.first jt ct st u.sent u.replies u.records) (left : List Sent) (rest : List ℕ) → IsToldTo jt ct d.judged.point u.sent (u.replies ++ left_to_tell a.course) left rest → a.course.unanswered ≡ false
-      → IsToldTo jt ct d.judged.point u.sent (u.replies ++ left_to_tell a.course) left heard.0
-  told_here d left rest told answered = record {
-    whole = told.whole;
-    tells = subst (λ (rs : List Reply). Tells ct rs heard.0) (sym (ap (λ (rs : List Reply). u.replies ++ rs) (to_tell a.course later.done) ∙ append-nil u.replies)) heard.1.tells;
-    waits = λ waits. both a.course.unanswered (sym d.judged.unanswered ∙ waits) answered;
-  }
-
   abbrev come_told : (d : Counting a u.first jt ct st u.sent u.replies u.records) (left : List Sent) (rest : List ℕ) → IsToldTo jt ct d.judged.point u.sent (u.replies ++ left_to_tell a.course) left rest
       → HasCome (sent_in jt) ct u.records d.judged.since d.judged.begun d.judged.made
   come_told d left rest told = come_now a.course u.first u.opens u.sent u.replies u.records d.judged jt ct left rest told
 
+  -- where each line is answered, all is told up to what was heard
   abbrev come_heard : (d : Counting a u.first jt ct st u.sent u.replies u.records) (left : List Sent) (rest : List ℕ) → IsToldTo jt ct d.judged.point u.sent (u.replies ++ left_to_tell a.course) left rest → a.course.unanswered ≡ false
       → HasCome (sent_in jt) ct u.records d.judged.since d.judged.begun d.judged.made
-  come_heard d left rest told answered = come_now a.course u.first u.opens u.sent u.replies u.records d.judged jt ct left heard.0 (told_here d left rest told answered)
+  come_heard d left rest told answered = come_here d u.opens left told.whole heard.0 heard.1 (Some r) later answered
 
   anew : GoesOnAnew heard.0
   anew = goes_anew (begins_anew resets heard)
@@ -165,7 +136,7 @@ module _ {a : Auditor} {j c s : SourceState} {jt ct st : List ℕ} (u : IsOnWay 
         none : (d : Counting a u.first jt ct st u.sent u.replies u.records) (left : List Sent) (rest : List ℕ) → IsToldTo jt ct d.judged.point u.sent (u.replies ++ left_to_tell a.course) left rest → Stand (sent_in jt) ct (u.records ++ kinds.Mark (marks.Reset k) ∷ []) → ⊥
         none d left rest told stand =
             let first = resets.0 in
-            let of_alarm : not (is_banner first) ≡ true = no_banner first (ap is_alarm (sym resets.1) ∙ alarm) in
+            let of_alarm : not (is_banner first) ≡ true = alarm_first first resets.2 ∙ ap is_alarm (sym resets.1) ∙ alarm in
             let begins = begins_anew resets heard in
             let at = d.judged.number in
             resets_not (sent_in jt) ct u.records d.judged.made d.judged.since d.judged.begun (come_heard d left rest told answered) k first (omega (arith, at, number)) (goes_on_with begins) (also_anew first begins.of_reset)
@@ -197,27 +168,20 @@ module _ {a : Auditor} {j c s : SourceState} {jt ct st : List ℕ} (u : IsOnWay 
   none_awaited (a_stop ∷ left) e awaits = awaits
   none_awaited (a_text kept ∷ left) e awaits = no_text kept left e
 
-  fails : FailsAt h.safe.point h.safe.waiting h.safe.rest a.answered (a.answered + 1)
-  fails =
-      let of_alarm : not (is_banner resets.0) ≡ true = no_banner resets.0 (ap is_alarm (sym resets.1) ∙ alarm) in
-      anew_fails h.safe.point h.safe.waiting h.safe.rest h.safe.answered h.safe.stands.no_report (goes_anew there)
+  -- so no reset may come
+  bad : HasBadReply (sent_in jt) ct st (a.answered + 1) × ((k : ℕ) → HasAlarm (sent_in jt) ct st k → ⊥)
+  bad =
+      let of_alarm : not (is_banner resets.0) ≡ true = alarm_first resets.0 resets.2 ∙ ap is_alarm (sym resets.1) ∙ alarm in
+      bad_there h.safe resets.0 there
       (none_may h.safe.point h.safe.waiting h.safe.rest resets.0 (goes_on_with there) (also_anew resets.0 there.of_reset)
       (record {
         here = λ x told reset. both (h.safe.point.before.moved || h.safe.point.before.jog_moved) (reset.cause (told ∙ of_alarm)) still_there;
         behind = λ kept more o x e is told reset. no_text kept more e;
       }))
-      a.answered (a.answered + 1) (at_none h.safe.free (none_awaited h.safe.waiting refl) refl)
+      (a.answered + 1) (at_none h.safe.free (none_awaited h.safe.waiting refl) refl)
 
   pub bad_found : (found : Finding) → (a.answered < 2 ^ 32 - 1 → found ≡ BadReplies (a.answered + 1)) → IsFound a jt ct st found
   bad_found found line =
       let few = number_on_way u in
       let last = answered_on_way u in
-      subst (λ (x : Finding). IsFound a jt ct st x) (sym (line (omega (arith, few, last)))) (record {
-        finds = inl (bad_reply (sent_in jt) ct st up.steps_stand h.safe.point h.safe.waiting h.safe.rest up.stands fails.nothing fails.some (a.answered + 1)
-            (subst (λ (m : ℕ). IsLineAtFault h.safe.point h.safe.waiting h.safe.rest m (a.answered + 1)) (h.safe.last_is ∙ ap (λ (ps : List Passed). last_answered 1 0 ps) (sym up.is)) fails.is));
-        alarm = subst (λ (b : Bool). KnowsAlarm a jt ct st b) (sym (ap (λ (b : Bool). b && not (alarm_next a.course.work.left)) calm))
-            (no_alarm (sent_in jt) ct st up.steps_stand h.safe.point h.safe.waiting h.safe.rest up.stands fails.nothing h.safe.free (λ kept more o e is. absurd (no_text kept more e)));
-        calm = λ told. u.calm;
-      }) where
-        up : ComesUpTo (sent_in jt) ct st (h.safe.comes fails.nothing).lines (h.safe.comes fails.nothing).records (h.safe.comes fails.nothing).left h.safe.point h.safe.waiting h.safe.rest h.safe.course
-        up = (h.safe.comes fails.nothing).up_to
+      subst (λ (x : Finding). IsFound a jt ct st x) (sym (line (omega (arith, few, last)))) (bad_is_found a jt ct st (a.answered + 1) calm u.calm bad)

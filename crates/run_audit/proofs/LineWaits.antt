@@ -12,13 +12,11 @@ use Rattle.step_record.specs.declared.forms.Line.{Line as AnyLine}
 use Rattle.run_rules.specs.declared.State.{State}
 use Rattle.run_rules.specs.States.{IsOpening}
 use Rattle.run_rules.specs.Work.{Outcome, tells}
-use Rattle.run_texts.specs.Courses.{Passed, IsReset}
-use Rattle.run_texts.specs.Courses.Passed.{a_line, a_broken, a_cut, a_reset}
+use Rattle.run_texts.specs.Courses.{IsReset}
 use Rattle.run_texts.specs.Parts.{is_ending}
-use Rattle.run_texts.specs.Points.{Point, IsPassed, IsBroken, behind_line, behind_broken}
+use Rattle.run_texts.specs.Points.{Point, IsBroken, behind_broken}
 use Rattle.run_texts.specs.Sent.{Sent}
 use Rattle.run_texts.specs.Sent.Sent.{a_text, a_stop}
-use Rattle.run_texts.specs.SoFar.{LeadsTo, RebasesNothing}
 use Rattle.run_texts.specs.Told.{told_in}
 use Rattle.part_making.specs.Judging.{making}
 use Rattle.audit_rules.specs.Consoles.{Tells}
@@ -37,7 +35,7 @@ use Rattle.audit_course.specs.declared.judge.CourseJudge.{CourseJudge}
 use Rattle.audit_course.proofs.Ending.{to_tell}
 use Rattle.audit_course.proofs.Heard.{heard_from_here}
 use Rattle.audit_course.proofs.Onward.{none_owed}
-use Rattle.audit_texts.specs.SoFar.{IsItem, JobSoFar, IsNextOn, StandsIn, untold_of}
+use Rattle.audit_texts.specs.SoFar.{IsItem, JobSoFar, StandsIn, untold_of}
 use Rattle.audit_texts.specs.declared.sending.Item.{Item}
 use Rattle.audit_texts.specs.declared.sending.Item.TheVariants.{Line, Stop, Nothing}
 use Rattle.audit_texts.specs.declared.sending.Sending.{Sending}
@@ -45,31 +43,19 @@ use Rattle.audit_texts.proofs.JobRead.{front_sent}
 use Rattle.audit_texts.proofs.JobTold.{ComesNext, next_sent}
 use Rattle.run_audit.specs.Coming.{MayBeOfLine}
 use Rattle.run_audit.specs.Finding.{Leads}
-use Rattle.run_audit.specs.OnWay.{Broken, Counting, HearsNext, IsLater, IsLooked, IsOnWay, IsToldTo, MayBeOf, NoneEarly, Phase, TellsReset, done_by}
+use Rattle.run_audit.specs.OnWay.{Counting, HearsNext, IsLater, IsLooked, IsOnWay, IsToldTo, MayBeOf, NoneEarly, Phase, TellsReset, done_by}
 use Rattle.run_audit.specs.OnWay.Phase.{counting, broken}
-use Rattle.run_audit.specs.SafePoint.{BeginsAnew, IsHere, IsSince, Since, Stage, WaitSince}
-use Rattle.run_audit.specs.SafePoint.Since.{by_line, by_reset, by_wait}
-use Rattle.run_audit.specs.SafePoint.Stage.{at_safe, behind_safe}
+use Rattle.run_audit.specs.SafePoint.{BeginsAnew, Stage, WaitSince}
+use Rattle.run_audit.specs.SafePoint.Since.{by_wait}
+use Rattle.run_audit.specs.SafePoint.Stage.{behind_safe}
 use Rattle.run_audit.specs.declared.auditor.Auditor.{Auditor}
-use Rattle.run_audit.proofs.BreaksOff.{HeardAs, IsOff, breaks_lead, same_judge, stays_there}
+use Rattle.run_audit.proofs.BreaksOff.{IsOff, breaks_lead}
+use Rattle.run_audit.proofs.LineBegun.{ByOneLine, by_one_line}
+use Rattle.run_audit.proofs.LineBegun.ByOneLine.{is_answered, is_waiting}
 use Rattle.run_audit.proofs.OneReading.{one_next, reads_in}
-use Rattle.run_audit.proofs.SafeNow.{SafeHere, come_now, here_by, none_halts, safe_by}
-
--- ---- a course by what was sent alone
-
--- of one line: it is answered, or it waits
-pub data ByOneLine (p q : Point) (kept : List ℕ) (told : List Reply) : Type 0 where
-  is_answered : (o : Outcome) → IsPassed p kept o → q ≡ behind_line p kept o → told ≡ tells o.work → ByOneLine p q kept told
-  is_waiting : (o : Outcome) → IsBroken p kept o → q ≡ behind_broken p o → told ≡ [] → ByOneLine p q kept told
-
-pub by_one_line : (p q : Point) (kept : List ℕ) (course : List Passed) → LeadsTo p (a_text kept ∷ []) course q [] → RebasesNothing p (a_text kept ∷ []) course → ByOneLine p q kept (told_in course)
-by_one_line p q kept [] f r = absurd (let e : ◌≡◌ {A = List Sent} [] (a_text kept ∷ []) = f.1 in cc)
-by_one_line p q kept (a_cut k at ∷ ps) f r = absurd r
-by_one_line p q kept (a_reset u ∷ ps) f r = absurd (let e : false ≡ true = f.0.comes in cc)
-by_one_line p q kept (a_line o ∷ ps) f r =
-    let s = stays_there (behind_line p kept o) q ps f.1 r in is_answered o f.0 s.0 (ap (λ (qs : List Passed). tells o.work ++ told_in qs) s.1 ∙ append-nil (tells o.work))
-by_one_line p q kept (a_broken o ∷ ps) f r =
-    let s = stays_there (behind_broken p o) q ps f.1 r in is_waiting o f.0 s.0 (ap told_in s.1)
+use Rattle.run_audit.proofs.SafeNow.{SafeHere, come_now, safe_by}
+use Rattle.run_audit.proofs.StageOn.{broken_sent, HeardAs, same_judge}
+use Rattle.run_audit.proofs.WaitsNow.{begins_anew}
 
 -- ---- what a judge has heard
 
@@ -269,12 +255,6 @@ module _ {a : Auditor} {first : State} {jt ct st : List ℕ} {sent : List Sent} 
 
 -- ---- the line is begun
 
--- a reset tells what the console begins with
-pub begins_anew : {known : Option Reply} {console : List ℕ} {replies : List Reply} → (t : TellsReset known) → (h : HearsNext known console replies) → BeginsAnew t.0 h.0
-begins_anew {known} {console} {replies} t h =
-    let next = subst (λ (x : Option Reply). IsNextOn x h.0) t.1 h.2 in
-    record { of_reset = t.2; later = next.0; text = next.1 }
-
 module _ {a : Auditor} {j c s : SourceState} {jt ct st : List ℕ} (u : IsOnWay a j c s jt ct st) (k : CourseJudge) (q : Sending) (kept : List ℕ) (hears : HearsSent a.course k (a_text kept ∷ [])) (adds : AddsSent a.course k (a_text kept ∷ []))
     (waits : k.unanswered ≡ true) (lost : k.lost ≡ a.course.lost) (number : k.work.number ≡ a.course.work.number + 1) (next : Option Record) (later : IsLater a.course next) (may : MayBeOf a.course.work.number next) (looked : IsLooked a st u.records next) where
   counting_waits : (d : Counting a u.first jt ct st u.sent u.replies u.records) → a.course.unanswered ≡ false → Counting (record a { course = k; sending = q }) u.first jt ct st (u.sent ++ a_text kept ∷ []) u.replies u.records
@@ -293,32 +273,11 @@ module _ {a : Auditor} {j c s : SourceState} {jt ct st : List ℕ} (u : IsOnWay 
       waits = λ unanswered. both a.course.unanswered (sym d.judged.unanswered ∙ unanswered) answered;
     }) m
 
-  broken_waits : Broken a u.first jt ct st u.sent u.replies u.records → Broken (record a { course = k; sending = q }) u.first jt ct st (u.sent ++ a_text kept ∷ []) u.replies u.records
-  broken_waits x = record {
-    at = x.at;
-    broken = x.broken;
-    front = x.front;
-    later = x.later ++ a_text kept ∷ [];
-    sent_is = ap (λ (ss : List Sent). ss ++ a_text kept ∷ []) x.sent_is ∙ append_assoc x.front x.later (a_text kept ∷ []);
-    told = x.told;
-    point = x.point;
-    since = x.since;
-    begun = x.begun;
-    none_begun = x.none_begun;
-    place = x.place;
-    made = x.made;
-    reached = x.reached;
-    making = x.making;
-    is_made = x.is_made;
-    breaks = x.breaks;
-    heard = hears x.point x.told x.later u.replies x.heard;
-  }
-
   phase_waits : a.course.unanswered ≡ false → Phase (record a { course = k; sending = q }) u.first jt ct st (u.sent ++ a_text kept ∷ []) u.replies u.records
   phase_waits answered = by u.phase where
     by : Phase a u.first jt ct st u.sent u.replies u.records → Phase (record a { course = k; sending = q }) u.first jt ct st (u.sent ++ a_text kept ∷ []) u.replies u.records
     by (counting d) = counting (counting_waits d answered)
-    by (broken x) = broken (broken_waits x)
+    by (broken x) = broken (broken_sent (a_text kept ∷ []) refl (λ p told before h. hears p told before u.replies h) x)
 
   pub waits_on : (IsTooLong ct st → ⊥) → (not a.course.unanswered && a.course.line.halts) ≡ false → (known : Option Reply) → TellsReset known → HearsNext known ct u.replies → JobSoFar q j jt (u.sent ++ a_text kept ∷ []) → q.last ≡ a.sending.last
       → length k.work.left ≤ 64 → (n : ℕ) → n + length a.course.work.left ≤ done_by a u.sent u.records → Leads (record a { course = k; sending = q }) j c s jt ct st n None
@@ -408,86 +367,3 @@ pub refused_on : {a : Auditor} {j c s : SourceState} {jt ct st : List ℕ} (u : 
     (next : Option Record) (later : IsLater a.course next) (may : MayBeOf a.course.work.number next) (looked : IsLooked a st u.records next) → (next ≡ None → a.course.unanswered ≡ false) → a.course.unanswered ≡ true → Leads b j c s jt ct st n None
 refused_on {a} u k same b off n done None later may looked answered waits = absurd (both a.course.unanswered waits (answered refl))
 refused_on {a} u k same b off n done (Some r) later may looked answered waits = waits_already u k same b off n done r later looked may waits
-
--- ---- the job is read on
-
--- What was told of the lines stays where the line at hand is done, whatever is read of the job.
-pub phase_read : {a : Auditor} {first : State} {jt ct st : List ℕ} {sent : List Sent} {replies : List Reply} {records : List Record} (q : Sending) → Phase a first jt ct st sent replies records → Phase (record a { sending = q }) first jt ct st sent replies records
-phase_read q (counting d) = counting (record { counts = d.counts; judged = d.judged; early = d.early; stops = d.stops })
-phase_read q (broken x) = broken (record {
-  at = x.at;
-  broken = x.broken;
-  front = x.front;
-  later = x.later;
-  sent_is = x.sent_is;
-  told = x.told;
-  point = x.point;
-  since = x.since;
-  begun = x.begun;
-  none_begun = x.none_begun;
-  place = x.place;
-  made = x.made;
-  reached = x.reached;
-  making = x.making;
-  is_made = x.is_made;
-  breaks = x.breaks;
-  heard = x.heard;
-})
-
-here_read : {a : Auditor} {first : State} {sent : List Sent} {replies : List Reply} (q : Sending) → IsHere a first sent replies → IsHere (record a { sending = q }) first sent replies
-here_read q h = record { done = h.done; unanswered = h.unanswered; point = h.point; answered = h.answered; course = h.course; leads = h.leads; tells = h.tells; last_is = h.last_is }
-
-pub stage_read : {a : Auditor} {first : State} {jt ct st : List ℕ} {sent : List Sent} {replies : List Reply} (q : Sending) → (a.course.unanswered ≡ false → IsHere a first sent replies) → (a.course.unanswered ≡ false → a.course.line.halts ≡ false) → Stage a first jt ct st sent replies → Stage (record a { sending = q }) first jt ct st sent replies
-stage_read {a} {first} {jt} {ct} {st} {sent} {replies} q here calm stage = by a.course.unanswered refl where
-  by_since : (x : IsSince a first jt ct st sent replies) → a.course.unanswered ≡ true → Since a first jt ct st x.front x.told x.last x.safe x.later x.heard → Stage (record a { sending = q }) first jt ct st sent replies
-  by_since x waits (by_line l) = absurd (both a.course.unanswered waits l.unanswered)
-  by_since x waits (by_reset l) = absurd (both a.course.unanswered waits l.unanswered)
-  by_since x waits (by_wait w) = behind_safe (record {
-    front = x.front;
-    later = x.later;
-    sent_is = x.sent_is;
-    told = x.told;
-    heard = x.heard;
-    replies_is = x.replies_is;
-    last = x.last;
-    safe = x.safe;
-    since = by_wait (record {
-      kept = w.kept;
-      more = w.more;
-      waiting_is = w.waiting_is;
-      later_is = w.later_is;
-      none = w.none;
-      unanswered = w.unanswered;
-      outcome = w.outcome;
-      broken = w.broken;
-      now = w.now;
-      stands = w.stands;
-      resets = w.resets;
-      locked = w.locked;
-      reply = w.reply;
-      anew = w.anew;
-      number = w.number;
-      answered = w.answered;
-    });
-  })
-
-  by_stage : a.course.unanswered ≡ true → Stage a first jt ct st sent replies → Stage (record a { sending = q }) first jt ct st sent replies
-  by_stage waits (at_safe h calm) = absurd (both a.course.unanswered waits h.unanswered)
-  by_stage waits (behind_safe x) = by_since x waits x.since
-
-  by : (b : Bool) → a.course.unanswered ≡ b → Stage (record a { sending = q }) first jt ct st sent replies
-  by false e = at_safe (here_read q (here e)) (calm e)
-  by true e = by_stage e stage
-
-abbrev pub read_on_way : {a : Auditor} {j c s : SourceState} {jt ct st : List ℕ} (u : IsOnWay a j c s jt ct st) → a.course.work.left ≡ [] → (not a.course.unanswered && a.course.line.halts) ≡ false → (q : Sending) (k : SourceState) → JobSoFar q k jt u.sent → q.last ≡ a.sending.last → IsOnWay (record a { sending = q }) k c s jt ct st
-read_on_way {a} u done calm q k read last = record {
-  first = u.first;
-  opens = u.opens;
-  sent = u.sent;
-  replies = u.replies;
-  records = u.records;
-  are_read = record { job_so_far = read; console_so_far = u.are_read.console_so_far; steps_so_far = u.are_read.steps_so_far };
-  phase = phase_read q u.phase;
-  stage = stage_read q (here_by u done) (λ answered. none_halts a.course answered calm) u.stage;
-  calm = last ∙ u.calm;
-}

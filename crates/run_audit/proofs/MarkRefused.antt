@@ -28,11 +28,12 @@ use Rattle.run_audit.specs.SafePoint.{BeginsAnew}
 use Rattle.run_audit.specs.declared.auditor.Auditor.{Auditor}
 use Rattle.run_audit.specs.declared.auditor.Finding.{Finding}
 use Rattle.run_audit.proofs.Bounded.{dropped_on_way, place_on_way}
-use Rattle.run_audit.proofs.BreaksOff.{HeardAs, off_now}
-use Rattle.run_audit.proofs.NoReset.{alarm_first, left_front, moved_alike}
+use Rattle.run_audit.proofs.BreaksOff.{off_now}
+use Rattle.run_audit.proofs.NoReset.{left_front, moved_alike}
 use Rattle.run_audit.proofs.ResetSteps.{alarm_known}
 use Rattle.run_audit.proofs.SafeNow.{come_now}
-use Rattle.run_audit.proofs.WaitsNow.{also_anew, begins_anew, goes_on_here}
+use Rattle.run_audit.proofs.StageOn.{HeardAs}
+use Rattle.run_audit.proofs.WaitsNow.{alarm_first, also_anew, begins_anew, goes_on_here}
 
 -- A reset is passed, as `pass_reset` says.
 abbrev pub PassesReset : Auditor → Auditor → ℕ → Bool → Option Finding → Type 0
@@ -46,7 +47,7 @@ module _ (a b : Auditor) (k : CourseJudge) (h : HeardAs a.course k) (n count : �
   pub mark_refused : (job console steps : SourceState) → ReadsOnIf (map a_text lines ++ a_stop ∷ []) (LooksAndHears a (Some (kinds.Mark (ResetMark n))) a.listening.known) a b job console steps job console steps result
   mark_refused job console steps earlier before jt ct st fits u read looks done least = by u.phase where
     anew : BeginsAnew resets.0 looks.1.0
-    anew = begins_anew a.listening.known ct u.replies resets looks.1
+    anew = begins_anew resets looks.1
 
     few : a.course.work.number + count < 2 ^ 32
     few = (let all = dropped_on_way u a.sending job lines (a_stop ∷ []) read in omega (arith, all, counted))

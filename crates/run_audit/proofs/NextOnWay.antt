@@ -8,7 +8,6 @@ use Rattle.status_report.specs.declared.Reply.{Reply}
 use Rattle.step_line.specs.declared.Mark.TheVariants as marks
 use Rattle.step_line.specs.declared.Record.{Record}
 use Rattle.step_line.specs.declared.Record.TheVariants as kinds
-use Rattle.run_rules.specs.declared.State.{State}
 use Rattle.run_rules.specs.Work.{Outcome, tells}
 use Rattle.run_texts.specs.Courses.{IsReset, behind_cut}
 use Rattle.run_texts.specs.Points.{Point}
@@ -36,11 +35,11 @@ use Rattle.run_audit.specs.SafePoint.Since.{by_line, by_reset, by_wait}
 use Rattle.run_audit.specs.SafePoint.Stage.{at_safe, behind_safe}
 use Rattle.run_audit.specs.declared.auditor.Auditor.{Auditor}
 use Rattle.run_audit.proofs.Bounded.{cuts_on_way, place_on_way}
-use Rattle.run_audit.proofs.BreaksOff.{IsOff, breaks_lead, breaks_off, same_judge, same_unanswered, stage_as, stays_there, tells_same}
+use Rattle.run_audit.proofs.BreaksOff.{IsOff, breaks_lead, breaks_off, same_unanswered, stays_there}
 use Rattle.run_audit.proofs.OneReading.{reads_in}
+use Rattle.run_audit.proofs.ReadOn.{recorded_on_way}
 use Rattle.run_audit.proofs.SafeNow.{come_now, here_by, none_halts}
-
--- ---- records are read on
+use Rattle.run_audit.proofs.StageOn.{same_judge, tells_same}
 
 -- records count, or they do not
 pub counting_of : {a : Auditor} {j c s : SourceState} {jt ct st : List ℕ} (u : IsOnWay a j c s jt ct st) → a.broken ≡ None → Counting a u.first jt ct st u.sent u.replies u.records
@@ -48,42 +47,6 @@ counting_of {a} {j} {c} {s} {jt} {ct} {st} u none = by u.phase where
   by : Phase a u.first jt ct st u.sent u.replies u.records → Counting a u.first jt ct st u.sent u.replies u.records
   by (counting d) = d
   by (broken b) = absurd (let e : None ≡ Some b.at = sym none ∙ b.broken in cc)
-
-pub phase_read : (a : Auditor) (q : Recorded) (first : State) (jt ct st : List ℕ) (sent : List Sent) (replies : List Reply) (records : List Record) → Phase a first jt ct st sent replies records → Phase (record a { recorded = q }) first jt ct st sent replies records
-phase_read a q first jt ct st sent replies records (counting d) = counting (record { counts = d.counts; judged = d.judged; early = d.early; stops = d.stops })
-phase_read a q first jt ct st sent replies records (broken b) = broken (record {
-  at = b.at;
-  broken = b.broken;
-  front = b.front;
-  later = b.later;
-  sent_is = b.sent_is;
-  told = b.told;
-  point = b.point;
-  since = b.since;
-  begun = b.begun;
-  none_begun = b.none_begun;
-  place = b.place;
-  made = b.made;
-  reached = b.reached;
-  making = b.making;
-  is_made = b.is_made;
-  breaks = b.breaks;
-  heard = b.heard;
-})
-
--- an audit is on its way where more of the steps is read
-abbrev pub recorded_on_way : (a : Auditor) (q : Recorded) (j c s m : SourceState) (jt ct st : List ℕ) → StaysRecorded a.recorded q s m → IsOnWay a j c s jt ct st → IsOnWay (record a { recorded = q }) j c m jt ct st
-recorded_on_way a q j c s m jt ct st steps u = record {
-  first = u.first;
-  opens = u.opens;
-  sent = u.sent;
-  replies = u.replies;
-  records = u.records;
-  are_read = record { job_so_far = u.are_read.job_so_far; console_so_far = u.are_read.console_so_far; steps_so_far = steps st u.records u.are_read.steps_so_far };
-  phase = phase_read a q u.first jt ct st u.sent u.replies u.records u.phase;
-  stage = stage_as a a.course a.listening q a.broken (same_judge a.course) u.first jt ct st u.sent u.replies u.stage;
-  calm = u.calm;
-}
 
 -- ---- the next record is looked at
 

@@ -1,12 +1,11 @@
 -- Where a reset is told next that may not come, the line at fault has the bad reply.
-use Rattle.std.proofs.Common.{◌≡◌, ℕ, ◌+◌, ◌-◌, Bool, true, false, cond, not, ◌&&◌, ◌||◌, nat_eq, List, [], ◌∷◌, ◌++◌, append_assoc, length, map, Some, None, refl, sym, ap, ◌∙◌, subst, arith}
+use Rattle.std.proofs.Common.{◌≡◌, ℕ, ◌+◌, ◌-◌, Bool, true, false, cond, not, ◌&&◌, ◌||◌, nat_eq, List, [], ◌∷◌, ◌++◌, append_assoc, length, map, Some, None, inl, refl, sym, ap, ◌∙◌, subst, arith}
 use Rattle.std.proofs.lemmas.Bool.{ne_eqb}
 use Rattle.std.proofs.lemmas.List.{append_cancel_left, map-append}
 use Rattle.flight.specs.Places.{origin}
 use Rattle.outside.specs.Causes.{SourceState}
-use Rattle.status_report.specs.Answering.{is_banner}
 use Rattle.status_report.specs.declared.Reply.{Reply}
-use Rattle.status_report.specs.declared.Reply.TheVariants.{Alarm, Banner}
+use Rattle.status_report.specs.declared.Reply.TheVariants.{Alarm}
 use Rattle.run_rules.specs.Work.{Outcome, soft_limit, has_moves}
 use Rattle.run_rules.specs.declared.State.{State}
 use Rattle.run_texts.specs.Courses.{Reset, IsReset}
@@ -15,7 +14,7 @@ use Rattle.run_texts.specs.Sent.{Sent, has_reset, waiting_in}
 use Rattle.run_texts.specs.Sent.Sent.{a_text, a_stop}
 use Rattle.run_texts.proofs.Errors.{begun_one}
 use Rattle.audit_rules.specs.Consoles.{GoesOnAnew}
-use Rattle.audit_rules.specs.Faults.{ResetRefused}
+use Rattle.audit_rules.specs.Faults.{FailsAt, ResetRefused}
 use Rattle.audit_rules.specs.Onward.{TellsNoAlarm, TellsNoReset}
 use Rattle.audit_rules.specs.Scanned.{sent_in}
 use Rattle.audit_rules.specs.Telling.{HasAlarm, HasBadReply, IsAwaited, IsLineAtFault, last_answered}
@@ -36,11 +35,14 @@ use Rattle.audit_texts.specs.declared.sending.Sending.{Sending}
 use Rattle.audit_texts.proofs.ConsoleRead.{looked_apart}
 use Rattle.audit_texts.proofs.JobRead.{all_sent, front_sent}
 use Rattle.run_audit.specs.Coming.{is_alarm}
+use Rattle.run_audit.specs.Finding.{IsFound, KnowsAlarm, alarm_next}
 use Rattle.run_audit.specs.OnWay.{line_waiting}
 use Rattle.run_audit.specs.SafePoint.{BeginsAnew, SafePoint, WaitSince}
 use Rattle.run_audit.specs.declared.auditor.Auditor.{Auditor}
+use Rattle.run_audit.specs.declared.auditor.Finding.TheVariants.{BadReplies}
 use Rattle.run_audit.proofs.BreaksOff.{stays_there}
-use Rattle.run_audit.proofs.WaitsNow.{IsAnew, also_looked_for, goes_anew}
+use Rattle.run_audit.proofs.LineBegun.{anew_looked_for}
+use Rattle.run_audit.proofs.WaitsNow.{IsAnew, alarm_first, also_anew, goes_anew, goes_on_with}
 
 -- ---- what is left of a job
 
@@ -81,23 +83,35 @@ left_front s source text front waiting begun lines read whole =
 
 -- ---- at a safe point
 
+-- Where nothing is told at a safe point that may come there, the line at fault has the bad reply, and no line raises an alarm.
+pub fails_there : {first : State} {job console steps : List ℕ} {front : List Sent} {told : List Reply} {last : ℕ} (s : SafePoint first job console steps front told last) (line : ℕ) → FailsAt s.point s.waiting s.rest last line
+    → TellsNoAlarm s.point s.waiting s.rest → HasBadReply (sent_in job) console steps line × ((k : ℕ) → HasAlarm (sent_in job) console steps k → ⊥)
+fails_there {first} {job} {console} {steps} s line f none =
+    let b = s.comes f.nothing in
+    let at = s.last_is ∙ ap (last_answered 1 0) (sym b.up_to.is) in (
+      bad_reply (sent_in job) console steps b.up_to.steps_stand s.point s.waiting s.rest b.up_to.stands f.nothing f.some line (subst (λ (n : ℕ). IsLineAtFault s.point s.waiting s.rest n line) at f.is),
+      no_alarm (sent_in job) console steps b.up_to.steps_stand s.point s.waiting s.rest b.up_to.stands f.nothing s.free none,
+    )
+
 -- The console goes on anew there, and no reset may come.
 module _ {first : State} {job console steps : List ℕ} {front : List Sent} {told : List Reply} {last : ℕ} (s : SafePoint first job console steps front told last) (reply : Reply) (anew : BeginsAnew reply s.rest) (none : TellsNoReset s.point s.waiting s.rest) where
   no_alarm_told : TellsNoAlarm s.point s.waiting s.rest
   no_alarm_told kept more o is passed raises goes =
       let next = next_reply s.rest (Alarm soft_limit) s.stands.no_report goes in
-      let same : reply ≡ Alarm soft_limit = looked_apart reply (Alarm soft_limit) anew.later next.0 (also_looked_for reply anew.of_reset) refl (sym anew.text ∙ next.1) in
+      let same : reply ≡ Alarm soft_limit = looked_apart reply (Alarm soft_limit) anew.later next.0 (anew_looked_for reply anew.of_reset) refl (sym anew.text ∙ next.1) in
       both (is_of_reset reply) anew.of_reset (ap is_of_reset same)
 
   -- the line at fault has the bad reply, and no line raises an alarm
   pub bad_there : (line : ℕ) → IsLineAtFault s.point s.waiting s.rest last line → HasBadReply (sent_in job) console steps line × ((k : ℕ) → HasAlarm (sent_in job) console steps k → ⊥)
-  bad_there line is =
-      let f = anew_fails s.point s.waiting s.rest s.answered s.stands.no_report (goes_anew reply s.rest anew) none last line is in
-      let b = s.comes f.nothing in
-      let at : last ≡ last_answered 1 0 (b.up_to.stands.course ++ b.up_to.stands.others) = s.last_is ∙ ap (last_answered 1 0) (sym b.up_to.is) in (
-        bad_reply (sent_in job) console steps b.up_to.steps_stand s.point s.waiting s.rest b.up_to.stands f.nothing f.some line (subst (λ (n : ℕ). IsLineAtFault s.point s.waiting s.rest n line) at f.is),
-        no_alarm (sent_in job) console steps b.up_to.steps_stand s.point s.waiting s.rest b.up_to.stands f.nothing s.free no_alarm_told,
-      )
+  bad_there line is = fails_there s line (anew_fails s.point s.waiting s.rest s.answered s.stands.no_report (goes_anew anew) none last line is) no_alarm_told
+
+-- a reply is bad where no alarm was raised
+pub bad_is_found : (b : Auditor) (jt ct st : List ℕ) (line : ℕ) → (not b.course.unanswered && b.course.line.halts) ≡ false → b.sending.last ≡ None → HasBadReply (sent_in jt) ct st line × ((k : ℕ) → HasAlarm (sent_in jt) ct st k → ⊥) → IsFound b jt ct st (BadReplies line)
+bad_is_found b jt ct st line calm last found = record {
+  finds = inl found.0;
+  alarm = subst (λ (told : Bool). KnowsAlarm b jt ct st told) (sym (ap (λ (x : Bool). x && not (alarm_next b.course.work.left)) calm)) found.1;
+  calm = λ told. last;
+}
 
 -- ---- no reset comes of the job
 
@@ -180,14 +194,10 @@ refused_since {a} {first} {job} {console} {steps} {front} {told} {last} s later 
       let one : o ≡ w.outcome = begun_one s.point w.kept o w.outcome (subst (λ (text : List ℕ). IsBroken s.point text o) same broken).becomes w.broken.becomes in
       there more u is (subst (λ (x : Outcome). IsReset (behind_broken s.point x) more u) one at)
 
-not_awaited : (lines : List (List ℕ)) (more : List Sent) (rest : List ℕ) → GoesOnAnew rest → IsAwaited (map a_text lines ++ a_stop ∷ more) rest → ⊥
+-- no line waits before it
+pub not_awaited : (lines : List (List ℕ)) (more : List Sent) (rest : List ℕ) → GoesOnAnew rest → IsAwaited (map a_text lines ++ a_stop ∷ more) rest → ⊥
 not_awaited [] more rest anew is = is
 not_awaited (l ∷ ls) more rest anew is = is (reset_behind ls more) anew
-
-pub alarm_first : (r : Reply) → is_of_reset r ≡ true → not (is_banner r) ≡ is_alarm (Some r)
-alarm_first Banner e = refl
-alarm_first (Alarm n) e = refl
-alarm_first _ e = absurd cc
 
 -- so the reply of the reset is bad
 pub refused_bad : {a : Auditor} {first : State} {jt ct st : List ℕ} {sent : List Sent} {replies : List Reply} {reply : Reply} (x : IsAnew a first jt ct st sent replies reply) (s : Sending) (source : SourceState) (lines : List (List ℕ)) (alarm : Bool)
@@ -195,9 +205,8 @@ pub refused_bad : {a : Auditor} {first : State} {jt ct st : List ℕ} {sent : Li
     → HasBadReply (sent_in jt) ct st (a.answered + 1) × ((k : ℕ) → HasAlarm (sent_in jt) ct st k → ⊥)
 refused_bad {a} {first} {jt} {ct} {st} {sent} {replies} {reply} x s source lines alarm same none read =
     let left = left_front s source jt x.front x.safe.waiting x.begun lines (subst (λ (ss : List Sent). JobSoFar s source jt (ss ++ (map a_text lines ++ a_stop ∷ []))) x.sent_is read) x.safe.whole in
-    let anew = goes_anew reply x.safe.rest x.anew in
-    bad_there x.safe reply x.anew (none_may x.safe.point x.safe.waiting x.safe.rest reply anew.2 anew.1 (subst (ResetRefused x.safe.point x.safe.waiting) (same ∙ sym (alarm_first reply x.anew.of_reset)) none)) (a.answered + 1)
-    (at_none x.safe.free (λ is. not_awaited (x.begun ++ lines) left.0 x.safe.rest anew (subst (λ (ss : List Sent). IsAwaited ss x.safe.rest) left.1 is)) (ap (λ (n : ℕ). n + 1) x.answered))
+    bad_there x.safe reply x.anew (none_may x.safe.point x.safe.waiting x.safe.rest reply (goes_on_with x.anew) (also_anew reply x.anew.of_reset) (subst (ResetRefused x.safe.point x.safe.waiting) (same ∙ sym (alarm_first reply x.anew.of_reset)) none)) (a.answered + 1)
+    (at_none x.safe.free (λ is. not_awaited (x.begun ++ lines) left.0 x.safe.rest (goes_anew x.anew) (subst (λ (ss : List Sent). IsAwaited ss x.safe.rest) left.1 is)) (ap (λ (n : ℕ). n + 1) x.answered))
 
 -- ---- it is not refused where each line is answered
 

@@ -16,7 +16,6 @@ use Rattle.audit_course.specs.SoFar.{texts_among}
 use Rattle.audit_course.proofs.Counting.{texts_on}
 use Rattle.audit_texts.specs.Audited.{AllAudited}
 use Rattle.audit_texts.proofs.JobTold.{differ}
-use Rattle.run_audit.specs.Auditing.{IsAuditable}
 use Rattle.run_audit.proofs.Bounded.{answered_before, lines_counted}
 use Rattle.run_audit.proofs.LinesTold.{no_text, texts_of}
 
@@ -41,8 +40,8 @@ sent_at before here behind rest =
     ∙ ap (λ (ss : List Sent). flat_map sent_by before ++ ss) (append_assoc (own ++ text) (flat_map sent_by behind) stops ∙ append_assoc own text (flat_map sent_by behind ++ stops))
     ∙ sym (append_assoc (flat_map sent_by before) own (a_text (kept_of here) ∷ (flat_map sent_by behind ++ stops)))
 
-pub none_foreign_of : {A : Type 0} (job console steps : List ℕ) (events : ℕ) (f : FitsWith job console steps events) → IsAuditable job console steps events f → HasForeign job console steps → A
-none_foreign_of {A} job console steps events f can h = by f.fit.fits.last.before.alarmed refl f.fit.over where
+pub none_foreign_of : {A : Type 0} (job console steps : List ℕ) (events : ℕ) (f : FitsWith job console steps events) → AllAudited f.fit.sent → HasForeign job console steps → A
+none_foreign_of {A} job console steps events f audited h = by f.fit.fits.last.before.alarmed refl f.fit.over where
   rest : List ℕ
   rest = (scanned job).rest
 
@@ -56,7 +55,7 @@ none_foreign_of {A} job console steps events f can h = by f.fit.fits.last.before
   whole = sym f.fit.split ∙ ap (λ (ls : List (List ℕ)). sent_of ls rest) h.1.split ∙ sent_at h.1.before h.1.here h.1.behind rest
 
   few : texts_among f.fit.sent ≤ texts_among front
-  few = ends_before f.fit.sent f.fit.later front zs (kept_of h.1.here) whole can.audited h.1.is
+  few = ends_before f.fit.sent f.fit.later front zs (kept_of h.1.here) whole audited h.1.is
 
   count : texts_among front ≡ length h.1.before
   count =

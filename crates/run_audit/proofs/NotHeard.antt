@@ -1,26 +1,26 @@
 -- A reply of the line at hand, or of a reset, is not told: the line at fault has the bad reply.
 use Rattle.std.specs.List.{AllByRecursion, flat_map}
-use Rattle.std.proofs.Common.{◌≡◌, ◌<◌, ℕ, ◌+◌, ◌-◌, ◌^◌, Bool, true, false, not, ◌&&◌, ◌||◌, List, [], ◌∷◌, ◌++◌, append_assoc, append-nil, length, drop, map, Some, None, inl, refl, sym, ap, ◌∙◌, subst, arith, cond}
+use Rattle.std.proofs.Common.{◌≡◌, ◌<◌, ℕ, ◌+◌, ◌-◌, ◌^◌, Bool, true, false, not, ◌&&◌, ◌||◌, List, [], ◌∷◌, ◌++◌, append_assoc, append-nil, length, drop, Some, None, inl, refl, sym, ap, ◌∙◌, subst, arith, cond}
 use Rattle.std.specs.declared.option.Option.{Option}
 use Rattle.std.proofs.lemmas.List.Concat.{flat_map-append}
 use Rattle.outside.specs.Causes.{SourceState}
-use Rattle.status_report.specs.Answering.{is_banner, is_report}
+use Rattle.status_report.specs.Answering.{is_report}
 use Rattle.status_report.specs.Replies.{reply_text}
 use Rattle.status_report.specs.declared.Message.TheVariants.{ResetToContinue}
 use Rattle.status_report.specs.declared.Reply.{Reply}
-use Rattle.status_report.specs.declared.Reply.TheVariants.{Alarm, Banner, Bye, Error, Message, Modes, Offset, Ok, Report, Setting}
+use Rattle.status_report.specs.declared.Reply.TheVariants.{Alarm, Message}
 use Rattle.run_rules.specs.Reports.{raises_alarm}
 use Rattle.run_rules.specs.Told.{replies_text}
 use Rattle.run_rules.specs.Work.{Outcome, Task, halting_work, soft_limit, tells, told_by}
 use Rattle.run_rules.specs.Work.Task.{halt, tell}
 use Rattle.line_interpreter.specs.Lefts.{IsNextOf}
-use Rattle.run_texts.specs.Sent.{Sent, has_reset, sent_by}
-use Rattle.run_texts.specs.Sent.Sent.{a_stop, a_text}
+use Rattle.run_texts.specs.Sent.{Sent, sent_by}
+use Rattle.run_texts.specs.Sent.Sent.{a_text}
 use Rattle.run_texts.proofs.Determined.{line_answers}
-use Rattle.audit_rules.specs.Consoles.{GoesOnWith, IsOnConsole, TellsNext, is_of_reset as tells_anew}
+use Rattle.audit_rules.specs.Consoles.{IsOnConsole, TellsNext}
 use Rattle.audit_rules.specs.Faults.{FailsAt, TellsLineShort, TellsResetShort, TellsShort, told_with}
 use Rattle.audit_rules.specs.Findings.{IsTooLong}
-use Rattle.audit_rules.specs.Onward.{TellsNoAlarm, TellsNothing}
+use Rattle.audit_rules.specs.Onward.{TellsNoAlarm}
 use Rattle.audit_rules.specs.Scanned.{sent_in}
 use Rattle.audit_rules.specs.StepTexts.{records_of}
 use Rattle.audit_rules.specs.Telling.{HasAlarm, HasBadReply, IsAwaited, IsLineAtFault, StandsUpTo, last_answered}
@@ -28,19 +28,16 @@ use Rattle.audit_rules.specs.Telling.IsLineAtFault.{at_none}
 use Rattle.audit_rules.proofs.Alarmed.{limits}
 use Rattle.audit_rules.proofs.BehindText.{onward}
 use Rattle.audit_rules.proofs.LineShort.{line_alarms, line_calm, line_fails}
-use Rattle.audit_rules.proofs.NoAlarm.{no_alarm}
 use Rattle.audit_rules.proofs.NoFurther.{bad_reply}
 use Rattle.audit_rules.proofs.OneLine.{told_further}
 use Rattle.audit_rules.proofs.OneWay.{both}
-use Rattle.audit_rules.proofs.ResetShort.{anew_fails, told_short}
-use Rattle.audit_rules.proofs.ToldApart.{next_reply}
+use Rattle.audit_rules.proofs.ResetShort.{told_short}
 use Rattle.audit_course.specs.Progressing.{has_halt}
-use Rattle.audit_course.specs.SoFar.{is_of_reset, left_to_tell, texts_among}
+use Rattle.audit_course.specs.SoFar.{left_to_tell, texts_among}
 use Rattle.audit_course.specs.declared.judge.CourseJudge.{CourseJudge}
 use Rattle.audit_course.proofs.Counting.{texts_on}
-use Rattle.audit_texts.specs.SoFar.{IsHeardOn, JobSoFar, StandsAt, StandsSo, is_looked_for, stops_of, untold_of}
+use Rattle.audit_texts.specs.SoFar.{IsHeardOn, JobSoFar, StandsAt, StandsSo, stops_of, untold_of}
 use Rattle.audit_texts.specs.declared.sending.Sending.{Sending}
-use Rattle.audit_texts.proofs.ConsoleRead.{looked_apart}
 use Rattle.run_audit.specs.Coming.{is_alarm}
 use Rattle.run_audit.specs.Finding.{FindsSo, IsFound, KnowsAlarm, alarm_next, has_told_alarm, is_greeting}
 use Rattle.run_audit.specs.OnWay.{IsOnWay}
@@ -51,8 +48,10 @@ use Rattle.run_audit.specs.declared.auditor.Auditor.{Auditor}
 use Rattle.run_audit.specs.declared.auditor.Finding.{Finding}
 use Rattle.run_audit.specs.declared.auditor.Finding.TheVariants.{BadReplies}
 use Rattle.run_audit.proofs.Bounded.{answered_on_way, number_on_way}
-use Rattle.run_audit.proofs.LinesTold.{texts_of}
 use Rattle.run_audit.proofs.LineReplies.{GreetsNot, line_tells_plainly}
+use Rattle.run_audit.proofs.LinesTold.{texts_of}
+use Rattle.run_audit.proofs.NoReset.{bad_there, fails_there, not_awaited}
+use Rattle.run_audit.proofs.WaitsNow.{alarm_first, also_anew, goes_anew, goes_on_with}
 
 next_told : (r : Reply) (tasks : List Task) → IsNextOf (tell r) tasks → tells tasks ≡ r ∷ tells (drop 1 tasks)
 next_told r tasks is = ap tells is
@@ -70,18 +69,6 @@ heard_next console told heard rest now first then =
       by : (reports : List Reply) (later : List ℕ) → TellsNext rest heard later → now ≡ replies_text reports ++ later → AllByRecursion IsOnConsole reports → AllByRecursion (λ r. is_report r ≡ true) reports → TellsNext rest heard now
       by [] later tells is each are = subst (λ (text : List ℕ). TellsNext rest heard text) (sym is) tells
       by (r ∷ rs) later tells is each are = absurd (then.no_report r (replies_text rs ++ later) are.0 each.0 (is ∙ append_assoc (reply_text r) (replies_text rs) later))
-
-also_anew : (r : Reply) → is_of_reset r ≡ true → (tells_anew r ≡ true) × (is_alarm (Some r) ≡ not (is_banner r)) × (is_looked_for r ≡ true)
-also_anew Banner e = (refl, refl, refl)
-also_anew (Alarm n) e = (e, refl, e)
-also_anew Ok e = absurd cc
-also_anew (Error n) e = absurd cc
-also_anew (Message m) e = absurd cc
-also_anew (Report x) e = absurd cc
-also_anew (Setting n v) e = absurd cc
-also_anew (Modes m) e = absurd cc
-also_anew (Offset row at) e = absurd cc
-also_anew Bye e = absurd cc
 
 -- ---- which replies greet
 
@@ -173,11 +160,6 @@ module _ {a : Auditor} {j c s : SourceState} {jt ct st : List ℕ} (u : IsOnWay 
       bad_reply (sent_in jt) ct st z.steps_stand x.safe.point x.safe.waiting x.safe.rest z.stands f.nothing f.some line
       (subst (λ (last : ℕ). IsLineAtFault x.safe.point x.safe.waiting x.safe.rest last line) (x.safe.last_is ∙ ap (last_answered 1 0) (sym z.is)) f.is)
 
-  calm_at : TellsNothing x.safe.point x.safe.waiting x.safe.rest → TellsNoAlarm x.safe.point x.safe.waiting x.safe.rest → (k : ℕ) → HasAlarm (sent_in jt) ct st k → ⊥
-  calm_at nothing calm =
-      let z = (x.safe.comes nothing).up_to in
-      no_alarm (sent_in jt) ct st z.steps_stand x.safe.point x.safe.waiting x.safe.rest z.stands nothing x.safe.free calm
-
   -- ---- of a line
 
   module _ (l : LineSince a u.first jt ct st x.front x.told x.last x.safe x.later x.heard) where
@@ -231,12 +213,14 @@ module _ {a : Auditor} {j c s : SourceState} {jt ct st : List ℕ} (u : IsOnWay 
           some : HaltsSo l.done a.course.work.left → alarm_next a.course.work.left ≡ false → x.heard ≡ [] → ⊥
           some (alarm_comes untold now) other heard = both (alarm_next a.course.work.left) now other
           some (alarm_told untold quiet now) other heard = untold (sym l.heard_is ∙ heard)
-    line_alarm false is = calm_at fails.nothing (subst (λ (ss : List Sent). TellsNoAlarm x.safe.point ss x.safe.rest) (sym l.waiting_is) (line_calm x.safe.point l.kept l.more x.safe.rest line_short (λ raises. none raises (halting raises)))) where
-      none : raises_alarm l.outcome ≡ true → HaltsSo l.done a.course.work.left → x.heard ≡ []
-      none raises (alarm_comes untold now) = l.heard_is ∙ untold
-      none raises (alarm_told some quiet now) =
-          let halted : a.course.line.halts ≡ true = halted_by a.course.line.halts (has_halt a.course.work.left) (l.halts ∙ raises) quiet in
-          both (has_told_alarm a.course) (told_so a.course.unanswered a.course.line.halts (alarm_next a.course.work.left) answered halted now) is
+    line_alarm false is =
+        (fails_there x.safe x.safe.point.before.number fails
+        (subst (λ (ss : List Sent). TellsNoAlarm x.safe.point ss x.safe.rest) (sym l.waiting_is) (line_calm x.safe.point l.kept l.more x.safe.rest line_short (λ raises. none raises (halting raises))))).1 where
+          none : raises_alarm l.outcome ≡ true → HaltsSo l.done a.course.work.left → x.heard ≡ []
+          none raises (alarm_comes untold now) = l.heard_is ∙ untold
+          none raises (alarm_told some quiet now) =
+              let halted : a.course.line.halts ≡ true = halted_by a.course.line.halts (has_halt a.course.work.left) (l.halts ∙ raises) quiet in
+              both (has_told_alarm a.course) (told_so a.course.unanswered a.course.line.halts (alarm_next a.course.work.left) answered halted now) is
 
   -- ---- of a reset
 
@@ -244,54 +228,34 @@ module _ {a : Auditor} {j c s : SourceState} {jt ct st : List ℕ} (u : IsOnWay 
     told_reset : told_with (is_alarm (Some y.reply)) x.safe.point.locked ≡ x.heard ++ r ∷ tells (drop 1 a.course.work.left)
     told_reset = y.greets ∙ ap (λ (rs : List Reply). x.heard ++ rs) (next_of_line a.course r answered next)
 
-    goes_on : GoesOnWith x.safe.rest y.reply
-    goes_on = record { reports = []; later = y.anew.later; text = y.anew.text; each = tt; are = tt }
-
-    is_anew : tells_anew y.reply ≡ true
-    is_anew = (also_anew y.reply y.anew.of_reset).0
-
     reset_short : TellsResetShort x.safe.point x.safe.rest
     reset_short = record {
       first = y.reply;
-      is = is_anew;
-      goes_on = goes_on;
+      is = also_anew y.reply y.anew.of_reset;
+      goes_on = goes_on_with y.anew;
       heard = x.heard;
       reply = r;
       more = tells (drop 1 a.course.work.left);
-      told = ap (λ (alarm : Bool). told_with alarm x.safe.point.locked) (sym (also_anew y.reply y.anew.of_reset).1) ∙ told_reset;
+      told = ap (λ (alarm : Bool). told_with alarm x.safe.point.locked) (alarm_first y.reply y.anew.of_reset) ∙ told_reset;
       short = short;
     }
 
-    -- no line waits before it
-    none_awaited : (lines : List (List ℕ)) → IsAwaited (map a_text lines ++ a_stop ∷ y.more) x.safe.rest → ⊥
-    none_awaited [] is = is
-    none_awaited (l ∷ ls) is = is (comes ls) (y.reply, is_anew, goes_on) where
-      comes : (ls : List (List ℕ)) → has_reset (map a_text ls ++ a_stop ∷ y.more) ≡ true
-      comes [] = refl
-      comes (l ∷ ls) = comes ls
-
-    reset_fails : FailsAt x.safe.point x.safe.waiting x.safe.rest x.last (x.last + 1)
+    -- the reset is bad, and the console does not go on with the alarm of a soft limit
+    reset_fails : HasBadReply (sent_in jt) ct st (x.last + 1) × ((k : ℕ) → HasAlarm (sent_in jt) ct st k → ⊥)
     reset_fails =
-        anew_fails x.safe.point x.safe.waiting x.safe.rest x.safe.answered x.safe.stands.no_report (y.reply, is_anew, goes_on) (told_short x.safe.point x.safe.waiting x.safe.rest reset_short) x.last (x.last + 1)
-        (at_none x.safe.free (λ is. none_awaited y.lines (subst (λ (ss : List Sent). IsAwaited ss x.safe.rest) y.waiting_is is)) refl)
+        bad_there x.safe y.reply y.anew (told_short x.safe.point x.safe.waiting x.safe.rest reset_short) (x.last + 1)
+        (at_none x.safe.free (λ is. not_awaited y.lines y.more x.safe.rest (goes_anew y.anew) (subst (λ (ss : List Sent). IsAwaited ss x.safe.rest) y.waiting_is is)) refl)
 
     reset_bad : HasBadReply (sent_in jt) ct st (a.answered + 1)
-    reset_bad = bad_at (a.answered + 1) (subst (λ (n : ℕ). FailsAt x.safe.point x.safe.waiting x.safe.rest x.last (n + 1)) (sym y.answered) reset_fails)
+    reset_bad = subst (λ (n : ℕ). HasBadReply (sent_in jt) ct st (n + 1)) (sym y.answered) reset_fails.0
 
     reset_greeting : is_greeting r ≡ true
     reset_greeting =
         of_each (λ q. is_greeting q ≡ true) x.heard (tells (drop 1 a.course.work.left)) r
         (subst (λ (rs : List Reply). AllByRecursion (λ q. is_greeting q ≡ true) rs) told_reset (reset_greets (is_alarm (Some y.reply)) x.safe.point.locked))
 
-    -- the console does not go on with the alarm of a soft limit
-    reset_calm : TellsNoAlarm x.safe.point x.safe.waiting x.safe.rest
-    reset_calm kept more o e passed raises g =
-        let n = next_reply x.safe.rest (Alarm soft_limit) x.safe.stands.no_report g in
-        let same : y.reply ≡ Alarm soft_limit = looked_apart y.reply (Alarm soft_limit) y.anew.later n.0 (also_anew y.reply y.anew.of_reset).2 refl (sym y.anew.text ∙ n.1) in
-        both (is_of_reset (Alarm soft_limit)) (sym (ap is_of_reset same) ∙ y.anew.of_reset) refl
-
     reset_alarm : KnowsAlarm a jt ct st (has_told_alarm a.course)
-    reset_alarm = subst (λ (t : Bool). KnowsAlarm a jt ct st t) (sym (told_none a.course.unanswered a.course.line.halts (alarm_next a.course.work.left) y.calm)) (calm_at reset_fails.nothing reset_calm)
+    reset_alarm = subst (λ (t : Bool). KnowsAlarm a jt ct st t) (sym (told_none a.course.unanswered a.course.line.halts (alarm_next a.course.work.left) y.calm)) reset_fails.1
 
 -- ---- what is found
 

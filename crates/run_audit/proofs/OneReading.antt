@@ -1,14 +1,13 @@
 -- Two readings of one step text agree on the record that comes next.
-use Rattle.std.proofs.Common.{◌≡◌, ◌⊎◌, inl, inr, ℕ, ◌+◌, List, [], ◌∷◌, ◌++◌, append_assoc, append-nil, length, length-append, sym, ap, ◌∙◌, subst, arith}
+use Rattle.std.proofs.Common.{◌≡◌, ◌⊎◌, inl, inr, ℕ, List, [], ◌∷◌, ◌++◌, append_assoc, sym, ap, ◌∙◌}
 use Rattle.std.proofs.lemmas.List.{append_cancel_left}
 use Rattle.std.proofs.lemmas.List.Concat.{flat_map-append}
 use Rattle.step_line.specs.declared.Record.{Record}
-use Rattle.step_record.specs.Forms.{line_text}
 use Rattle.step_record.specs.Forms.{records_of as records_by}
 use Rattle.step_record.specs.declared.forms.Line.{Line}
-use Rattle.audit_rules.specs.StepTexts.{AreLinesOf, form_of, lines_text, records_of}
-use Rattle.audit_rules.proofs.Lines.{GoesFurther, lines_first, one_goes_further}
-use Rattle.audit_texts.specs.SoFar.{StandsIn, StandsNoLine}
+use Rattle.audit_rules.specs.StepTexts.{form_of, records_of}
+use Rattle.audit_rules.proofs.Lines.{GoesFurther, one_goes_further}
+use Rattle.audit_texts.specs.SoFar.{StandsIn}
 use Rattle.run_audit.specs.OnWay.{ReadsAs}
 
 -- ---- records of lines
@@ -23,14 +22,6 @@ same_next records xs ys zs a b e =
     let behind : b ∷ ys ≡ a ∷ (xs ++ zs) = append_cancel_left records (b ∷ ys) (a ∷ (xs ++ zs)) (e ∙ append_assoc records (a ∷ xs) zs) in
     let same : b ≡ a = cc in
     sym same
-
--- a list is no longer than itself
-no_longer : {A : Type 0} (records xs ys : List Record) (a : Record) → records ≡ (records ++ a ∷ xs) ++ ys → A
-no_longer records xs ys a e =
-    let count = ap length e ∙ length-append (records ++ a ∷ xs) ys in
-    let front = length-append records (a ∷ xs) in
-    let some : length (a ∷ xs) ≡ length xs + 1 = omega arith in
-    absurd (omega (arith, count, front, some))
 
 -- ---- readings
 
@@ -65,18 +56,3 @@ one_reading {st} records xs ys a b s t = by (one_goes_further (form_of st) s.lin
 -- it is the one that stands next
 pub one_next : {st : List ℕ} {records : List Record} {at : ℕ} {r : Record} (a : Record) (xs : List Record) → ReadsAs st (records ++ a ∷ xs) → StandsIn st records at r → a ≡ r
 one_next {st} {records} {at} {r} a xs s t = one_reading records xs [] a r s (reads_in t)
-
--- where no line stands, none is read
-pub none_next : {st : List ℕ} {records : List Record} {at : ℕ} (a : Record) (xs : List Record) → ReadsAs st (records ++ a ∷ xs) → StandsNoLine st records at → ⊥
-none_next {st} {records} {at} a xs s n = by (one_goes_further (form_of st) n.behind.lines s.lines n.behind.rest s.rest n.behind.are.each s.are.each (sym n.behind.body ∙ s.body)) where
-  line : (more : List Line) → s.lines ≡ n.behind.lines ++ more → n.behind.rest ≡ lines_text more ++ s.rest → ⊥
-  line [] lines text = no_longer records xs s.left a (n.behind.told_are ∙ ap records_of (sym (lines ∙ append-nil n.behind.lines)) ∙ sym s.records_are)
-  line (l ∷ more) lines text =
-      n.none l (lines_text more ++ s.rest) (text ∙ append_assoc (line_text l) (lines_text more) s.rest)
-      (lines_first (form_of st) (n.behind.lines ++ l ∷ []) more (subst (λ (ls : List Line). AreLinesOf (form_of st) ls) (lines ∙ sym (append_assoc n.behind.lines (l ∷ []) more)) s.are))
-
-  by : GoesFurther n.behind.lines s.lines n.behind.rest s.rest ⊎ GoesFurther s.lines n.behind.lines s.rest n.behind.rest → ⊥
-  by (inl g) = line g.more g.lines g.text
-  by (inr g) =
-      no_longer records (xs ++ s.left) (records_of g.more) a
-      (n.behind.told_are ∙ ap records_of g.lines ∙ flat_map-append records_by s.lines g.more ∙ ap (λ (rs : List Record). rs ++ records_of g.more) (sym s.records_are ∙ append_assoc records (a ∷ xs) s.left))

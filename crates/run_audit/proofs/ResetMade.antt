@@ -30,6 +30,7 @@ use Rattle.run_audit.specs.SafePoint.Stage.{behind_safe}
 use Rattle.run_audit.specs.declared.auditor.Auditor.{Auditor}
 use Rattle.run_audit.proofs.NoReset.{left_front}
 use Rattle.run_audit.proofs.SafeNow.{come_now}
+use Rattle.run_audit.proofs.StageOn.{broken_sent}
 use Rattle.run_audit.proofs.WaitsNow.{IsAnew}
 
 -- a reset is told, and perhaps lines before it
@@ -112,25 +113,7 @@ module _ (a : Auditor) (earlier : Sending) (before job c s : SourceState) (jt ct
 
   -- where records count no more
   breaks : (d : Broken (record a { sending = earlier }) u.first jt ct st u.sent u.replies u.records) → HearsReset a.course k count → Broken (record a { course = k }) u.first jt ct st (u.sent ++ more) u.replies u.records
-  breaks d hears = record {
-    at = d.at;
-    broken = d.broken;
-    front = d.front;
-    later = d.later ++ more;
-    sent_is = ap (λ (ss : List Sent). ss ++ more) d.sent_is ∙ append_assoc d.front d.later more;
-    told = d.told;
-    point = d.point;
-    since = d.since;
-    begun = d.begun;
-    none_begun = d.none_begun;
-    place = d.place;
-    made = d.made;
-    reached = d.reached;
-    making = d.making;
-    is_made = d.is_made;
-    breaks = d.breaks;
-    heard = hears lines counted d.point d.told d.later u.replies d.heard;
-  }
+  breaks d hears = broken_sent more refl (λ p told later h. hears lines counted p told later u.replies h) d
 
   pub reset_breaks : Broken (record a { sending = earlier }) u.first jt ct st u.sent u.replies u.records → HearsReset a.course k count → (done : ℕ) → done + length a.course.work.left ≤ done_by a u.sent u.records
       → (v : IsOnWay (record a { course = k }) job c s jt ct st) × (done + length k.work.left < done_by (record a { course = k }) v.sent v.records)

@@ -1,5 +1,5 @@
 -- A reset of the job, behind lines that were read: what each call on the way to it answers.
-use Rattle.std.proofs.Common.{append-nil, append_assoc, ◌≡◌, ◌≤◌, ◌<◌, ◌^◌, ◌-◌, ℕ, ◌+◌, Bool, true, false, not, ◌&&◌, ◌||◌, inl, List, [], ◌∷◌, ◌++◌, length, map, Some, None, refl, sym, ap, ◌∙◌, subst, arith}
+use Rattle.std.proofs.Common.{append-nil, append_assoc, ◌≡◌, ◌≤◌, ◌<◌, ◌^◌, ◌-◌, ℕ, ◌+◌, Bool, true, false, not, ◌&&◌, ◌||◌, List, [], ◌∷◌, ◌++◌, length, map, Some, None, refl, sym, ap, ◌∙◌, subst, arith}
 use Rattle.std.specs.declared.option.Option.{Option}
 use Rattle.std.proofs.lemmas.List.{length_push, map-append}
 use Rattle.outside.specs.Causes.{SourceState}
@@ -23,7 +23,7 @@ use Rattle.audit_texts.specs.declared.sending.Item.TheVariants.{Nothing}
 use Rattle.audit_texts.specs.declared.recorded.Recorded.{Recorded}
 use Rattle.audit_texts.specs.declared.sending.Sending.{Sending}
 use Rattle.run_audit.specs.Coming.{is_alarm}
-use Rattle.run_audit.specs.Finding.{IsFound, KnowsAlarm, Leads, LeadsOnIf, LooksAndHears, ReadsOnIf, alarm_next}
+use Rattle.run_audit.specs.Finding.{IsFound, Leads, LeadsOnIf, LooksAndHears, ReadsOnIf}
 use Rattle.run_audit.specs.OnWay.{HasCause, IsLater, IsMarkBehind, Phase, TellsReset, line_waiting}
 use Rattle.run_audit.specs.OnWay.Phase.{broken, counting}
 use Rattle.run_audit.specs.UnderWay.{OthersStay, mark_of}
@@ -31,19 +31,9 @@ use Rattle.run_audit.specs.declared.auditor.Auditor.{Auditor}
 use Rattle.run_audit.specs.declared.auditor.Finding.{Finding}
 use Rattle.run_audit.specs.declared.auditor.Finding.TheVariants.{BadReplies}
 use Rattle.run_audit.proofs.Bounded.{answered_on_way, dropped_on_way, number_on_way}
-use Rattle.run_audit.proofs.NoReset.{none_comes_bad, not_refused, refused_bad, refused_since}
+use Rattle.run_audit.proofs.NoReset.{bad_is_found, none_comes_bad, not_refused, refused_bad, refused_since}
 use Rattle.run_audit.proofs.ResetMade.{reset_breaks, reset_counts}
 use Rattle.run_audit.proofs.WaitsNow.{IsAnew, anew_waiting, begins_anew, is_anew, waits_since}
-
--- ---- what is found
-
--- a reply is bad where no alarm was raised
-pub bad_is_found : (b : Auditor) (jt ct st : List ℕ) (line : ℕ) → (not b.course.unanswered && b.course.line.halts) ≡ false → b.sending.last ≡ None → HasBadReply (sent_in jt) ct st line × ((k : ℕ) → HasAlarm (sent_in jt) ct st k → ⊥) → IsFound b jt ct st (BadReplies line)
-bad_is_found b jt ct st line calm last found = record {
-  finds = inl found.0;
-  alarm = subst (λ (told : Bool). KnowsAlarm b jt ct st told) (sym (ap (λ (x : Bool). x && not (alarm_next b.course.work.left)) calm)) found.1;
-  calm = λ told. last;
-}
 
 -- the alarm that is known is that of the reply that a reset tells
 pub alarm_known : (known : Option Reply) (r : TellsReset known) (alarm : Bool) → alarm ≡ is_alarm known → alarm ≡ is_alarm (Some r.0)
@@ -100,7 +90,7 @@ module _ (a : Auditor) (lines : List (List ℕ)) (count : ℕ) (counted : count 
           by (broken d) false answered = absurd (not_refused a.course d.point d.told d.later u.replies d.heard alarm later.done calm (λ alarmed. cause (sym same ∙ alarmed) answered) none)
           by (broken d) true waiting =
               let w = waits_since u.stage waiting in
-              refused_bad (anew_waiting looks.1.0 resets.0 w looks.1.1 (begins_anew known ct u.replies resets looks.1)) a.sending job lines alarm (alarm_known known resets alarm same)
+              refused_bad (anew_waiting looks.1.0 resets.0 w looks.1.1 (begins_anew resets looks.1)) a.sending job lines alarm (alarm_known known resets alarm same)
               (refused_since w.since.safe w.since.later w.since.heard w.wait alarm none) read
 
 -- ---- lines were read up to what comes next

@@ -1,10 +1,10 @@
 -- Courses that go on behind one that has come so far.
-use Rattle.std.proofs.Common.{◌≡◌, ℕ, ◌+◌, true, false, List, [], ◌∷◌, ◌++◌, length, sym, ap, ◌∙◌, subst, arith}
+use Rattle.std.proofs.Common.{◌≡◌, ℕ, ◌+◌, true, false, List, [], ◌∷◌, ◌++◌, sym, ap, ◌∙◌, subst, arith}
 use Rattle.run_rules.specs.declared.State.{State}
-use Rattle.run_texts.specs.Courses.{Passed, behind_cut, behind_the_reset}
+use Rattle.run_texts.specs.Courses.{Passed, behind_the_reset}
 use Rattle.run_texts.specs.Courses.Passed.{a_line, a_broken, a_cut, a_reset}
 use Rattle.run_texts.specs.Points.{Point, behind_line, behind_broken, opening}
-use Rattle.run_texts.specs.Sent.{Sent, waiting_in, has_reset, behind_reset}
+use Rattle.run_texts.specs.Sent.{Sent, behind_reset}
 use Rattle.run_texts.specs.Sent.Sent.{a_text, a_stop}
 use Rattle.run_texts.specs.SoFar.{LeadsTo, RebasesNothing}
 use Rattle.run_texts.specs.Told.{told_in, told_at_reset}
@@ -14,32 +14,11 @@ use Rattle.audit_rules.specs.Standing.{GoesOnWithReset}
 use Rattle.audit_rules.proofs.NoFurther.{first_half}
 use Rattle.audit_rules.proofs.OneWay.{both}
 use Rattle.audit_course.specs.SoFar.{texts_among}
+use Rattle.run_audit.proofs.Bounded.{lines_counted}
 
--- ---- its lines are counted
-
-texts_behind : (sent : List Sent) → has_reset sent ≡ true → texts_among sent ≡ length (waiting_in sent) + texts_among (behind_reset sent)
-texts_behind [] e = absurd cc
-texts_behind (a_text line ∷ sent) e = let more = texts_behind sent e in omega (arith, more)
-texts_behind (a_stop ∷ sent) e = omega arith
-
-lines_passed : (p q : Point) (sent left : List Sent) (ps : List Passed) → LeadsTo p sent ps q left → q.before.number + texts_among left ≡ p.before.number + texts_among sent
-lines_passed p q sent left [] f = ap (λ (x : Point). x.before.number + texts_among left) f.0 ∙ ap (λ (ss : List Sent). p.before.number + texts_among ss) f.1
-lines_passed p q sent left (a_cut k at ∷ ps) f = lines_passed (behind_cut at p) q sent left ps f.1
-lines_passed p q sent left (a_reset r ∷ ps) f =
-    let more = lines_passed (behind_the_reset r p) q (behind_reset sent) left ps f.1 in
-    let number = f.0.number in
-    let dropped = f.0.dropped in
-    let texts = texts_behind sent f.0.comes in
-    omega (arith, more, number, dropped, texts)
-lines_passed p q [] left (a_line o ∷ ps) f = absurd f
-lines_passed p q (a_stop ∷ sent) left (a_line o ∷ ps) f = absurd f
-lines_passed p q (a_text line ∷ sent) left (a_line o ∷ ps) f = let more = lines_passed (behind_line p line o) q sent left ps f.1 in omega (arith, more)
-lines_passed p q [] left (a_broken o ∷ ps) f = absurd f
-lines_passed p q (a_stop ∷ sent) left (a_broken o ∷ ps) f = absurd f
-lines_passed p q (a_text line ∷ sent) left (a_broken o ∷ ps) f = let more = lines_passed (behind_broken p o) q sent left ps f.1 in omega (arith, more)
-
+-- its lines are counted
 pub number_there : (first : State) (q : Point) (sent : List Sent) (ps : List Passed) → LeadsTo (opening first) sent ps q [] → q.before.number ≡ texts_among sent + 1
-number_there first q sent ps f = let all = lines_passed (opening first) q sent [] ps f in omega (arith, all)
+number_there first q sent ps f = let all = lines_counted (opening first) q sent [] ps f in omega (arith, all)
 
 -- ---- more is left of the job
 

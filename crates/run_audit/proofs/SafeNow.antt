@@ -13,7 +13,7 @@ use Rattle.step_line.specs.declared.Record.TheVariants as kinds
 use Rattle.step_record.specs.Forms.{records_of as records_by}
 use Rattle.run_rules.specs.declared.State.{State}
 use Rattle.run_rules.specs.States.{IsOpening}
-use Rattle.run_rules.specs.Work.{Outcome, Task, tells}
+use Rattle.run_rules.specs.Work.{Outcome, Task}
 use Rattle.run_texts.specs.Courses.{Passed}
 use Rattle.run_texts.specs.Parts.{is_ending}
 use Rattle.run_texts.specs.Points.{Point, opening}
@@ -24,7 +24,7 @@ use Rattle.run_texts.specs.Told.{told_in, told_of}
 use Rattle.run_texts.proofs.SoFar.{leads_on, leads_with_more}
 use Rattle.part_making.specs.Judging.{making, owed_of}
 use Rattle.audit_rules.specs.Consoles.{Tells}
-use Rattle.audit_rules.specs.Faults.{ReadsUpTo, told_with}
+use Rattle.audit_rules.specs.Faults.{ComesUpTo, ReadsUpTo, told_with}
 use Rattle.audit_rules.specs.Findings.{IsTooLong}
 use Rattle.audit_rules.specs.Onward.{HasCome, IsOfLater, TellsNothing}
 use Rattle.audit_rules.specs.Scanned.{sent_in}
@@ -40,11 +40,12 @@ use Rattle.audit_course.specs.Heard.{HasHeard, KnowsPoint}
 use Rattle.audit_course.specs.Progressing.{has_halt}
 use Rattle.audit_course.specs.SoFar.{HasJudged, left_to_tell, texts_among}
 use Rattle.audit_course.specs.declared.judge.CourseJudge.{CourseJudge}
+use Rattle.audit_course.proofs.Ending.{to_tell}
 use Rattle.audit_course.proofs.Onward.{none_owed}
 use Rattle.audit_texts.specs.SoFar.{StandsAt, StandsIn, untold_of}
 use Rattle.audit_texts.proofs.JobRead.{front_sent}
 use Rattle.run_audit.specs.Coming.{is_alarm}
-use Rattle.run_audit.specs.OnWay.{Broken, Counting, HearsNext, IsLater, IsLooked, IsOnWay, IsToldTo, Phase, ReadsAs}
+use Rattle.run_audit.specs.OnWay.{BreaksThere, Broken, Counting, HearsNext, IsLater, IsLooked, IsOnWay, IsToldTo, Phase, ReadsAs}
 use Rattle.run_audit.specs.OnWay.Phase.{counting, broken}
 use Rattle.run_audit.specs.SafePoint.{IsHere, IsSince, SafePoint, Since, Stage, StandsBy}
 use Rattle.run_audit.specs.SafePoint.Since.{by_line, by_wait, by_reset}
@@ -80,14 +81,8 @@ come_now j first opens sent replies records s job console left rest told = recor
 
 -- ---- where nothing is left to do
 
-pub none_left : (j : CourseJudge) → j.work.left ≡ [] → left_to_tell j ≡ []
-none_left j done = by j.unanswered where
-  by : (b : Bool) → cond b [] (tells j.work.left) ≡ []
-  by true = refl
-  by false = ap tells done
-
 pub all_told : (j : CourseJudge) (replies : List Reply) → j.work.left ≡ [] → replies ++ left_to_tell j ≡ replies
-all_told j replies done = ap (λ (rs : List Reply). replies ++ rs) (none_left j done) ∙ append-nil replies
+all_told j replies done = ap (λ (rs : List Reply). replies ++ rs) (to_tell j done) ∙ append-nil replies
 
 or_false : (b : Bool) → (b || false) ≡ b
 or_false true = refl
@@ -259,7 +254,7 @@ in_line steps records at next i =
     ∙ sym (flat_map-append records_by i.before (i.last ∷ []))
 
 -- steps were read up to it
-pub reads_up_to : (steps : List ℕ) (records : List Record) (at : ℕ) (next : Record) (i : StandsIn steps records at next) (May : Record → Type 0) → May next → ReadsUpTo steps (i.before ++ i.last ∷ []) i.rest records (next ∷ i.later) May
+reads_up_to : (steps : List ℕ) (records : List Record) (at : ℕ) (next : Record) (i : StandsIn steps records at next) (May : Record → Type 0) → May next → ReadsUpTo steps (i.before ++ i.last ∷ []) i.rest records (next ∷ i.later) May
 reads_up_to steps records at next i May may = record {
   text = i.body;
   are = i.are;
@@ -291,29 +286,32 @@ module _ {a : Auditor} {first : State} {job console steps : List ℕ} {sent : Li
   pub looked_later : (r : Record) → next ≡ Some r → ReadsAs steps (records ++ r ∷ []) → IsOfLater d.judged.point.before.number (making a.course.part d.judged.ticks d.judged.moves).owed r
   looked_later r is read = later_next a.course first sent replies records d.judged r later.done (later.order r is) (idle r is read)
 
+  -- so the console stands up to here, if nothing that may come is told
+  pub counted_up_to : (r : Record) → next ≡ Some r → (i : StandsIn steps records a.recorded.at r) → TellsNothing d.judged.point waiting rest
+      → ComesUpTo (sent_in job) console steps (i.before ++ i.last ∷ []) records (r ∷ i.later) d.judged.point waiting rest d.judged.reached.course
+  counted_up_to r is i none =
+      let may : Stand (sent_in job) console (records ++ r ∷ []) → ⊥ =
+      no_record (sent_in job) console records d.judged.made d.judged.since d.judged.begun come_here none r (looked_later r is (reads_in i)) in
+      comes_here (sent_in job) console steps records d.judged.made d.judged.since d.judged.begun come_here (i.before ++ i.last ∷ []) i.rest (r ∷ i.later)
+      (read_no_further (sent_in job) console steps records d.judged.made d.judged.since d.judged.begun come_here (i.before ++ i.last ∷ []) i.rest (r ∷ i.later)
+      (reads_up_to steps records a.recorded.at r i (λ x. Stand (sent_in job) console (records ++ x ∷ []) → ⊥) may))
+
   stands_counting : IsLooked a steps records next → TellsNothing d.judged.point waiting rest → StandsBy job console steps d.judged.point waiting rest d.judged.reached.course
   stands_counting looked none = by next refl looked where
     by : (n : Option Record) → next ≡ n → IsLooked a steps records n → StandsBy job console steps d.judged.point waiting rest d.judged.reached.course
     by None e looks = absurd (looks d.counts)
-    by (Some r) e looks =
-        let i = looks.1 in
-        let may : Stand (sent_in job) console (records ++ r ∷ []) → ⊥ =
-        no_record (sent_in job) console records d.judged.made d.judged.since d.judged.begun come_here none r (looked_later r e (reads_in i)) in
-        let read = read_no_further (sent_in job) console steps records d.judged.made d.judged.since d.judged.begun come_here (i.before ++ i.last ∷ []) i.rest (r ∷ i.later)
-        (reads_up_to steps records a.recorded.at r i (λ x. Stand (sent_in job) console (records ++ x ∷ []) → ⊥) may) in
-        record {
-          lines = i.before ++ i.last ∷ [];
-          records = records;
-          left = r ∷ i.later;
-          up_to = comes_here (sent_in job) console steps records d.judged.made d.judged.since d.judged.begun come_here (i.before ++ i.last ∷ []) i.rest (r ∷ i.later) read;
-        }
+    by (Some r) e looks = record { lines = looks.1.before ++ looks.1.last ∷ []; records = records; left = r ∷ looks.1.later; up_to = counted_up_to r e looks.1 none }
 
 -- ---- behind a record that breaks a rule
 
 module _ {a : Auditor} {first : State} {job console steps : List ℕ} {sent : List Sent} {replies : List Reply} {records : List Record} (b : Broken a first job console steps sent replies records) (opens : IsOpening first)
     (done : a.course.work.left ≡ []) (answered : a.course.unanswered ≡ false) (waiting : List Sent) (whole : sent_in job ≡ sent ++ waiting) (rest : List ℕ) (stands : StandsAt console replies rest) where
-  stands_broken : StandsBy job console steps b.heard.point waiting rest (b.reached.course ++ b.heard.course)
-  stands_broken =
+  pub record BreaksHere : Type 0 where
+    pub breaks : BreaksThere job console steps records b.at
+    pub comes : ComesUpTo (sent_in job) console steps breaks.lines records breaks.left b.heard.point waiting rest (b.reached.course ++ b.heard.course)
+
+  pub breaks_here : BreaksHere
+  breaks_here =
       let told : Tells console (b.told ++ told_in b.heard.course) rest = subst (λ (rs : List Reply). Tells console rs rest) (sym (b.heard.tells ∙ all_told a.course replies done)) stands.tells in
       let t = in_two console b.told (told_in b.heard.course) rest told stands.no_report in
       let left : List Sent = b.later ++ waiting in
@@ -341,13 +339,14 @@ module _ {a : Auditor} {first : State} {job console steps : List ℕ} {sent : Li
         is_made = b.is_made;
       } in
       record {
-        lines = breaks.lines;
-        records = records;
-        left = breaks.left;
-        up_to = comes_on (sent_in job) console steps records b.made b.since b.begun c breaks.lines breaks.text breaks.left breaks.read b.heard.point waiting rest b.heard.course
+        breaks = breaks;
+        comes = comes_on (sent_in job) console steps records b.made b.since b.begun c breaks.lines breaks.text breaks.left breaks.read b.heard.point waiting rest b.heard.course
             (leads_with_more b.point b.heard.point b.later [] waiting b.heard.course b.heard.leads) (rebases_with_more b.point b.heard.point b.later [] waiting b.heard.course b.heard.leads b.heard.rebases) t.on
             (λ e. both b.heard.point.unanswered e (b.heard.unanswered ∙ answered));
       }
+
+  stands_broken : StandsBy job console steps b.heard.point waiting rest (b.reached.course ++ b.heard.course)
+  stands_broken = let x = breaks_here in record { lines = x.breaks.lines; records = records; left = x.breaks.left; up_to = x.comes }
 
 -- Where no alarm was raised, and the record that comes next is of no earlier line.
 pub safe_by : {a : Auditor} {j c s : SourceState} {jt ct st : List ℕ} (u : IsOnWay a j c s jt ct st) → (IsTooLong ct st → ⊥) → (next : Option Record) → IsLooked a st u.records next → IsLater a.course next → a.course.unanswered ≡ false

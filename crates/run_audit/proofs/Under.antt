@@ -25,7 +25,8 @@ use Rattle.run_audit.specs.declared.auditor.Finding.{Finding}
 use Rattle.run_audit.specs.declared.auditor.Finding.TheVariants.{Fits, Misfit, BadReplies, Foreign, TooLong}
 use Rattle.audit_texts.specs.declared.sending.Sending.{Sending}
 use Rattle.audit_texts.specs.declared.recorded.Recorded.{Recorded}
-use Rattle.run_audit.proofs.Fitting.{fit_found, none_foreign}
+use Rattle.run_audit.proofs.Fitting.{fit_found}
+use Rattle.run_audit.proofs.NoneForeign.{none_foreign_of}
 use Rattle.audit_texts.proofs.JobTold.{told_audited}
 use Rattle.audit_texts.proofs.ConsoleRead.{short_text, is_long}
 use Rattle.audit_texts.proofs.StepsRead.{read_to}
@@ -248,7 +249,7 @@ fits a b j c s events jt ct st u none console steps ends same all few clean coun
     let read : JobSoFar b.sending j jt u.sent = subst (λ (x : Sending). JobSoFar x j jt u.sent) (sym same) u.are_read.job_so_far in
     let f = fit_found b.course b.sending j jt ct st u.first u.sent u.replies u.records steps.lines events u.opens (ends u.first u.sent u.replies u.records so_far) read all few console steps.are_lines steps.are (count ∙ so_far.events)
     (told_audited b.sending j jt u.sent read clean) in
-    ((f.fit, f.audited), λ h. none_foreign b.sending j jt ct st u.sent events b.course.work.number b.course.line.halts clean read all f h)
+    ((f.fit, f.audited), λ h. none_foreign_of jt ct st events f.fit f.audited h)
 
 -- ---- the banner
 

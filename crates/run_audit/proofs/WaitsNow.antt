@@ -1,9 +1,8 @@
 -- The last safe point of an audit where a reset is told next: it is here, or behind it a line waits.
-use Rattle.std.proofs.Common.{◌≡◌, ℕ, ◌+◌, Bool, true, false, not, ◌&&◌, List, [], ◌∷◌, ◌++◌, append_assoc, append-nil, length, map, refl, sym, ap, ◌∙◌, subst, arith}
+use Rattle.std.proofs.Common.{◌≡◌, ℕ, ◌+◌, Bool, true, false, not, ◌&&◌, List, [], ◌∷◌, ◌++◌, append-nil, length, map, Some, refl, sym, ap, ◌∙◌, subst, arith}
 use Rattle.std.specs.declared.option.Option.{Option}
-use Rattle.std.specs.List.{AllByRecursion}
 use Rattle.outside.specs.Causes.{SourceState}
-use Rattle.status_report.specs.Answering.{is_report}
+use Rattle.status_report.specs.Answering.{is_banner}
 use Rattle.status_report.specs.Replies.{reply_text}
 use Rattle.status_report.specs.declared.Reply.{Reply}
 use Rattle.status_report.specs.declared.Reply.TheVariants.{Alarm, Banner}
@@ -13,7 +12,7 @@ use Rattle.run_rules.specs.declared.State.{State}
 use Rattle.run_texts.specs.Points.{Point}
 use Rattle.run_texts.specs.Sent.{Sent}
 use Rattle.run_texts.specs.Sent.Sent.{a_text}
-use Rattle.audit_rules.specs.Consoles.{GoesOnAnew, GoesOnWith, IsOnConsole, Tells, is_of_reset as tells_anew}
+use Rattle.audit_rules.specs.Consoles.{GoesOnAnew, GoesOnWith, Tells, is_of_reset as tells_anew}
 use Rattle.audit_rules.specs.Faults.{BeginsWithNoReport}
 use Rattle.audit_rules.specs.Findings.{IsTooLong}
 use Rattle.audit_rules.proofs.BehindText.{Onward, onward}
@@ -21,21 +20,18 @@ use Rattle.audit_rules.proofs.OneLine.{told_further}
 use Rattle.audit_rules.proofs.OneWay.{both}
 use Rattle.audit_rules.proofs.Replies.{all_reports}
 use Rattle.audit_course.specs.SoFar.{is_of_reset}
-use Rattle.audit_texts.specs.SoFar.{IsNextOn, StandsAt, is_looked_for}
+use Rattle.audit_texts.specs.SoFar.{IsNextOn, StandsAt}
+use Rattle.run_audit.specs.Coming.{is_alarm}
 use Rattle.run_audit.specs.OnWay.{HearsNext, IsLater, IsLooked, IsOnWay, TellsReset}
 use Rattle.run_audit.specs.SafePoint.{BeginsAnew, IsSince, SafePoint, Since, Stage, WaitSince}
 use Rattle.run_audit.specs.SafePoint.Since.{by_line, by_reset, by_wait}
 use Rattle.run_audit.specs.SafePoint.Stage.{at_safe, behind_safe}
 use Rattle.run_audit.specs.declared.auditor.Auditor.{Auditor}
 use Rattle.run_audit.proofs.BreaksOff.{stays_there}
+use Rattle.run_audit.proofs.LineBegun.{no_report_first, one_rest, same_anew}
 use Rattle.run_audit.proofs.SafeNow.{SafeHere, safe_by}
 
 -- ---- a console that is left where no report follows
-
--- reports alone are none
-skip_none : (rs : List Reply) (text later : List ℕ) → text ≡ replies_text rs ++ later → AllByRecursion IsOnConsole rs → AllByRecursion (λ r. is_report r ≡ true) rs → BeginsWithNoReport text → text ≡ later
-skip_none [] text later e each are none = e
-skip_none (r ∷ rs) text later e each are none = absurd (none r (replies_text rs ++ later) are.0 each.0 (e ∙ append_assoc (reply_text r) (replies_text rs) later))
 
 -- Behind what a console tells up to where no report follows, it goes on so behind some reports.
 goes_onward : (console rest here : List ℕ) (told : List Reply) → Tells console told rest → Tells console told here → Onward [] here rest
@@ -44,15 +40,9 @@ goes_onward console rest here told a b =
     onward told [] here rest record { one = t.one; other = t.other; one_may = t.one_may; other_may = t.other_may; one_is = t.one_is; other_is = t.other_is ∙ sym (append-nil told); text = t.text }
 
 here_later : (here rest : List ℕ) → BeginsWithNoReport here → (o : Onward [] here rest) → here ≡ o.later
-here_later here rest none o = skip_none o.tells.replies here o.later o.tells.text o.tells.each (all_reports o.tells.replies o.tells.are) none
+here_later here rest none o = no_report_first here o.later o.tells.replies none o.tells.text o.tells.each (all_reports o.tells.replies o.tells.are)
 
--- This is left of it in one way.
-pub same_rest : (console rest here : List ℕ) (told : List Reply) → StandsAt console told rest → StandsAt console told here → rest ≡ here
-same_rest console rest here told a b =
-    let o = goes_onward console rest here told a.tells b.tells in
-    skip_none o.reports rest o.later o.between o.each o.are a.no_report ∙ sym (here_later here rest b.no_report o)
-
--- and with reports before it, it goes on with the reply that comes next
+-- With reports before it, it goes on with the reply that comes next
 pub goes_on_here : (console rest here : List ℕ) (told : List Reply) (reply : Reply) (later : List ℕ) → Tells console told rest → StandsAt console told here → here ≡ reply_text reply ++ later → GoesOnWith rest reply
 goes_on_here console rest here told reply later a b e =
     let o = goes_onward console rest here told a b.tells in
@@ -61,24 +51,26 @@ goes_on_here console rest here told reply later a b e =
 -- ---- what a reset tells first
 
 pub also_anew : (r : Reply) → is_of_reset r ≡ true → tells_anew r ≡ true
-also_anew Banner e = e
-also_anew (Alarm n) e = e
-also_anew _ e = e
+also_anew r e = same_anew r ∙ e
 
-pub also_looked_for : (r : Reply) → is_of_reset r ≡ true → is_looked_for r ≡ true
-also_looked_for Banner e = e
-also_looked_for (Alarm n) e = e
-also_looked_for _ e = absurd cc
+-- it is a banner or an alarm
+pub alarm_first : (r : Reply) → is_of_reset r ≡ true → not (is_banner r) ≡ is_alarm (Some r)
+alarm_first Banner e = refl
+alarm_first (Alarm n) e = refl
+alarm_first _ e = absurd cc
 
 -- the console goes on anew there
-abbrev pub goes_anew : (reply : Reply) (rest : List ℕ) → BeginsAnew reply rest → GoesOnAnew rest
-goes_anew reply rest anew = (reply, also_anew reply anew.of_reset, record { reports = []; later = anew.later; text = anew.text; each = tt; are = tt })
+pub goes_on_with : {reply : Reply} {rest : List ℕ} → BeginsAnew reply rest → GoesOnWith rest reply
+goes_on_with x = record { reports = []; later = x.later; text = x.text; each = tt; are = tt }
+
+pub goes_anew : {reply : Reply} {rest : List ℕ} → BeginsAnew reply rest → GoesOnAnew rest
+goes_anew {reply} x = (reply, also_anew reply x.of_reset, goes_on_with x)
 
 -- if the reply that is known is one of these, it begins with it
-pub begins_anew : (known : Option Reply) (console : List ℕ) (replies : List Reply) (r : TellsReset known) (h : HearsNext known console replies) → BeginsAnew r.0 h.0
-begins_anew known console replies r h =
-    let next = subst (λ (k : Option Reply). IsNextOn k h.0) r.1 h.2 in
-    record { of_reset = r.2; later = next.0; text = next.1 }
+pub begins_anew : {known : Option Reply} {console : List ℕ} {replies : List Reply} → (t : TellsReset known) → (h : HearsNext known console replies) → BeginsAnew t.0 h.0
+begins_anew {known} {console} {replies} t h =
+    let next = subst (λ (k : Option Reply). IsNextOn k h.0) t.1 h.2 in
+    record { of_reset = t.2; later = next.0; text = next.1 }
 
 -- ---- the last safe point
 
@@ -157,7 +149,7 @@ anew_waiting {a} {first} {job} {console} {steps} {sent} {replies} rest reply x s
       last = s.last;
       safe = s.safe;
       answered = w.answered;
-      anew = subst (BeginsAnew reply) (same_rest console rest s.safe.rest s.told (subst (λ (rs : List Reply). StandsAt console rs rest) same stands) s.safe.stands) anew;
+      anew = subst (BeginsAnew reply) (one_rest console s.told rest s.safe.rest (subst (λ (rs : List Reply). StandsAt console rs rest) same stands) s.safe.stands) anew;
       locked = sym w.locked ∙ ap (λ (p : Point). p.locked) (sym there) ∙ w.stands.locked;
       number = w.number;
       one = λ y. refl;
@@ -169,7 +161,7 @@ pub is_anew : {a : Auditor} {j c s : SourceState} {jt ct st : List ℕ} (u : IsO
     → (known : Option Reply) (r : TellsReset known) → HearsNext known ct u.replies → IsAnew a u.first jt ct st u.sent u.replies r.0
 is_anew {a} {j} {c} {s} {jt} {ct} {st} u short next looked later calm known r hears = by a.course.unanswered refl where
   anew : BeginsAnew r.0 hears.0
-  anew = begins_anew known ct u.replies r hears
+  anew = begins_anew r hears
 
   by : (b : Bool) → a.course.unanswered ≡ b → IsAnew a u.first jt ct st u.sent u.replies r.0
   by true waiting = anew_waiting hears.0 r.0 (waits_since u.stage waiting) hears.1 anew

@@ -2,7 +2,8 @@ use Rattle.std.proofs.Common.{None, inl, inr}
 use Rattle.run_audit.specs.declared.auditor.Auditor.{Auditor}
 use Rattle.audit_texts.proofs.JobTold.{next_sent}
 use Rattle.run_audit.proofs.LineNone.{bad_found as bad_found_so}
-use Rattle.run_audit.proofs.LineWaits.{no_line_next, read_on_way}
+use Rattle.run_audit.proofs.LineWaits.{no_line_next}
+use Rattle.run_audit.proofs.ReadOn.{read_on_way}
 use Rattle.run_audit.proofs.Under.{bad_found, can_read, goes_then, reads_on}
 use Rattle.run_audit.proofs.auditor.Auditor.begin_cause.Goals as goal
 

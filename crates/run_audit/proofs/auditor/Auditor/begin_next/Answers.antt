@@ -1,4 +1,4 @@
-use Rattle.run_audit.proofs.LineWaits.{read_on_way}
+use Rattle.run_audit.proofs.ReadOn.{read_on_way}
 use Rattle.std.specs.Prelude.{None}
 use Rattle.run_audit.specs.declared.auditor.Auditor.{Auditor}
 use Rattle.run_audit.proofs.Under.{reads_on, goes_then}

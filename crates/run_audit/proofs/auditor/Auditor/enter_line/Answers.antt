@@ -9,7 +9,8 @@ use Rattle.audit_texts.specs.SoFar.{IsAllRead, JobSoFar}
 use Rattle.run_audit.specs.Finding.{IsFound}
 use Rattle.run_audit.specs.declared.auditor.Finding.{Finding}
 use Rattle.run_audit.proofs.Bounded.{answered_on_way, number_on_way}
-use Rattle.run_audit.proofs.Entered.{goes_on_given, job_read, stop_found}
+use Rattle.run_audit.proofs.Entered.{goes_on_given, stop_found}
+use Rattle.run_audit.proofs.ReadOn.{read_on_way}
 use Rattle.run_audit.proofs.LineBegun.{none_waits}
 use Rattle.run_audit.proofs.auditor.Auditor.enter_line.Goals as goal
 
@@ -63,9 +64,8 @@ pub returns-in-Ok-Line-clause-stands : goal.returns-in-Ok-Line-clause-stands
 returns-in-Ok-Line-clause-stands g c = λ later calm none fits jt ct st short u p n few.
     let look = c.in-Ok-Line.ensures in
     let after = g.J.Source.state c.look.new.source in
-    let answered = none_waits u later.done none p.1 in
     c.begin.ensures.stands c.args.record later calm none fits after (g.C.Source.state c.args.console.now) (g.S.Source.state c.args.steps.now) jt ct st short
-    (job_read u later.done answered calm c.look.new.self after (look.so_far jt u.sent u.are_read.job_so_far) look.last) p n few
+    (read_on_way u later.done calm c.look.new.self after (look.so_far jt u.sent u.are_read.job_so_far) look.last) p n few
 
 pub returns-in-Ok-Nothing-clause-stands : goal.returns-in-Ok-Nothing-clause-stands
 returns-in-Ok-Nothing-clause-stands g c = λ later calm none fits.

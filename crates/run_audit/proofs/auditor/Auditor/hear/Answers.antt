@@ -5,7 +5,7 @@ use Rattle.run_audit.specs.declared.auditor.Finding.TheVariants.{BadReplies}
 use Rattle.run_audit.proofs.Under.{reply_told, bad_found, can_be_read}
 use Rattle.audit_texts.proofs.StepsRead.{read_to}
 use Rattle.run_audit.proofs.NotHeard.{unheard_found}
-use Rattle.run_audit.proofs.StageOn.{reply_leads}
+use Rattle.run_audit.proofs.LeadsOn.{reply_leads}
 use Rattle.run_audit.proofs.auditor.Auditor.hear.Goals as goal
 
 -- the line before the next one

@@ -4,7 +4,8 @@ use Rattle.step_line.specs.declared.Record.TheVariants as kinds
 use Rattle.run_audit.specs.declared.auditor.Auditor.{Auditor}
 use Rattle.run_audit.proofs.Under.{reset_told, reset_untold}
 use Rattle.line_interpreter.specs.declared.interpreter.Interpreter.{Interpreter}
-use Rattle.run_audit.proofs.BreaksOff.{HeardAs, off}
+use Rattle.run_audit.proofs.BreaksOff.{off}
+use Rattle.run_audit.proofs.StageOn.{HeardAs}
 use Rattle.run_audit.proofs.MarkRefused.{PassesReset, mark_refused}
 use Rattle.run_audit.proofs.ResetSteps.{mark_taken}
 use Rattle.run_audit.proofs.auditor.Auditor.take_reset.Goals as goal

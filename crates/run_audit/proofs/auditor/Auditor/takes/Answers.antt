@@ -1,7 +1,7 @@
 use Rattle.std.proofs.Common.{refl, sym, ◌∙◌}
 use Rattle.run_audit.specs.declared.auditor.Auditor.{Auditor}
 use Rattle.run_audit.proofs.Under.{record_told, broken_by}
-use Rattle.run_audit.proofs.StageOn.{record_leads, refused_leads}
+use Rattle.run_audit.proofs.LeadsOn.{record_leads, refused_leads}
 use Rattle.run_audit.proofs.auditor.Auditor.takes.Goals as goal
 
 pub returns-then-not-owes-clause-so_far : goal.returns-then-not-owes-clause-so_far

@@ -1,7 +1,7 @@
 use Rattle.std.proofs.Common.{refl}
 use Rattle.run_audit.specs.declared.auditor.Auditor.{Auditor}
 use Rattle.run_audit.proofs.Under.{reads_on, goes_on_by}
-use Rattle.run_audit.proofs.StageOn.{task_leads}
+use Rattle.run_audit.proofs.LeadsOn.{task_leads}
 use Rattle.run_audit.proofs.auditor.Auditor.work.Goals as goal
 
 pub returns-in-Work-clause-goes_on : goal.returns-in-Work-clause-goes_on
