@@ -13,6 +13,8 @@ use Rattle.run_rules.specs.Outcomes.{Before, limited}
 use Rattle.run_rules.specs.Reports.{raises_alarm}
 use Rattle.run_rules.specs.Told.{asked_in, replies_text}
 use Rattle.run_rules.specs.Work.{Outcome, asks, tells, is_limit, soft_limit}
+use Rattle.run_rules.specs.States.{IsOpening}
+use Rattle.run_rules.specs.declared.State.{State}
 use Rattle.run_rules.proofs.Answering.{AnswersOrHalts, no_alarm}
 use Rattle.run_texts.specs.Courses.{Passed, behind_cut, behind_the_reset}
 use Rattle.run_texts.specs.Courses.Passed.{a_line, a_broken, a_cut, a_reset}
@@ -32,6 +34,7 @@ use Rattle.run_texts.proofs.SoFar.{parts_end, made_so_far}
 use Rattle.audit_rules.specs.Consoles.{Tells, GoesOnWith}
 use Rattle.audit_rules.specs.Findings.{FitsWith}
 use Rattle.audit_rules.specs.Scanned.{sent_in}
+use Rattle.audit_rules.specs.Standing.{StandTo}
 use Rattle.audit_rules.specs.StepTexts.{records_of}
 use Rattle.audit_rules.specs.Telling.{StandsUpTo, HasAlarm}
 use Rattle.audit_rules.proofs.Fitted.{fitted, whole, records_end}
@@ -41,7 +44,7 @@ use Rattle.audit_rules.proofs.Replies.{in_turn, comes_next}
 -- ---- the line that raises it
 
 -- it is the last that is passed
-record AlarmAtEnd (p last : Point) (sent : List Sent) (course : List Passed) : Type 0 where
+pub record AlarmAtEnd (p last : Point) (sent : List Sent) (course : List Passed) : Type 0 where
   pub front : List Passed
   pub outcome : Outcome
   pub split : course ≡ front ++ a_line outcome ∷ []
@@ -58,11 +61,11 @@ differ true e f = absurd cc
 differ false e f = absurd cc
 
 -- behind an alarm nothing is passed
-record NothingPassed (p last : Point) (course : List Passed) : Type 0 where
+pub record NothingPassed (p last : Point) (course : List Passed) : Type 0 where
   pub none : course ≡ []
   pub same : last ≡ p
 
-nothing_passed : (p last : Point) (sent rest : List Sent) (course : List Passed) → LeadsTo p sent course last rest → p.before.alarmed ≡ true → NothingPassed p last course
+pub nothing_passed : (p last : Point) (sent rest : List Sent) (course : List Passed) → LeadsTo p sent course last rest → p.before.alarmed ≡ true → NothingPassed p last course
 nothing_passed p last sent rest [] f e = record { none = refl; same = f.0 }
 nothing_passed p last sent rest (a_cut k at ∷ ps) f e = differ p.before.alarmed e f.0.free
 nothing_passed p last sent rest (a_reset r ∷ ps) f e = differ p.before.alarmed e f.0.free
@@ -105,7 +108,7 @@ alarm_here p last line sent o ps passed raises n = record {
   number = ap (λ (q : Point). q.before.number) n.same;
 }
 
-alarm_at_end : (p last : Point) (sent rest : List Sent) (course : List Passed) → LeadsTo p sent course last rest → p.before.alarmed ≡ false → last.before.alarmed ≡ true → AlarmAtEnd p last sent course
+pub alarm_at_end : (p last : Point) (sent rest : List Sent) (course : List Passed) → LeadsTo p sent course last rest → p.before.alarmed ≡ false → last.before.alarmed ≡ true → AlarmAtEnd p last sent course
 alarm_at_end p last sent rest [] f none some = differ last.before.alarmed some (ap (λ (q : Point). q.before.alarmed) f.0 ∙ none)
 alarm_at_end p last sent rest (a_cut k at ∷ ps) f none some =
     one_before p (behind_cut at p) last sent sent (a_cut k at) ps (λ front point left g. (f.0, g)) (alarm_at_end (behind_cut at p) last sent rest ps f.1 none some)
@@ -176,39 +179,37 @@ without_last (a_reset r ∷ ps) o since begun place records none made =
 
 -- ---- the console goes on with it
 
-record ToAlarm (console : List ℕ) (front : List Passed) : Type 0 where
+pub record ToAlarm (console : List ℕ) (front : List Passed) : Type 0 where
   pub rest : List ℕ
   pub told : Tells console (told_in front) rest
   pub goes_on : GoesOnWith rest (Alarm soft_limit)
 
-to_alarm : (console : List ℕ) (front : List Passed) (b : Before) (o : Outcome) → o ≡ limited b → Tells console (told_in (front ++ a_line o ∷ [])) [] → ToAlarm console front
-to_alarm console front b o is told =
+pub to_alarm : (console : List ℕ) (front : List Passed) (b : Before) (o : Outcome) (rest : List ℕ) → o ≡ limited b → Tells console (told_in (front ++ a_line o ∷ [])) rest → ToAlarm console front
+to_alarm console front b o rest is told =
     let alarm : told_in (a_line o ∷ []) ≡ Alarm soft_limit ∷ Message ResetToContinue ∷ [] = ap (λ (x : Outcome). tells x.work ++ []) is in
     let two : told_in (front ++ a_line o ∷ []) ≡ told_in front ++ (Alarm soft_limit ∷ Message ResetToContinue ∷ []) =
     flat_map-append told_of front (a_line o ∷ []) ∙ ap (λ (rs : List Reply). told_in front ++ rs) alarm in
-    let t = in_turn console (told_in front) (Alarm soft_limit ∷ Message ResetToContinue ∷ []) [] (subst (λ (rs : List Reply). Tells console rs []) two told) in
-    record { rest = replies_text t.back ++ []; told = t.tells; goes_on = comes_next t.back (Alarm soft_limit) (Message ResetToContinue ∷ []) [] t.is t.each }
+    let t = in_turn console (told_in front) (Alarm soft_limit ∷ Message ResetToContinue ∷ []) rest (subst (λ (rs : List Reply). Tells console rs rest) two told) in
+    record { rest = replies_text t.back ++ rest; told = t.tells; goes_on = comes_next t.back (Alarm soft_limit) (Message ResetToContinue ∷ []) rest t.is t.each }
 
 -- ---- the alarm
 
-pub alarm_of : (job console steps : List ℕ) (events : ℕ) (f : FitsWith job console steps events) → f.fit.fits.last.before.alarmed ≡ true → (k : ℕ) → f.fit.fits.last.before.number ≡ k + 1 → HasAlarm (sent_in job) console steps k
-alarm_of job console steps events f alarmed k number =
-    let fits = f.fit.fits in
-    let g = fitted job console steps events f in
-    let done = records_of g.steps_stand.done in
-    let w = whole job console (records_of f.lines) f.fit in
-    let a = alarm_at_end (opening fits.first) fits.last (sent_in job) w.left fits.course w.leads refl alarmed in
+-- the course that ends with it makes all records of the lines that stand
+pub alarm_by_course : (sent : List Sent) (console steps : List ℕ) (z : StandTo sent console steps) (first : State) → IsOpening first → (course : List Passed) (last : Point) (left : List Sent) (rest : List ℕ)
+    → LeadsTo (opening first) sent course last left → AreMadeSoFar origin (parts_of course) (records_of z.done) → Tells console (told_in course) rest
+    → last.before.alarmed ≡ true → (k : ℕ) → last.before.number ≡ k + 1 → HasAlarm sent console steps k
+alarm_by_course sent console steps z first opens course last left rest leads all told alarmed k number =
+    let done = records_of z.done in
+    let a = alarm_at_end (opening first) last sent left course leads refl alarmed in
     let is = limits a.point.before a.outcome (line_answers true a.point a.line a.outcome a.passed.becomes) a.raises in
     let none : asks a.outcome.work ≡ [] = ap (λ (x : Outcome). asks x.work) is in
-    let records : records_of f.lines ≡ done ++ kinds.End ∷ [] = ap records_of g.lines_are ∙ records_end g.steps_stand.done in
-    let all : AreMadeSoFar origin (parts_of fits.course) done = made_so_far (parts_of fits.course) origin done (parts_end fits.course) (subst (λ (rs : List Record). AreRecorded origin (parts_of fits.course) rs) records fits.recorded) in
-    let first : AreMadeSoFar origin (behind_lines [] [] (parts_of (a.front ++ a_line a.outcome ∷ []))) done =
-    subst (λ (ps : List Passed). AreMadeSoFar origin (behind_lines [] [] (parts_of ps)) done) a.split (subst (λ (qs : List Part). AreMadeSoFar origin qs done) (sym (onto_none (parts_of fits.course))) all) in
-    let made : AreMadeSoFar origin (parts_of a.front) done = subst (λ (qs : List Part). AreMadeSoFar origin qs done) (onto_none (parts_of a.front)) (without_last a.front a.outcome [] [] origin done none first) in
-    let t = to_alarm console a.front a.point.before a.outcome is (subst (λ (ps : List Passed). Tells console (told_in ps) []) a.split w.told) in
-    let stands : StandsUpTo (sent_in job) console done a.point (a_text a.line ∷ a.left) t.rest = record {
-      first = fits.first;
-      opens = fits.opens;
+    let with_last : AreMadeSoFar origin (behind_lines [] [] (parts_of (a.front ++ a_line a.outcome ∷ []))) done =
+    subst (λ (ps : List Passed). AreMadeSoFar origin (behind_lines [] [] (parts_of ps)) done) a.split (subst (λ (qs : List Part). AreMadeSoFar origin qs done) (sym (onto_none (parts_of course))) all) in
+    let made : AreMadeSoFar origin (parts_of a.front) done = subst (λ (qs : List Part). AreMadeSoFar origin qs done) (onto_none (parts_of a.front)) (without_last a.front a.outcome [] [] origin done none with_last) in
+    let t = to_alarm console a.front a.point.before a.outcome rest is (subst (λ (ps : List Passed). Tells console (told_in ps) rest) a.split told) in
+    let stands : StandsUpTo sent console done a.point (a_text a.line ∷ a.left) t.rest = record {
+      first = first;
+      opens = opens;
       course = a.front;
       between = a.point;
       waiting = a_text a.line ∷ a.left;
@@ -220,9 +221,9 @@ alarm_of job console steps events f alarmed k number =
       told = subst (λ (ps : List Passed). Tells console (told_in ps) t.rest) (sym (append-nil a.front)) t.told;
       waits = λ unanswered. differ a.point.unanswered unanswered a.passed.answered;
     } in
-    let last = a.number in
+    let behind = a.number in
     record {
-      steps_stand = g.steps_stand;
+      steps_stand = z;
       point = a.point;
       line = a.line;
       left = a.left;
@@ -232,5 +233,15 @@ alarm_of job console steps events f alarmed k number =
       passed = a.passed;
       raises = a.raises;
       tells = t.goes_on;
-      number = (let e : a.point.before.number + 1 ≡ k + 1 = sym last ∙ number in omega (arith, e));
+      number = (let e : a.point.before.number + 1 ≡ k + 1 = sym behind ∙ number in omega (arith, e));
     }
+
+pub alarm_of : (job console steps : List ℕ) (events : ℕ) (f : FitsWith job console steps events) → f.fit.fits.last.before.alarmed ≡ true → (k : ℕ) → f.fit.fits.last.before.number ≡ k + 1 → HasAlarm (sent_in job) console steps k
+alarm_of job console steps events f alarmed k number =
+    let fits = f.fit.fits in
+    let g = fitted job console steps events f in
+    let done = records_of g.steps_stand.done in
+    let w = whole job console (records_of f.lines) f.fit in
+    let records : records_of f.lines ≡ done ++ kinds.End ∷ [] = ap records_of g.lines_are ∙ records_end g.steps_stand.done in
+    let all : AreMadeSoFar origin (parts_of fits.course) done = made_so_far (parts_of fits.course) origin done (parts_end fits.course) (subst (λ (rs : List Record). AreRecorded origin (parts_of fits.course) rs) records fits.recorded) in
+    alarm_by_course (sent_in job) console steps g.steps_stand fits.first fits.opens fits.course fits.last w.left [] w.leads all w.told alarmed k number

@@ -40,3 +40,4 @@ pub mod Found
 pub mod NoEndAnew
 pub mod Ahead
 pub mod LastAnswered
+pub mod LastAlarm

@@ -59,7 +59,7 @@ use Rattle.run_audit.specs.declared.auditor.Finding.TheVariants.{BadReplies, Fit
 use Rattle.run_audit.proofs.EndHere.{JobLeft, UpToHere, job_left, over_here, up_to_here}
 use Rattle.run_audit.proofs.EndRefused.{few_bytes, never_ends}
 use Rattle.run_audit.proofs.Fitting.{texts_found}
-use Rattle.run_audit.proofs.LastAlarm.{last_alarm}
+use Rattle.audit_rules.proofs.LastAlarm.{last_alarm}
 use Rattle.run_audit.proofs.SafeNow.{breaks_here, counted_up_to, here_by}
 use Rattle.run_audit.proofs.Under.{fits}
 

@@ -24,7 +24,6 @@ pub mod NoReset
 pub mod ResetMade
 pub mod ResetSteps
 pub mod MarkRefused
-pub mod LastAlarm
 pub mod EndHere
 pub mod EndRefused
 pub mod EndFound
