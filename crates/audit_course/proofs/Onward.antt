@@ -382,20 +382,6 @@ ends_alone p last since begun place n more told records alarmed g = by more g.co
 
 -- ---- what is left to record
 
--- no record that ends a part is among those inside it
-none_ends : {A : Type 0} (made mine behind : List Record) (r : Record) → Inside made → is_ending r ≡ true → made ≡ mine ++ r ∷ behind → A
-none_ends [] [] behind r inside ends e = absurd cc
-none_ends [] (x ∷ mine) behind r inside ends e = absurd cc
-none_ends (x ∷ made) [] behind r inside ends e = absurd (let same : x ≡ r = cc in let g : false ≡ true = sym inside.0 ∙ ap is_ending same ∙ ends in cc)
-none_ends (x ∷ made) (y ∷ mine) behind r inside ends e = none_ends made mine behind r inside.1 ends (let more : made ≡ mine ++ r ∷ behind = cc in more)
-
--- Where a part is not ended, some record is left.
-pub some_record : (p last : Point) (since begun : List Outcome) (place : Steps3) (n : ℕ) (more : List Sent) (told : List Reply) (made rest : List Record)
-    → Inside made → GoesTo p since begun place n more told (made ++ rest) last → rest ≢ []
-some_record p last since begun place n more told made rest inside g none =
-    let f = first_part place since begun g.course (made ++ rest) g.recorded in
-    none_ends made f.mine f.behind (ending_record f.part.ending) inside (ending_ends f.part.ending) (sym (append-nil made) ∙ ap (λ (rs : List Record). made ++ rs) (sym none) ∙ f.split)
-
 -- ---- cuts
 
 inside_none : (rs : List Record) → Inside rs → cuts_among rs ≡ 0

@@ -219,17 +219,3 @@ reset_last f g f_opens g_opens front lines xs ys p q first others a b answered t
     let on = last_on f g f_opens g_opens front later xs ys p q (first ∷ others) a b answered told in
     let anew : TellsAnew (told_in on.course) = record { first = first; more = others; is = on.tells; anew = sym (same_opens first) ∙ of_reset } in
     on.last_is ∙ reset_passed on.point q later on.course p.before.number (last_answered 1 0 xs) (reset_ahead on.point q later [] on.course on.leads anew) (behind_stop lines)
-
--- ---- in two halves
-
--- The last line that a course answers is the last that its second half answers, or else that of the first.
-pub front_last : (p q : Point) (sent rest : List Sent) (l : ℕ) (xs ys : List Passed) → LeadsTo p sent xs q rest → last_answered p.before.number l (xs ++ ys) ≡ last_answered q.before.number (last_answered p.before.number l xs) ys
-front_last p q sent rest l [] ys f = sym (ap (λ (x : Point). last_answered x.before.number l ys) f.0)
-front_last p q sent rest l (a_cut k at ∷ xs) ys f = front_last (behind_cut at p) q sent rest l xs ys f.1
-front_last p q sent rest l (a_reset r ∷ xs) ys f = front_last (behind_the_reset r p) q (behind_reset sent) rest l xs ys f.1
-front_last p q [] rest l (a_line o ∷ xs) ys f = absurd f
-front_last p q (a_stop ∷ sent) rest l (a_line o ∷ xs) ys f = absurd f
-front_last p q (a_text line ∷ sent) rest l (a_line o ∷ xs) ys f = front_last (behind_line p line o) q sent rest (cond (raises_alarm o) l p.before.number) xs ys f.1
-front_last p q [] rest l (a_broken o ∷ xs) ys f = absurd f
-front_last p q (a_stop ∷ sent) rest l (a_broken o ∷ xs) ys f = absurd f
-front_last p q (a_text line ∷ sent) rest l (a_broken o ∷ xs) ys f = front_last (behind_broken p o) q sent rest l xs ys f.1

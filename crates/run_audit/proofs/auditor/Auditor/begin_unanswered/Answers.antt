@@ -1,14 +1,7 @@
 use Rattle.run_audit.proofs.LineWaits.{none_next}
 use Rattle.run_audit.proofs.Under.{broken_by}
-use Rattle.std.proofs.Common.{◌≡◌, ◌⊎◌, ◌∙◌, inl, inr, sym, refl, Some}
-use Rattle.audit_texts.specs.declared.sending.Item.{Item}
-use Rattle.audit_texts.specs.declared.sending.Item.TheVariants.{Line, Stop, Nothing}
+use Rattle.std.proofs.Common.{Some, refl}
 use Rattle.run_audit.proofs.auditor.Auditor.begin_unanswered.Goals as goal
-
--- it is a line, and nothing else
-never_both : (item : Item) → item ≡ Line → (item ≡ Stop) ⊎ (item ≡ Nothing) → ⊥
-never_both item line (inl stop) = (let e : Line ≡ Stop = sym line ∙ stop in cc)
-never_both item line (inr nothing) = (let e : Line ≡ Nothing = sym line ∙ nothing in cc)
 
 pub returns-in-Line-clause-so_far : goal.returns-in-Line-clause-so_far
 returns-in-Line-clause-so_far c = c.break_line.ensures.so_far
