@@ -1,0 +1,6 @@
+pub mod Held
+pub mod Numbers
+pub mod Fronts
+pub mod Pieces
+pub mod Steps
+pub mod Consoles

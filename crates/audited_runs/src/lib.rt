@@ -1,0 +1,6 @@
+//! Laws of the texts that runs leave: they are as an audit reads them.
+#![tactic(auto)]
+
+mod laws;
+
+pub use laws::{runs_leave_consoles, runs_leave_step_texts};
