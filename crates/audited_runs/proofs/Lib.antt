@@ -4,3 +4,5 @@ pub mod Fronts
 pub mod Pieces
 pub mod Steps
 pub mod Consoles
+pub mod Lines
+pub mod Sending

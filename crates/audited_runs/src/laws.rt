@@ -1,11 +1,12 @@
 //! Laws of runs in which no device failed.
 
-ghost use Rattle.std.specs.Prelude.{ℕ, Bool, List};
+ghost use Rattle.std.specs.Prelude.{◌≡◌, ℕ, Bool, false, List};
 ghost use Rattle.outside.specs.Causes.{SourceState};
 ghost use Rattle.run_law.specs.Runs.{Sinks};
 ghost use Rattle.run_law.specs.declared.RunEnd.{RunEnd as AnyEnd};
 ghost use Rattle.step_record.specs.declared.forms.Form.{Form};
 ghost use Rattle.epoch_law.specs.Runs.{IsRun};
+ghost use Rattle.audit_rules.specs.Scanned.{scanned};
 ghost use Rattle.audited_runs.specs.Left.{IsWholeRun, LeavesSteps, LeavesConsole};
 
 /// A run in which no device failed leaves steps that are a step text: its lines have the records of the run.
@@ -19,4 +20,10 @@ pub fn runs_leave_step_texts()
 pub fn runs_leave_consoles()
     ensures { (attended : Bool) (room blocks : ℕ) (form : Form) (job : List ℕ) (job_was job_is : SourceState) (was is : Sinks) (end : AnyEnd) →
         (run : IsRun attended room blocks form job_was job_is was is end) → IsWholeRun job job_was was end → LeavesConsole is.console run.replies }
+{}
+
+/// Where no line has raised an alarm, it has sent the lines that an audit scans of its job.
+pub fn runs_send_all_lines()
+    ensures { (attended : Bool) (room blocks : ℕ) (form : Form) (job : List ℕ) (job_was job_is : SourceState) (was is : Sinks) (end : AnyEnd) →
+        (run : IsRun attended room blocks form job_was job_is was is end) → IsWholeRun job job_was was end → run.fits.last.before.alarmed ≡ false → run.lines ≡ (scanned job).lines }
 {}

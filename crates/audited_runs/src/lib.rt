@@ -3,4 +3,4 @@
 
 mod laws;
 
-pub use laws::{runs_leave_consoles, runs_leave_step_texts};
+pub use laws::{runs_leave_consoles, runs_leave_step_texts, runs_send_all_lines};
