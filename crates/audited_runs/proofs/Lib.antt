@@ -6,3 +6,4 @@ pub mod Steps
 pub mod Consoles
 pub mod Lines
 pub mod Sending
+pub mod Cuts

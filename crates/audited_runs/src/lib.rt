@@ -3,4 +3,7 @@
 
 mod laws;
 
-pub use laws::{runs_leave_consoles, runs_leave_step_texts, runs_send_all_lines};
+pub use laws::{
+    runs_leave_consoles, runs_leave_step_texts, runs_scan_the_cuts_of_their_lines,
+    runs_send_all_lines,
+};
