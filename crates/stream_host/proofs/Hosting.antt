@@ -158,13 +158,6 @@ none_due_by {room} s h f none = sym f.due_is ∙ ap option_to_list none
 abbrev counted_to : ℕ → ℕ
 counted_to n = cond (nat_lt n long_polls) n long_polls
 
-pub low_counted : (count n k : ℕ) → count ≡ counted_to n → k ≤ long_polls → (k ≤ count) ↔ (k ≤ n)
-low_counted count n k is low = by_test (nat_lt n long_polls) refl is
-  where
-    by_test : (t : Bool) → nat_lt n long_polls ≡ t → count ≡ cond t n long_polls → (k ≤ count) ↔ (k ≤ n)
-    by_test true e is = ((λ le. omega arith), (λ le. omega arith))
-    by_test false e is = let far : long_polls ≤ n = grind (arith, nat_tests) in ((λ le. omega arith), (λ le. omega arith))
-
 -- one more is counted, as long as their number tells more
 counted_on : (count n : ℕ) → count ≡ counted_to n → cond (nat_lt count long_polls) (count + 1) count ≡ counted_to (n + 1)
 counted_on count n is = grind (arith, nat_tests)
