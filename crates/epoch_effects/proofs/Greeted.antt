@@ -1,5 +1,5 @@
 -- Each epoch is greeted first, as the reset before it tells.
-use Rattle.std.proofs.Common.{◌≡◌, inl, ℕ, false, List, [], ◌∷◌, ◌++◌, refl, sym, ap, ◌∙◌, subst, append_assoc}
+use Rattle.std.proofs.Common.{inl, ℕ, false, List, [], ◌∷◌, ◌++◌, refl, sym, ap, ◌∙◌, subst, append_assoc}
 use Rattle.run_rules.specs.declared.State.{State}
 use Rattle.run_texts.specs.Courses.{Passed, Reset}
 use Rattle.run_texts.specs.Courses.Passed.{a_reset}

@@ -9,7 +9,6 @@ use Rattle.step_line.specs.Logs.{NewestFirst}
 use Rattle.board_rules.specs.Conduct.{Conducted}
 use Rattle.board_journal.specs.Openings.{Opening}
 use Rattle.board_journal.specs.Ports.{answered_in}
-use Rattle.board_journal.specs.Ports.PortStep.{answered}
 use Rattle.board_journal.specs.Steps.{Journal, port_log, known_of, answered_of}
 use Rattle.board_rules.specs.Turns.{is_limited}
 use Rattle.board_epochs.specs.Epochs.{Closed, Epochs, AreClosed, AreEpochs, IsEpoch, opening_behind, ticks_made, closed_log, log_behind, last_line}
