@@ -3,16 +3,15 @@ use Rattle.std.specs.Prelude.{◌≡◌, ℕ, Bool, true, false, nat_eq, List, �
 use Rattle.std.specs.List.{AllByRecursion}
 use Rattle.status_report.specs.Answering.{without_reports, is_report}
 use Rattle.status_report.specs.Replies.{reply_text}
-use Rattle.status_report.specs.Reports.{IsReport, HasWidths}
+use Rattle.status_report.specs.Reports.{CanBeTold}
 use Rattle.status_report.specs.declared.Reply.{Reply}
-use Rattle.status_report.specs.declared.Reply.TheVariants.{Banner, Alarm, Report, Bye}
+use Rattle.status_report.specs.declared.Reply.TheVariants.{Banner, Alarm, Bye}
 use Rattle.run_rules.specs.Told.{replies_text}
 
--- A reply stands on a console: of reports those that a board can give, and Bye has no text.
+-- A reply stands on a console: a board can tell it, and it is not Bye, which has no text.
 abbrev pub IsOnConsole : Reply → Type 0
-IsOnConsole (Report r) = IsReport r × HasWidths r
 IsOnConsole Bye = ⊥
-IsOnConsole _ = Unit {0}
+IsOnConsole reply = CanBeTold reply
 
 -- A console begins with the banner and then tells this, status reports aside, which may stand anywhere behind the banner.
 -- This is left of it.

@@ -9,6 +9,8 @@ use Rattle.status_report.specs.Places.{listed, place_text}
 use Rattle.status_report.specs.declared.reports.State.{State}
 use Rattle.status_report.specs.declared.reports.State.TheVariants.{Idle, Run, Hold0, Hold1, Jog, Alarm}
 use Rattle.status_report.specs.declared.reports.Report.{Report}
+use Rattle.status_report.specs.declared.Reply.{Reply}
+use Rattle.status_report.specs.declared.Reply.TheVariants as replies
 
 abbrev pub state_name : State → List ℕ
 state_name Idle = codes "Idle"
@@ -76,3 +78,8 @@ pub record HasWidths (r : Report) : Type 0 where
   pub feed : r.ov.feed < 2 ^ 8
   pub rapid : r.ov.rapid < 2 ^ 8
   pub spindle : r.ov.spindle < 2 ^ 8
+
+-- A board can tell this: a report is one that it can give, each number as wide as its type.
+abbrev pub CanBeTold : Reply → Type 0
+CanBeTold (replies.Report r) = IsReport r × HasWidths r
+CanBeTold _ = Unit {0}
