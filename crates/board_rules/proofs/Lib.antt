@@ -44,6 +44,7 @@ pub mod Shrinking
 pub mod Phases
 pub mod Calming
 pub mod Reporting
+pub mod Tellable
 pub mod Refusing
 pub mod Beginning
 pub mod Jogging

@@ -26,6 +26,7 @@ use Rattle.run_rules.specs.Reports.{Shows}
 use Rattle.plan_rules.specs.declared.Mode.TheVariants.{Go, Hold}
 use Rattle.status_report.specs.declared.Reply.{Reply}
 use Rattle.status_report.specs.declared.Reply.TheVariants.{Bye}
+use Rattle.status_report.specs.Reports.{HasWidths, IsReport}
 use Rattle.status_report.specs.declared.reports.Report.{Report}
 use Rattle.status_report.specs.declared.reports.State.{State as Shown}
 use Rattle.status_report.specs.declared.reports.State.TheVariants as shown
@@ -347,7 +348,8 @@ IsRoom first (Some (blocks, bytes)) h = (blocks + length (plan_of h).blocks ≡ 
 
 -- A report is answered for a word that was taken and asked for one, so behind the banner. In its turn the done ticks were loaded: the place
 -- is that after these, on all axes; the cycle is over if nothing is left to run and each is done, and a machine that
--- has stopped is held, or its jogs are cut. The feed is 0 if each tick that was given is done.
+-- has stopped is held, or its jogs are cut. The feed is 0 if each tick that was given is done. It can be told: its places are near enough,
+-- and its numbers as wide as their types.
 pub record IsReportAt (first : Opening) (r : Report) (h : Journal) : Type 0 where
   pub once : AsksForRoom h
   pub owed : owes_report h ≡ true
@@ -359,6 +361,8 @@ pub record IsReportAt (first : Opening) (r : Report) (h : Journal) : Type 0 wher
   pub feed : r.f ≡ cond (nat_lt (known_of h) (ticks_given h)) (feed_of (plan_of h).speed) 0
   pub overrides : r.ov ≡ (plan_of h).overrides
   pub state : r.state ≡ shown_as (motion_of first h)
+  pub valid : IsReport r
+  pub wide : HasWidths r
 
 -- ---- at the port
 

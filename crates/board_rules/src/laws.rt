@@ -63,6 +63,7 @@ ghost use Rattle.board_rules.specs.Whole.{course_of};
 ghost use Rattle.run_rules.specs.Reports.{Reported};
 ghost use Rattle.board_journal.specs.Ports.PortStep.{answered, took_exec, took_ovr, reported, published, no_piece_room};
 ghost use Rattle.status_report.specs.declared.reports.Report.{Report as AnyReport};
+ghost use Rattle.status_report.specs.Reports.{CanBeTold};
 ghost use Rattle.board_journal.specs.Steps.{
   Step,
   Journal,
@@ -292,7 +293,8 @@ pub fn boards_take_their_flags()
 /// that has run out is not reported as running, nor one that has
 /// stopped as slowing down. So it fits the whole run: the ticks that reports show never fall, they are at least those
 /// of the lines up to the last answered one that settles, and at most those of the next line; and a machine that
-/// nothing moves stands. For each word that asks for a report there is one at most.
+/// nothing moves stands. For each word that asks for a report there is one at most. Each report can be told: its places are
+/// near enough, and its numbers as wide as their types.
 pub fn boards_report_where_they_are()
     ensures fits { (first : Opening) (h : Journal) → Conducted first h → Reported (course_of first h) (reverse (answered_of h)) (known_of h) }
     ensures told { (first : Opening) (h : Journal) (r : AnyReport) → Conducted first (at_port (reported r) ∷ h) →
@@ -300,6 +302,7 @@ pub fn boards_report_where_they_are()
     ensures free { (first : Opening) (h : Journal) (r : AnyReport) (blocks bytes : ℕ) → Conducted first (at_port (reported r) ∷ h) → r.buffer ≡ Some (blocks, bytes) →
         blocks + length (plan_of h).blocks ≡ first.blocks }
     ensures few { (first : Opening) (h : Journal) → Conducted first h → reports_among (answered_of h) + cond (owes_report h) 1 0 ≤ reports_in (port_log h) }
+    ensures valid { (first : Opening) (h : Journal) → Conducted first h → AllByRecursion CanBeTold (answered_of h) }
 {}
 
 /// A turn that ends in a wait has a cause. For a byte: none was found, nothing is left to do, and no report is owed.

@@ -147,6 +147,8 @@ report_at first c word r h k f told = record {
   feed = told.feed;
   overrides = told.overrides;
   state = told.state;
+  valid = told.valid;
+  wide = told.wide;
 }
 
 reported_told : (first : Opening) (word : Option Exec) (r : Report) (h : Journal) → IsFound first word h → IsReported first true word (at_port (reported r) ∷ h)

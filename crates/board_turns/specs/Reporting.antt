@@ -7,7 +7,7 @@ use Rattle.code_table.specs.declared.flags.Exec.{Exec}
 use Rattle.flight.specs.Places.{machine_from}
 use Rattle.run_rules.specs.Reports.{Shows}
 use Rattle.status_report.specs.declared.reports.Report.{Report}
-use Rattle.status_report.specs.Reports.{IsReport}
+use Rattle.status_report.specs.Reports.{HasWidths, IsReport}
 use Rattle.units.specs.Truths.{one_if}
 use Rattle.board_journal.specs.Openings.{Opening}
 use Rattle.board_journal.specs.Ports.PortStep.{found_free}
@@ -80,6 +80,7 @@ pub record IsTold {N : ℕ} (first : Opening) (board : Board N) (r : Report) (h 
   pub overrides : r.ov ≡ (plan_of h).overrides
   pub state : r.state ≡ shown_as (motion_of first h)
   pub valid : IsReport r
+  pub wide : HasWidths r
 
 -- a journal goes on in one turn
 pub record IsBehind (h next : Journal) : Type 0 where

@@ -25,6 +25,7 @@ use Rattle.board_rules.proofs.Given.{known_within}
 use Rattle.board_rules.proofs.Owing.{owes_few}
 use Rattle.board_rules.proofs.Phases.{count_is, done_of, phase_is}
 use Rattle.board_rules.proofs.Reporting.{reported_is}
+use Rattle.board_rules.proofs.Tellable.{all_can_be_told}
 use Rattle.epoch_courses.specs.Course.{passed_by}
 use Rattle.epoch_courses.specs.Drives.{is_pending}
 use Rattle.epoch_effects.specs.Effects.{is_alarmed}
@@ -129,6 +130,7 @@ pub has_reported : (broken : Bool) (made : ℕ) (first : Opening) (h : Journal) 
 has_reported broken made first h c known n alarmed =
     let begun = lines_begun broken made first h in
     record {
+      valid = all_can_be_told first h c;
       fit = reports_fit broken made first h c known n;
       few = (let f = owes_few first h c in omega (arith, f));
       made = known;

@@ -1,6 +1,6 @@
 -- What reports show in each epoch, and which lines are answered there.
 use Rattle.std.specs.Prelude.{◌≡◌, ℕ, ◌+◌, ◌≤◌, Bool, true, List, [], ◌∷◌, ◌++◌, length, reverse, take}
-use Rattle.std.specs.List.{flat_map}
+use Rattle.std.specs.List.{AllByRecursion, flat_map}
 use Rattle.flight.specs.Places.{machine_from}
 use Rattle.run_rules.specs.declared.State.{State}
 use Rattle.run_rules.specs.Cuts.{counts_asked, cut_to, with_cut}
@@ -11,6 +11,7 @@ use Rattle.run_texts.specs.Courses.Passed.{a_line, a_broken, a_cut, a_reset}
 use Rattle.run_texts.specs.Parts.{Part, Ending, parts_of, lines_counted}
 use Rattle.run_texts.specs.Parts.Ending.{by_cut, by_reset, by_end}
 use Rattle.status_report.specs.Answering.{answers_in, reports_among}
+use Rattle.status_report.specs.Reports.{CanBeTold}
 use Rattle.step_line.specs.Finishing.{ticks_together}
 use Rattle.step_line.specs.Pieces.{ticks_of}
 use Rattle.units.specs.declared.Steps3.{Steps3}
@@ -73,10 +74,11 @@ report_course e = record {
   changed = e.taken.changed;
 }
 
--- Each report fits, and shows no more ticks than were found done, which are made. There are as many reports at most as words that asked
--- for one. All lines that were begun but the last are answered; and the ticks of the lines up to the last answered one that settles
+-- Each report can be told. It fits, and shows no more ticks than were found done, which are made. There are as many reports at most as
+-- words that asked for one. All lines that were begun but the last are answered; and the ticks of the lines up to the last answered one that settles
 -- were found done. Only an alarm halts the machine.
 pub record HasReported (e : EpochEffects) : Type 0 where
+  pub valid : AllByRecursion CanBeTold e.answered
   pub fit : Reported (report_course e) (reverse e.answered) e.known
   pub few : reports_among e.answered ≤ e.taken.asked
   pub made : e.known ≤ e.made

@@ -49,13 +49,14 @@ pub fn cuts_have_causes()
         CutsHaveCauses (opening state) (sent_by es) (course_of blocks state made es) }
 {}
 
-/// Each report fits the lines of its epoch, as its opening and the ticks that were made in it have them: of an epoch that is
-/// closed those made at its halt. It shows no more ticks than were found done, and there are as many reports at most as words
-/// that asked for one. All lines that were begun in an epoch but the last are answered, and the ticks of those up to the last
-/// answered one that settles were found done. While an epoch is locked its reports tell of an alarm, and behind the line that
-/// unlocks it only of one that a line has raised. The pieces whose ticks these are were given for the parts of the epoch. What was
-/// answered in the epochs is all that was answered; and each epoch opens as the reset before it says, the first as a run begins. What
-/// is answered in an epoch begins with what greets it, up to the banner: no report comes before.
+/// Each report can be told: its places are near enough, and its numbers as wide as their types. It fits the lines of its
+/// epoch, as its opening and the ticks that were made in it have them: of an epoch that is closed those made at its halt. It
+/// shows no more ticks than were found done, and there are as many reports at most as words that asked for one. All lines
+/// that were begun in an epoch but the last are answered, and the ticks of those up to the last answered one that settles
+/// were found done. While an epoch is locked its reports tell of an alarm, and behind the line that unlocks it only of one
+/// that a line has raised. The pieces whose ticks these are were given for the parts of the epoch. What was answered in the
+/// epochs is all that was answered; and each epoch opens as the reset before it says, the first as a run begins. What is
+/// answered in an epoch begins with what greets it, up to the banner: no report comes before.
 pub fn reports_fit_their_epochs()
     ensures fit { (blocks : ℕ) (state : State) (made : ℕ) (es : Epochs) → AreEpochs blocks state es → known_of (open_journal es) ≤ made → AllByRecursion HasReported (effects_of blocks state made es) }
     ensures locks { (blocks : ℕ) (state : State) (made : ℕ) (es : Epochs) → AreEpochs blocks state es → AllByRecursion TellsLock (effects_of blocks state made es) }

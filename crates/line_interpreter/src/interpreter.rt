@@ -12,6 +12,7 @@ ghost use Rattle.line_interpreter.specs.Lefts.{greeting, IsTodo, IsNextOf};
 ghost use Rattle.run_rules.specs.Work.Task.{ask, tell};
 ghost use Rattle.status_report.specs.Replies.{IsReply};
 ghost use Rattle.status_report.specs.Answering.{is_report};
+ghost use Rattle.status_report.specs.Reports.{HasWidths};
 ghost use Rattle.run_rules.specs.Reports.{Shows, has_room, shows_room};
 ghost use Rattle.units.specs.Lengths.{IsPlace};
 ghost use Rattle.modal_state.specs.Modes.{rebased};
@@ -177,6 +178,7 @@ impl Interpreter {
         ensures feed { result.f ≡ seen.now.feed }
         ensures overrides { result.ov ≡ seen.now.overrides }
         ensures valid { IsReply (replies.Report result) }
+        ensures wide { HasWidths result }
     {
         report(&self.desk.state, seen)
     }

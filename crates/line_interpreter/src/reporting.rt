@@ -6,7 +6,7 @@ ghost use Rattle.run_rules.specs.Reports.{Shows, has_room, shows_room, steps_in_
 ghost use Rattle.run_rules.specs.States.{IsState};
 ghost use Rattle.status_report.specs.Places.{in_thousandths};
 ghost use Rattle.status_report.specs.Replies.{IsReply};
-ghost use Rattle.status_report.specs.Reports.{farthest_told};
+ghost use Rattle.status_report.specs.Reports.{HasWidths, farthest_told};
 ghost use Rattle.status_report.specs.declared.Reply.{Reply as AnyReply};
 ghost use Rattle.units.specs.Lengths.{IsPlace, IsScale};
 ghost use Rattle.units.specs.Limits.{OnEachAxis};
@@ -74,6 +74,14 @@ pub(crate) fn shows_room(state: &State) -> bool
     state.settings.report / 2 % 2 == 1
 }
 
+/// A report's numbers are as wide as their types.
+fn known_widths(report: Report) -> Report
+    ensures same { result ≡ report }
+    ensures widths { HasWidths report }
+{
+    report
+}
+
 /// The report of a machine, where the lines left this state.
 pub(crate) fn report(state: &State, seen: &Seen) -> Report
     requires valid { IsState state.now }
@@ -85,8 +93,9 @@ pub(crate) fn report(state: &State, seen: &Seen) -> Report
     ensures feed { result.f ≡ seen.now.feed }
     ensures overrides { result.ov ≡ seen.now.overrides }
     ensures valid { IsReply (AnyReply.Report result) }
+    ensures wide { HasWidths result }
 {
-    Report {
+    known_widths(Report {
         state: seen.state,
         machine: state.settings.report % 2 == 1,
         at: steps_in_thousandths(seen.place, &state.settings.limits.per_mm),
@@ -99,5 +108,5 @@ pub(crate) fn report(state: &State, seen: &Seen) -> Report
         ),
         wco: in_thousandths(state.parser.wco()),
         ov: seen.overrides,
-    }
+    })
 }

@@ -2,6 +2,7 @@ use Rattle.std.proofs.Common.{ℕ, Option, subst}
 use Rattle.board_rules.specs.Conduct.{IsRoom}
 use Rattle.board_rules.proofs.Owing.{owes_few}
 use Rattle.board_rules.proofs.Reporting.{reported_is}
+use Rattle.board_rules.proofs.Tellable.{all_can_be_told}
 use Rattle.board_rules.proofs.laws.boards_report_where_they_are.Goals as goal
 
 pub returns-clause-fits : goal.returns-clause-fits
@@ -9,6 +10,9 @@ returns-clause-fits c = reported_is
 
 pub returns-clause-few : goal.returns-clause-few
 returns-clause-few c = owes_few
+
+pub returns-clause-valid : goal.returns-clause-valid
+returns-clause-valid c = all_can_be_told
 
 pub returns-clause-told : goal.returns-clause-told
 returns-clause-told c = λ first h r d. (d.0.load, (d.0.idle, (d.0.stopped, d.0.room)))
