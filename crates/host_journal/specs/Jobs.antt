@@ -19,6 +19,9 @@ resume = 0x7e
 abbrev pub cancel : ℕ
 cancel = 0x85
 
+abbrev pub is_cancel : ℕ → Bool
+is_cancel b = nat_eq b cancel
+
 -- the realtime bytes of a line: each of them is raised
 abbrev pub served : List ℕ → List ℕ
 served line = realtime line
@@ -26,6 +29,10 @@ served line = realtime line
 -- those of a text
 abbrev pub served_in : List ℕ → List ℕ
 served_in text = flat_map served (lines_of text)
+
+-- how many cancels of jogs stand outside the comments of some lines
+abbrev pub cancels_in : List (List ℕ) → ℕ
+cancels_in lines = count_by is_cancel (flat_map served lines)
 
 -- 0x18 resets the machine
 abbrev pub is_reset : ℕ → Bool

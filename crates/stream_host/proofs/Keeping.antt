@@ -90,7 +90,7 @@ IsCut h = CutsInto (scanned_of h) (cut_of h) (raw_of h) ⊎ IsOver (scanned_of h
 is_lf : (b : ℕ) → nat_eq b 10 ≡ true → b ≡ 10
 is_lf b h = grind (arith, nat_tests)
 
-cut_on : (b : ℕ) (text : List ℕ) (lines : List (List ℕ)) (raw : List ℕ) (t : Bool) → nat_eq b 10 ≡ t → CutsInto text lines raw
+pub cut_on : (b : ℕ) (text : List ℕ) (lines : List (List ℕ)) (raw : List ℕ) (t : Bool) → nat_eq b 10 ≡ t → CutsInto text lines raw
     → CutsInto (text ++ b ∷ []) (cond t (lines ++ raw ∷ []) lines) (cond t [] (raw ++ b ∷ []))
 cut_on b text lines raw true e is = subst (λ (c : ℕ). CutsInto (text ++ c ∷ []) (lines ++ raw ∷ []) []) (sym (is_lf b e)) (cut_line text lines raw is)
 cut_on b text lines raw false e is = cut_byte text lines raw b is e

@@ -23,6 +23,7 @@ pub mod Sending
 pub mod Raising
 pub mod Alarming
 pub mod Waiting
+pub mod Waited
 pub mod Reporting
 pub mod Running
 pub mod Queries

@@ -229,7 +229,7 @@ in_order room h c = in_lines room h c ∙ by_cut (cut_is room h c)
 
 -- ---- what else is raised are resumes
 
-count_on : (p : ℕ → Bool) (xs ys : List ℕ) → count_by p (xs ++ ys) ≡ count_by p xs + count_by p ys
+pub count_on : (p : ℕ → Bool) (xs ys : List ℕ) → count_by p (xs ++ ys) ≡ count_by p xs + count_by p ys
 count_on p xs ys = sum_by-append (λ x. cond (p x) 1 0) xs ys
 
 resumed_by : (p : ℕ → Bool) (b resumes : ℕ) (t u : Bool) (all gone : List ℕ) → (t ≡ true → b ≡ resume) → p resume ≡ u

@@ -31,6 +31,7 @@ use Rattle.stream_host.proofs.Ending.{ends_by, ends_all}
 use Rattle.stream_host.proofs.Reporting.{reported_is}
 use Rattle.stream_host.proofs.Turns.{has_written}
 use Rattle.stream_host.proofs.Waiting.{few_unanswered}
+use Rattle.stream_host.proofs.Waited.{cancels_waited}
 
 none_left : (n : ℕ) (text : List ℕ) → n ≡ length text → drop n text ≡ []
 none_left n text e = nil_from_length (drop n text) (let l = length-drop n text in omega arith)
@@ -119,6 +120,7 @@ has_run_of room h job_was job_is console_was console_is c finished job console =
     few = λ out. few_unanswered room h c (out_is room h c out).free;
     resumes = resumes_of h;
     raises = λ out. subst (λ due. AreRaised (scanned_of h) (raises_of h) due (resumes_of h)) (out_is room h c out).none_due (raised_is room h c);
+    waited = cancels_waited room h c;
     reported = reported_is room h c;
     bye = finished.bye;
     console = took_of console_was console_is (has_given_up h) (drop (written_of h) (text_of h)) (text_of h) console (wrote_all h finished.written);

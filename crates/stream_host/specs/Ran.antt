@@ -13,7 +13,7 @@ use Rattle.host_journal.specs.declared.Reading.TheVariants.{Ended, Failed, Large
 use Rattle.host_journal.specs.declared.Stop.{Stop}
 use Rattle.host_journal.specs.Links.{on_link}
 use Rattle.status_report.specs.Answering.{answers_in, is_bye, banners_in}
-use Rattle.host_journal.specs.Jobs.{resume, is_reset, is_long, marks_behind, resets_scanned, lacks_banner, served, served_in, stop_by, IsSent, IsSentSoFar}
+use Rattle.host_journal.specs.Jobs.{resume, cancels_in, is_cancel, is_reset, is_long, marks_behind, resets_scanned, lacks_banner, served, served_in, stop_by, IsSent, IsSentSoFar}
 use Rattle.run_rules.specs.Work.{is_limit}
 use Rattle.host_journal.specs.Steps.{Journal, stored_of, marks_of, line_raises_of, has_bye, answered_of, errors_of, read_of, reading_of, scanned_of, cut_of, or_alarm, stop_of, text_of, written_of, has_given_up}
 use Rattle.stream_host.specs.Conduct.{HasWritten}
@@ -80,11 +80,13 @@ pub record AreMarks (marks scanned : List ℕ) : Type 0 where
 -- stored marks at borders of its lines, closed the link or not, and got replies up to Bye. Some of its lines are forgotten, the
 -- others live: in each of its epochs that is over, the lines without an answer are forgotten, which the link has room for, each
 -- with its LF, and it ends at its mark; the latest mark may have no Banner yet. Why it sent no more is what the job says, or
--- else an alarm, at the first line that is neither answered nor forgotten. Where the link is closed
--- and no alarm was got, all that is sent of the job is raised and stored; so is all that was cut and scanned where the Banner of a
--- reset is lacking; and the lines that live and have no answer fit on the link then, each with its LF. Each line that asks for
--- a report and is answered has one, behind the answers to the lines before it, but in an attended run. The console has the text of the
--- replies, all of it where no write failed. The source's count of faults rose where a read failed, and is as before where none did.
+-- else an alarm, at the first line that is neither answered nor forgotten. Where the link is closed and no alarm was got, all
+-- that is sent of the job is raised and stored; so is all that was cut and scanned where the Banner of a reset is lacking; and
+-- the lines that live and have no answer fit on the link then, each with its LF. If the run is not attended, no cancel of a jog
+-- is raised behind the first line that is neither answered nor forgotten, since it waits for the answers to the lines before
+-- its own, and each line that asks for a report and is answered has one, behind the answers to the lines before it. The console
+-- has the text of the replies, all of it where no write failed. The source's count of faults rose where a read failed, and is
+-- as before where none did.
 pub record HostRan (attended : Bool) (room : ℕ) (job_was job_is : SourceState) (console_was console_is : SinkState) (stored marks : List ℕ) (shut : Bool) (raised : List ℕ) (got : List Reply) (end : HostEnd) : Type 0 where
   pub read : List ℕ
   pub reading : Reading
@@ -115,6 +117,7 @@ pub record HostRan (attended : Bool) (room : ℕ) (job_was job_is : SourceState)
   pub link : is_out shut raised got ≡ true → stored ≡ on_link lines
   pub few : is_out shut raised got ≡ true → length (on_link (drop end.answered live)) ≤ room
   pub raises : is_out shut raised got ≡ true → AreRaised scanned raised [] resumes
+  pub waited : attended ≡ false → count_by is_cancel raised ≤ cancels_in (take (end.answered + forgotten + 1) (lines_of scanned))
   pub reported : attended ≡ false → AreReported live got
   pub bye : list_any is_bye got ≡ true
   pub console : Took console_was console_is end.console_failed (replies_text got)

@@ -1,6 +1,6 @@
 //! Laws of hosts.
 
-ghost use Rattle.std.specs.Prelude.{◌≡◌, ℕ, ◌+◌, ◌*◌, ◌≤◌, ◌<◌, ◌⊎◌, Bool, true, false, List, [], ◌∷◌, ◌++◌, length, map, drop, reverse};
+ghost use Rattle.std.specs.Prelude.{◌≡◌, ℕ, ◌+◌, ◌*◌, ◌≤◌, ◌<◌, ◌⊎◌, Bool, true, false, List, [], ◌∷◌, ◌++◌, length, map, take, drop, reverse};
 ghost use Rattle.run_rules.specs.Lines.{lines_of, whole_lines};
 ghost use Rattle.run_rules.specs.Readings.{largest_job, largest_piece};
 ghost use Rattle.serial_ring.specs.declared.view.LinkStep.{LinkStep};
@@ -8,9 +8,9 @@ ghost use Rattle.serial_ring.specs.Logs.{greeted_in};
 ghost use Rattle.serial_ring.specs.Marks.{Mark};
 ghost use Rattle.host_journal.specs.Links.{behind_lf, on_link, AreInOrder};
 ghost use Rattle.status_report.specs.Answering.{lfs_in, answers_in};
-ghost use Rattle.host_journal.specs.Jobs.{is_reset, sent_text, marks_behind, served_in, ends_sending, lines_read, lines_to_send, stop_by, IsSent, IsSentSoFar};
+ghost use Rattle.host_journal.specs.Jobs.{cancels_in, is_cancel, is_reset, sent_text, marks_behind, served_in, ends_sending, lines_read, lines_to_send, stop_by, IsSent, IsSentSoFar};
 ghost use Rattle.host_journal.specs.declared.Reading.{Reading};
-ghost use Rattle.std.specs.List.{AllByRecursion, list_any};
+ghost use Rattle.std.specs.List.{AllByRecursion, count_by, list_any};
 ghost use Rattle.gcode_words.specs.Words.{Spells};
 ghost use Rattle.gcode_words.specs.declared.Word.{Word};
 ghost use Rattle.host_journal.specs.Holding.{is_pause, pauses};
@@ -50,8 +50,9 @@ pub fn hosts_keep_to_their_count()
 
 /// The realtime bytes that a host scans are raised once, in order, or are due: none is while a byte of the line that it
 /// stands in may be stored. What else is raised are its own resumes. Before each of them 4,096 polls in a row found no
-/// reply, and no more. A `?` and the cancel of a jog are raised once each line before their own is answered, and each line
-/// that asks for a report and has its answer has a report, behind the answers to the lines before it.
+/// reply, and no more. A `?` and the cancel of a jog are raised once each line before their own is answered: so no cancel is
+/// raised behind the first line that is neither answered nor forgotten. Each line that asks for a report and has its answer has a
+/// report, behind the answers to the lines before it.
 ///
 /// In an attended run no byte waits for answers, nothing is said of where reports stand, and nothing is resumed while the link is
 /// open, however many polls find no reply.
@@ -61,6 +62,7 @@ pub fn hosts_raise_what_they_scan()
     ensures first { (room : ℕ) (b : ℕ) (h : Journal) → Conducted room h → MayStore room b h → due_of h ≡ [] }
     ensures closed { (room : ℕ) (h : Journal) → Conducted room h → is_shut h ≡ true → has_limit h ≡ false → due_of h ≡ [] }
     ensures after { (room : ℕ) (b : ℕ) (h : Journal) (down : Bool) → is_attended h ≡ false → waits_for_lines b ≡ true → Conducted room (at_port (raised b down) ∷ h) → answers_in (got_now h) ≡ length (lines_now h) }
+    ensures waited { (room : ℕ) (h : Journal) → Conducted room h → is_attended h ≡ false → count_by is_cancel (raises_of h) ≤ cancels_in (take (over_of h + 1) (lines_of (scanned_of h))) }
     ensures reported { (room : ℕ) (h : Journal) → Conducted room h → is_attended h ≡ false → AreReported (live_of h) (got_of h) }
     ensures tired { (room : ℕ) (h : Journal) → Conducted room h → (is_attended h ≡ false) ⊎ (is_shut h ≡ true) → polls_of h ≤ empty_polls }
     ensures alone { (room : ℕ) (h : Journal) → Conducted room h → is_attended h ≡ true → is_shut h ≡ false → resumes_of h ≡ 0 }

@@ -1,6 +1,7 @@
 use Rattle.stream_host.proofs.Raising.{raised_is, in_order, none_due_first, none_due_shut, few_polls, never_resumes, rested_is}
 use Rattle.stream_host.proofs.Cutting.{all_now}
 use Rattle.stream_host.proofs.Reporting.{reported_is}
+use Rattle.stream_host.proofs.Waited.{cancels_waited}
 use Rattle.stream_host.proofs.laws.hosts_raise_what_they_scan.Goals as goal
 
 pub returns-clause-raised : goal.returns-clause-raised
@@ -17,6 +18,9 @@ returns-clause-closed c = none_due_shut
 
 pub returns-clause-after : goal.returns-clause-after
 returns-clause-after c = λ room b h down alone waits conducted. all_now room h conducted.1 (conducted.0.after alone waits)
+
+pub returns-clause-waited : goal.returns-clause-waited
+returns-clause-waited c = cancels_waited
 
 pub returns-clause-reported : goal.returns-clause-reported
 returns-clause-reported c = reported_is
