@@ -1,12 +1,12 @@
 -- Four actors make a run.
-use Rattle.std.proofs.Common.{◌≡◌, ℕ, ◌+◌, Bool, true, false, cond, List, [], ◌∷◌, ◌++◌, refl, sym, ap, ◌∙◌, subst, arith}
+use Rattle.std.proofs.Common.{◌≡◌, ℕ, ◌+◌, ◌≤◌, Bool, true, false, cond, List, [], ◌∷◌, ◌++◌, map, sum, refl, sym, ap, ◌∙◌, subst, arith}
 use Rattle.std.proofs.lemmas.List.Sums.{sum_by-append}
 use Rattle.board_rules.proofs.Plain.{answers_without}
 use Rattle.flight.specs.Places.{origin}
 use Rattle.outside.specs.Causes.{SourceState}
 use Rattle.outside.specs.Writing.{Took}
 use Rattle.run_law.specs.Ran.{RecorderRan}
-use Rattle.run_law.specs.Runs.{Sinks, run_end}
+use Rattle.run_law.specs.Runs.{Sinks, run_end, slows_behind}
 use Rattle.run_law.proofs.Reporting.{errors_without}
 use Rattle.run_rules.specs.Told.{errors_among, is_error}
 use Rattle.run_texts.specs.Besides.{CutsHaveCauses, DropsAreFew}
@@ -34,7 +34,7 @@ use Rattle.epoch_law.proofs.Causing.{causes_with_more, drops_with_more}
 use Rattle.epoch_law.proofs.Ending.{all_ended, one_end}
 use Rattle.epoch_law.proofs.Fitting.{texts_fit, put_of_epochs, put_recorded, alarm_got, more_comes, is_out}
 use Rattle.epoch_law.proofs.Marking.{banners_got, each_greeted}
-use Rattle.epoch_law.proofs.Sending.{cancels_scanned, reports_scanned, epochs_scanned, all_cancels, all_asked}
+use Rattle.epoch_law.proofs.Sending.{cancels_behind, cancels_scanned, reports_scanned, epochs_scanned, all_cancels, all_asked}
 
 errors_on : (rs ss : List Reply) → errors_among (rs ++ ss) ≡ errors_among rs + errors_among ss
 errors_on rs ss = sum_by-append (λ s. cond (is_error s) 1 0) rs ss
@@ -128,6 +128,13 @@ module _ (attended : Bool) (room blocks : ℕ) (form : Form) (job_was job_is : S
         (drops_with_more room 0 (opening board.first) board.last (items_in b.taken) [] more board.course board.leads (board.drops room connected.few));
   }
 
+  waited : attended ≡ false → sum (map (λ e. e.taken.cancels) board.effects) ≤ slows_behind (end.answered + host.ran.forgotten) host.ran.scanned
+  waited alone =
+      let a = board.taken_are.cancels in
+      let s = all_cancels board.effects in
+      let c = cancels_behind host.ran.scanned h.raised host.ran.due host.ran.resumes host.ran.raises_so_far b.words connected.flags (end.answered + host.ran.forgotten) (host.ran.waited alone) in
+      omega (arith, a, s, c)
+
   ending : HasEnded job_was job_is (run_end end steps_failed) host.ran.reading host.ran.scanned host.ran.forgotten board.course h.got
   ending = record {
     lost = board.lost ∙ sym (connected.lost (banners_got h.got (told_in board.course) told ∙ ap (λ n. n + 1) board.greets)) ∙ sym host.forgotten;
@@ -157,6 +164,7 @@ module _ (attended : Bool) (room blocks : ℕ) (form : Form) (job_was job_is : S
       recording = recording;
       doing = doing;
       causes = causes;
+      waited = waited;
       ending = ending;
     },
     refl,

@@ -7,7 +7,7 @@ use Rattle.outside.specs.Causes.{Rose, SourceState}
 use Rattle.outside.specs.Writing.{Took}
 use Rattle.planner_runs.specs.Runs.{fresh_plan}
 use Rattle.run_law.specs.Changes.{AreAskedIn}
-use Rattle.run_law.specs.Runs.{Sinks, asks_hold, asks_slow, asks_change, slows_in}
+use Rattle.run_law.specs.Runs.{Sinks, asks_hold, asks_slow, asks_change, slows_behind, slows_in}
 use Rattle.run_law.specs.declared.RunEnd.{RunEnd}
 use Rattle.run_rules.specs.Reports.{AreReported, is_query}
 use Rattle.run_rules.specs.Told.{errors_in, limits_in, replies_text}
@@ -139,7 +139,9 @@ pub record HasEnded (job_was job_is : SourceState) (end : RunEnd) (reading : Rea
 
 -- A run of a job over epochs, attended or not, at a link that has room for so many bytes, with a plan of so many blocks, and whose steps
 -- have a form, whatever failed: what was read, scanned and sent of it; the replies and records that were made; that these texts fit, by one
--- course; and beside this course how it was run, what words of flags have done, and how it ended.
+-- course; and beside this course how it was run, what words of flags have done, and how it ended. If it is not attended, the cancel of a
+-- jog waits for the answers to the lines before its own: no more words for a hold or a cancel were taken than holds were scanned, and
+-- cancels up to the end of the first line that is neither answered nor forgotten.
 pub record IsRun (attended : Bool) (room blocks : ℕ) (form : Form) (job_was job_is : SourceState) (was is : Sinks) (end : RunEnd) : Type 0 where
   pub read : List ℕ
   pub reading : Reading
@@ -157,4 +159,5 @@ pub record IsRun (attended : Bool) (room blocks : ℕ) (form : Form) (job_was jo
   pub recording : IsRunAndRecorded blocks form was is end fits.course drives epochs records
   pub doing : HasEffects scanned fits.first fits.course drives epochs replies effects
   pub causes : HasCauses room fits.first (sent_of lines rest) fits.course
+  pub waited : attended ≡ false → sum (map (λ e. e.taken.cancels) effects) ≤ slows_behind (end.answered + sending.forgotten) scanned
   pub ending : HasEnded job_was job_is end reading scanned sending.forgotten fits.course replies

@@ -6,20 +6,17 @@ use Rattle.code_table.specs.Flags.{Flag, flag_of}
 use Rattle.code_table.specs.Flags.Flag.{in_ovr}
 use Rattle.code_table.specs.declared.flags.Ovr.{Ovr}
 use Rattle.board_journal.specs.Ports.{BoardLog, cancel_words_in, has_held_in, has_slowed_in, has_changed_in, has_reset_in, reports_in}
-use Rattle.feed_hold.specs.Motions.{hold_byte, cancel_byte}
+use Rattle.feed_hold.specs.Motions.{hold_byte}
 use Rattle.run_rules.specs.Reports.{is_query}
 use Rattle.host_journal.specs.Jobs.{is_reset}
+pub use Rattle.host_journal.specs.Jobs.{is_cancel}
 use Rattle.run_law.specs.Changes.{words_in}
 
 -- `!` holds the machine
 abbrev pub is_hold : ℕ → Bool
 is_hold b = nat_eq b hold_byte
 
--- 0x85 cancels a jog
-abbrev pub is_cancel : ℕ → Bool
-is_cancel b = nat_eq b cancel_byte
-
--- each may slow the machine down
+-- it may slow the machine down, and so may a jog's cancel
 abbrev pub is_slow : ℕ → Bool
 is_slow b = is_hold b || is_cancel b
 
