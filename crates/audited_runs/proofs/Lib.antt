@@ -7,3 +7,4 @@ pub mod Consoles
 pub mod Lines
 pub mod Sending
 pub mod Cuts
+pub mod Rest
