@@ -8,3 +8,4 @@ pub mod Lines
 pub mod Sending
 pub mod Cuts
 pub mod Rest
+pub mod Ends
