@@ -9,3 +9,4 @@ pub mod Sending
 pub mod Cuts
 pub mod Rest
 pub mod Ends
+pub mod Whole

@@ -26,7 +26,7 @@ use Rattle.audited_runs.proofs.Lines.{lines_of_large, lines_of_small}
 
 -- ---- a job in a line of which the sending ends
 
-each_sent : (lines : List (List ℕ)) → AllByRecursion IsSendable (take_while is_sent lines)
+pub each_sent : (lines : List (List ℕ)) → AllByRecursion IsSendable (take_while is_sent lines)
 each_sent [] = tt
 each_sent (l ∷ ls) = by_test (ends_sending l) refl (each_sent ls) where
   by_test : (t : Bool) → ends_sending l ≡ t → AllByRecursion IsSendable (take_while is_sent ls) → AllByRecursion IsSendable (take_while is_sent (l ∷ ls))
@@ -46,25 +46,25 @@ sent_ended r text left lines rest is sendable ends = elim is [
 
 -- ---- what was read of a job
 
-record IsRead (job read : List ℕ) (reading : Reading) : Type 0 where
+pub record IsRead (job read : List ℕ) (reading : Reading) : Type 0 where
   pub left : List ℕ
   pub split : job ≡ read ++ left
   pub all : reading ≡ Ended → left ≡ []
 
-job_read : (was is : Option (List ℕ)) (job read : List ℕ) (reading : Reading) → was ≡ Some job → Consumes was is read → (reading ≡ Ended → IsAtEnd is) → IsRead job read reading
+pub job_read : (was is : Option (List ℕ)) (job read : List ℕ) (reading : Reading) → was ≡ Some job → Consumes was is read → (reading ≡ Ended → IsAtEnd is) → IsRead job read reading
 job_read None is job read reading told taken at_end = absurd cc
 job_read (Some xs) None job read reading told taken at_end = absurd taken
 job_read (Some xs) (Some ys) job read reading told taken at_end =
     let same : job ≡ xs = cc in
     record { left = ys; split = same ∙ taken; all = at_end }
 
-whole : (read : List ℕ) → length read ≤ largest_job → job_of read ≡ read
+pub whole : (read : List ℕ) → length read ≤ largest_job → job_of read ≡ read
 whole read few = take_all largest_job read few
 
-is_large : (n : ℕ) → largest_job < n → nat_lt largest_job n ≡ true
+pub is_large : (n : ℕ) → largest_job < n → nat_lt largest_job n ≡ true
 is_large n more = grind (arith, nat_tests, more)
 
-is_small : (n : ℕ) → n ≤ largest_job → nat_lt largest_job n ≡ false
+pub is_small : (n : ℕ) → n ≤ largest_job → nat_lt largest_job n ≡ false
 is_small n few = grind (arith, nat_tests, few)
 
 -- ---- the lines

@@ -30,7 +30,7 @@ use Rattle.audited_runs.proofs.Pieces.{put_have_lines}
 
 -- ---- how many lines are sent
 
-few_while : {A : Type 0} (p : A → Bool) (xs : List A) → length (take_while p xs) ≤ length xs
+pub few_while : {A : Type 0} (p : A → Bool) (xs : List A) → length (take_while p xs) ≤ length xs
 few_while p xs = let some = length-take (prefix_len p xs) xs in omega (arith, some)
 
 few_whole : (text : List ℕ) → length (whole_lines text) ≤ length text
