@@ -10,3 +10,4 @@ pub mod Cuts
 pub mod Rest
 pub mod Ends
 pub mod Whole
+pub mod SentFront
