@@ -11,3 +11,4 @@ pub mod Rest
 pub mod Ends
 pub mod Whole
 pub mod SentFront
+pub mod Places

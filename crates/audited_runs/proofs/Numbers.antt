@@ -20,7 +20,7 @@ abbrev pub AreBelow : ℕ → List Part → Type 0
 AreBelow n ps = AllByRecursion (λ p. EndsBelow n p.ending) ps
 
 -- how many lines come
-abbrev texts_among : List Sent → ℕ
+abbrev pub texts_among : List Sent → ℕ
 texts_among [] = 0
 texts_among (a_text line ∷ more) = texts_among more + 1
 texts_among (a_stop ∷ more) = texts_among more
@@ -48,14 +48,14 @@ texts_of_lines (line ∷ lines) =
     let more = texts_of_lines lines in
     omega (arith, on, one, more)
 
-texts_sent : (lines : List (List ℕ)) (rest : List ℕ) → texts_among (sent_of lines rest) ≡ length lines
+pub texts_sent : (lines : List (List ℕ)) (rest : List ℕ) → texts_among (sent_of lines rest) ≡ length lines
 texts_sent lines rest =
     let on = texts_on (flat_map sent_by lines) (replicate (resets_of rest) a_stop) in
     let all = texts_of_lines lines in
     let none = stops_alone (resets_of rest) in
     omega (arith, on, all, none)
 
-texts_behind : (sent : List Sent) → length (waiting_in sent) + texts_among (behind_reset sent) ≤ texts_among sent
+pub texts_behind : (sent : List Sent) → length (waiting_in sent) + texts_among (behind_reset sent) ≤ texts_among sent
 texts_behind [] = omega arith
 texts_behind (a_text line ∷ more) = let on = texts_behind more in omega (arith, on)
 texts_behind (a_stop ∷ more) = omega arith
