@@ -12,3 +12,4 @@ pub mod Ends
 pub mod Whole
 pub mod SentFront
 pub mod Places
+pub mod Counting
