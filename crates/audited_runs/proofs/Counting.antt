@@ -1,9 +1,9 @@
--- With an alarm a run has scanned no more bytes that may cut jogs than an audit counts.
-use Rattle.std.proofs.Common.{◌≡◌, ℕ, ◌+◌, ◌≤◌, inl, inr, Bool, true, false, cond, List, [], ◌∷◌, ◌++◌, length, take, drop, nat_eq, nat_lt, refl, sym, ap, subst, ◌∙◌, append-nil, arith}
-use Rattle.std.specs.List.{count_by, filter, prefix_len, sum_by, take_while}
+-- What may cut jogs in a run: no more cuts than words were taken for, and with an alarm no more bytes than an audit counts.
+use Rattle.std.proofs.Common.{◌≡◌, ℕ, ◌+◌, ◌≤◌, ◌<◌, inl, inr, Bool, true, false, cond, List, [], ◌∷◌, ◌++◌, length, map, take, drop, nat_eq, nat_lt, refl, sym, ap, subst, ◌∙◌, append-nil, arith}
+use Rattle.std.specs.List.{AllByRecursion, count_by, filter, prefix_len, sum, sum_by, take_while}
 use Rattle.std.proofs.lemmas.Bool.Decides.{nat_tests}
 use Rattle.std.proofs.lemmas.List.{length-append, take_all, take-append-drop, take-append-le}
-use Rattle.std.proofs.lemmas.List.Sums.{sum_by-append, sum_by-cons, sum_by-take-drop}
+use Rattle.std.proofs.lemmas.List.Sums.{sum-map, sum_by-append, sum_by-cons, sum_by-take-drop}
 use Rattle.gcode_words.specs.Comments.{comment_after}
 use Rattle.gcode_words.specs.Stripping.{is_realtime, realtime}
 use Rattle.gcode_words.proofs.Fed.{realtime-append}
@@ -14,7 +14,12 @@ use Rattle.run_law.specs.Runs.{slows_behind}
 use Rattle.run_rules.specs.Lines.{lines_of, onto_first, onto_line, whole_lines}
 use Rattle.run_rules.specs.Readings.{job_of, largest_job}
 use Rattle.run_rules.proofs.Cutting.{lines_are}
+use Rattle.run_texts.specs.Courses.{Passed, cuts_in}
+use Rattle.run_texts.specs.Courses.Passed.{a_line, a_broken, a_cut, a_reset}
 use Rattle.run_texts.specs.Fronts.{BeginsWith}
+use Rattle.units.specs.declared.Steps3.{Steps3}
+use Rattle.epoch_courses.specs.Drives.{Driven}
+use Rattle.epoch_effects.specs.Effects.{AreEffects, EpochEffects, IsAsTaken, epochs_in, onto_epoch}
 use Rattle.epoch_law.specs.Ran.{IsRest}
 use Rattle.epoch_law.proofs.SoFar.{front_on}
 use Rattle.audit_rules.specs.Scanned.{cuts_by, cuts_with_alarm, holds_by, is_hold, may_cut, scanned}
@@ -168,3 +173,50 @@ few_with_alarm job text lines rest over is front begins many =
     let same = ap (sum_by holds_by) scanned_lines in
     let both = sum_by-take-drop holds_by all (over + 1) in
     omega (arith, holds, held, cancels, parted, same, both)
+
+-- ---- the cuts of a course
+
+onto_same : (p : Passed) (epochs : List (List Passed)) → length (onto_epoch p epochs) ≡ length epochs
+onto_same p [] = refl
+onto_same p (ps ∷ epochs) = omega arith
+
+some_epoch : (course : List Passed) → 0 < length (epochs_in course)
+some_epoch [] = omega arith
+some_epoch (a_line o ∷ ps) = let same = onto_same (a_line o) (epochs_in ps) in let some = some_epoch ps in omega (arith, same, some)
+some_epoch (a_broken o ∷ ps) = let same = onto_same (a_broken o) (epochs_in ps) in let some = some_epoch ps in omega (arith, same, some)
+some_epoch (a_cut k at ∷ ps) = let same = onto_same (a_cut k at) (epochs_in ps) in let some = some_epoch ps in omega (arith, same, some)
+some_epoch (a_reset r ∷ ps) = omega arith
+
+onto_uncut : (p : Passed) (epochs : List (List Passed)) → ((ps : List Passed) → cuts_in (p ∷ ps) ≡ cuts_in ps) → sum_by cuts_in (onto_epoch p epochs) ≡ sum_by cuts_in epochs
+onto_uncut p [] none = refl
+onto_uncut p (ps ∷ epochs) none =
+    let now = sum_by-cons cuts_in (p ∷ ps) epochs in let was = sum_by-cons cuts_in ps epochs in let same = none ps in omega (arith, now, was, same)
+
+onto_cut : (k : ℕ) (at : Steps3) (epochs : List (List Passed)) → 0 < length epochs → sum_by cuts_in (onto_epoch (a_cut k at) epochs) ≡ sum_by cuts_in epochs + 1
+onto_cut k at [] some = absurd (omega (arith, some))
+onto_cut k at (ps ∷ epochs) some = let now = sum_by-cons cuts_in (a_cut k at ∷ ps) epochs in let was = sum_by-cons cuts_in ps epochs in omega (arith, now, was)
+
+-- each stands in an epoch
+epochs_cut : (course : List Passed) → cuts_in course ≡ sum_by cuts_in (epochs_in course)
+epochs_cut [] = refl
+epochs_cut (a_line o ∷ ps) = epochs_cut ps ∙ sym (onto_uncut (a_line o) (epochs_in ps) (λ qs. refl))
+epochs_cut (a_broken o ∷ ps) = epochs_cut ps ∙ sym (onto_uncut (a_broken o) (epochs_in ps) (λ qs. refl))
+epochs_cut (a_cut k at ∷ ps) = let rest = epochs_cut ps in let one = onto_cut k at (epochs_in ps) (some_epoch ps) in omega (arith, rest, one)
+epochs_cut (a_reset r ∷ ps) = let rest = epochs_cut ps in let none = sum_by-cons cuts_in [] (epochs_in ps) in omega (arith, rest, none)
+
+few_taken : (es : List EpochEffects) → AllByRecursion IsAsTaken es → sum_by cuts_in (map (λ e. e.passed) es) ≤ sum_by (λ e. e.taken.cancels) es
+few_taken [] each = omega arith
+few_taken (e ∷ es) each =
+    let cuts = sum_by-cons cuts_in e.passed (map (λ (x : EpochEffects). x.passed) es) in
+    let words = sum_by-cons (λ (x : EpochEffects). x.taken.cancels) e es in
+    let here = each.0.cuts in
+    let more = few_taken es each.1 in
+    omega (arith, cuts, words, here, more)
+
+-- a course has no more cuts than words for a hold or a cancel were taken in its epochs
+pub cuts_of_epochs : (course : List Passed) (drives : List Driven) (es : List EpochEffects) → AreEffects course drives es → cuts_in course ≤ sum (map (λ e. e.taken.cancels) es)
+cuts_of_epochs course drives es are =
+    let cuts = epochs_cut course ∙ ap (sum_by cuts_in) are.passed in
+    let words = sum-map (λ (e : EpochEffects). e.taken.cancels) es in
+    let few = few_taken es are.each in
+    omega (arith, cuts, words, few)
