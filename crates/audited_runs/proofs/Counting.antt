@@ -11,7 +11,7 @@ use Rattle.gcode_words.proofs.Scanning.{shown}
 use Rattle.host_journal.specs.Jobs.{cancels_in, is_cancel, is_sent, served_in}
 use Rattle.run_law.specs.Flags as flags
 use Rattle.run_law.specs.Runs.{slows_behind}
-use Rattle.run_rules.specs.Lines.{lines_of, onto_first, onto_line, whole_lines}
+use Rattle.run_rules.specs.Lines.{lines_of, onto_first, whole_lines}
 use Rattle.run_rules.specs.Readings.{job_of, largest_job}
 use Rattle.run_rules.proofs.Cutting.{lines_are}
 use Rattle.run_texts.specs.Courses.{Passed, cuts_in}
@@ -25,6 +25,7 @@ use Rattle.epoch_law.proofs.SoFar.{front_on}
 use Rattle.audit_rules.specs.Scanned.{cuts_by, cuts_with_alarm, holds_by, is_hold, may_cut, scanned}
 use Rattle.audited_runs.proofs.Cuts.{counted}
 use Rattle.audited_runs.proofs.Lines.{lines_of_large, lines_of_small}
+use Rattle.audited_runs.proofs.SentFront.{ended_first}
 
 -- ---- the lines of a front
 
@@ -86,19 +87,6 @@ holds_of_front whole front begins =
 
 -- ---- what an audit scans is a front
 
--- the lines of a text that LF ends are the first of its lines
-whole_front : (text : List ℕ) → BeginsWith (lines_of text) (whole_lines text)
-whole_front [] = record { rest = []; is = refl }
-whole_front (c ∷ cs) = by_test (nat_eq c 10) (lines_of cs) (whole_lines cs) (whole_front cs)
-  where
-    with_byte : (all front : List (List ℕ)) → BeginsWith all front → BeginsWith (onto_first c all) (onto_line c front)
-    with_byte all [] begins = record { rest = onto_first c all; is = refl }
-    with_byte all (l ∷ ls) begins = record { rest = begins.rest; is = ap (onto_first c) begins.is }
-
-    by_test : (t : Bool) (all front : List (List ℕ)) → BeginsWith all front → BeginsWith (cond t ([] ∷ all) (onto_first c all)) (cond t ([] ∷ front) (onto_line c front))
-    by_test true all front begins = record { rest = begins.rest; is = ap (λ (ls : List (List ℕ)). [] ∷ ls) begins.is }
-    by_test false all front begins = with_byte all front begins
-
 sent_first : (lines : List (List ℕ)) → BeginsWith lines (take_while is_sent lines)
 sent_first lines = record { rest = drop (prefix_len is_sent lines) lines; is = sym (take-append-drop (prefix_len is_sent lines) lines) }
 
@@ -112,7 +100,7 @@ scanned_first job = by_size (nat_lt largest_job (length job)) refl
     by_size : (t : Bool) → nat_lt largest_job (length job) ≡ t → BeginsWith (lines_of (job_of job)) (scanned job).lines
     by_size true large =
         let whole = whole_lines (job_of job) in
-        subst (BeginsWith (lines_of (job_of job))) (sym (lines_of_large job large)) (front_on (lines_of (job_of job)) whole (take_while is_sent whole) (whole_front (job_of job)) (sent_first whole))
+        subst (BeginsWith (lines_of (job_of job))) (sym (lines_of_large job large)) (front_on (lines_of (job_of job)) whole (take_while is_sent whole) (ended_first (job_of job)) (sent_first whole))
     by_size false small =
         subst (BeginsWith (lines_of (job_of job))) (sym (lines_of_small job small))
         (subst (λ (text : List ℕ). BeginsWith (lines_of text) (take_while is_sent (lines_of job))) (sym (is_whole job small)) (sent_first (lines_of job)))

@@ -13,3 +13,5 @@ pub mod Whole
 pub mod SentFront
 pub mod Places
 pub mod Counting
+pub mod Texts
+pub mod Found

@@ -34,7 +34,7 @@ use Rattle.audited_runs.proofs.Sending.{IsRead, each_sent, is_large, is_small, j
 -- ---- the lines of a front
 
 -- the lines that LF ends begin all lines
-ended_first : (text : List ℕ) → BeginsWith (lines_of text) (whole_lines text)
+pub ended_first : (text : List ℕ) → BeginsWith (lines_of text) (whole_lines text)
 ended_first [] = record { rest = []; is = refl }
 ended_first (c ∷ cs) = by_lf (nat_eq c 10) (lines_of cs) (whole_lines cs) (ended_first cs) where
   by_byte : (all front : List (List ℕ)) → BeginsWith all front → BeginsWith (onto_first c all) (onto_line c front)
@@ -323,7 +323,7 @@ module _ (job read left text behind : List ℕ) (split : job ≡ read ++ left) (
       let of_read : read ≡ text ++ (behind ++ more) = sym (take-append-drop largest_job read) ∙ ap (λ (xs : List ℕ). xs ++ more) front ∙ append_assoc text behind more in
       record { rest = (behind ++ more) ++ left; is = split ∙ ap (λ (xs : List ℕ). xs ++ left) of_read ∙ append_assoc text (behind ++ more) left }
 
-  begins_first : BeginsWith (job_of job) text
+  pub begins_first : BeginsWith (job_of job) text
   begins_first =
       let few = few_scanned in
       let n = largest_job - length text in
